@@ -1,0 +1,22 @@
+-- Masks of events. Document 01, "Plan records": "Bit e of a mask stands for event e."
+use Prim.Native.Nat.{ℕ, zero, suc, _-_, _/_, _%_, _^_}
+use mathlib.Core.Bool.{Bool, true, false, cond, not, _&&_, _||_}
+use lib.Dec.{eqb, ltb}
+use lib.Bits.{bitAnd, bitOr}
+
+-- bit e of the mask m
+unfoldable pub bit : ℕ → ℕ → Bool
+bit m e = eqb (m / 2 ^ e % 2) 1
+
+-- the test p holds at every number below n
+unfoldable pub allBelow : (ℕ → Bool) → ℕ → Bool
+allBelow p zero = true
+allBelow p (suc n) = p n && allBelow p n
+
+-- every event of the mask m, of 64 bits, passes the test p
+abbrev pub everyEvent : ℕ → (ℕ → Bool) → Bool
+everyEvent m p = allBelow (λ e. not (bit m e) || p e) 64
+
+-- the mask m, of 64 bits, with bit e on or off; no bit at 64 or above
+unfoldable pub putBit : ℕ → ℕ → Bool → ℕ
+putBit m e on = cond (ltb e 64) (cond on (bitOr m (2 ^ e)) (bitAnd m (2 ^ 64 - 1 - 2 ^ e))) m

@@ -1,0 +1,32 @@
+-- What stands at an offset of an image: a whole record and the next offset, an unknown kind, a cut body, or nothing.
+use Prim.Native.Nat.{ℕ, _+_, _-_}
+use mathlib.Core.List.{List}
+use mathlib.Core.Bool.{cond}
+use lib.ListN.{length, getD, drop}
+use lib.Dec.{leb, eqb}
+use Rattle.words.specs.Word.{wordAt}
+use Rattle.records.specs.Kinds.{bodyLen, noLen}
+use Rattle.records.specs.declared.Record.{Record}
+use Rattle.records.specs.declared.Record.the-variants.{Head, Event, Module, ModuleMove, Supervisor, SupervisorMove, Disabling, Step, End}
+use Rattle.reader.specs.declared.Read.{Read}
+use Rattle.reader.specs.declared.Read.the-variants.{Whole, Unknown, Cut, Nothing}
+
+-- the record of a kind of the table whose body begins the list
+unfoldable pub recordOf : ℕ → List ℕ → Record
+recordOf k b =
+    cond (eqb k 0x10) (Head (getD b 0 0) (getD b 1 0) (getD b 2 0))
+    (cond (eqb k 0x11) (Event (getD b 0 0) (getD b 1 0) (getD b 2 0))
+    (cond (eqb k 0x12) (Module (getD b 0 0) (getD b 1 0) (getD b 2 0))
+    (cond (eqb k 0x13) (ModuleMove (getD b 0 0) (getD b 1 0) (getD b 2 0) (getD b 3 0))
+    (cond (eqb k 0x14) (Supervisor (getD b 0 0) (getD b 1 0) (getD b 2 0) (wordAt b 3))
+    (cond (eqb k 0x15) (SupervisorMove (getD b 0 0) (getD b 1 0) (getD b 2 0) (getD b 3 0))
+    (cond (eqb k 0x16) (Disabling (getD b 0 0) (getD b 1 0) (wordAt b 2))
+    (cond (eqb k 0x17) (Step (getD b 0 0) (getD b 1 0) (getD b 2 0) (wordAt b 3)) End)))))))
+
+unfoldable pub readAt : List ℕ → ℕ → Read
+readAt s at =
+    cond (leb (length s) at) Nothing
+    (cond (eqb (bodyLen (getD s at 0)) noLen) Unknown
+    (cond (leb (bodyLen (getD s at 0)) (length s - (at + 1)))
+    (Whole (recordOf (getD s at 0) (drop (at + 1) s)) (at + 1 + bodyLen (getD s at 0)))
+    Cut))

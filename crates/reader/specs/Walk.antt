@@ -1,0 +1,36 @@
+-- An image as a walk of records.
+use Prim.Native.Nat.{ℕ, zero, suc}
+use mathlib.Core.List.{List, [], _∷_}
+use mathlib.Core.Bool.{cond}
+use lib.ListN.{length, drop}
+use lib.Dec.{leb, eqb}
+use Rattle.records.specs.Kinds.{bodyLen, noLen}
+use Rattle.reader.specs.Read.{recordOf}
+use Rattle.records.specs.declared.Record.{Record}
+
+-- a whole record at an offset, and what follows it; or the number and the offset at which nothing more can be read: 2 for an unknown
+-- kind, 3 for a cut body and where no record is left
+pub data Walk : Type 0 where
+  more : ℕ → Record → Walk → Walk
+  stop : ℕ → ℕ → Walk
+
+-- the bytes stand at offset o, and the first n of them are skipped
+unfoldable pub walkOf : ℕ → ℕ → List ℕ → Walk
+walkOf n o [] = stop 3 o
+walkOf zero o (k ∷ bs) =
+    cond (eqb (bodyLen k) noLen) (stop 2 o)
+    (cond (leb (bodyLen k) (length bs)) (more o (recordOf k bs) (walkOf (bodyLen k) (suc o) bs)) (stop 3 o))
+walkOf (suc n) o (b ∷ bs) = walkOf n (suc o) bs
+
+-- the walk of an image from an offset on
+abbrev pub walkFrom : List ℕ → ℕ → Walk
+walkFrom s i = walkOf zero i (drop i s)
+
+-- the records of a walk
+unfoldable pub recordsIn : Walk → List Record
+recordsIn (more o r w) = r ∷ recordsIn w
+recordsIn (stop n o) = []
+
+-- the records of an image
+abbrev pub recordsOf : List ℕ → List Record
+recordsOf s = recordsIn (walkFrom s 0)

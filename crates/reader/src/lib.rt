@@ -1,0 +1,132 @@
+// The reader of records by slice and offset, and the look-up by kind and key.
+ghost use mathlib.Core.Path.{_≡_};
+ghost use Prim.Native.Nat.{_≤_};
+ghost use lib.ListN.{length, drop};
+ghost use Rattle.reader.specs.Read.{recordOf, readAt};
+ghost use Rattle.reader.specs.Find.{findIn};
+ghost use Rattle.reader.specs.Walk.{recordsOf};
+use records::Place;
+use records::Record;
+
+// The record of a kind of the table whose body begins at an offset of the slice.
+fn record_of(kind: u8, s: &[u8], b: usize) -> Record
+    requires { ⌜ b ≤ length (now s) ⌝ }
+    ensures { λ r. ⌜ r ≡ recordOf kind (drop b (now (s .entry))) ⌝ }
+{
+    let f0 = words::byte_at(s, b);
+    let f1 = words::byte_at(s, b + 1);
+    let f2 = words::byte_at(s, b + 2);
+    match kind {
+        0x10 => Record::Head {
+            modules: f0,
+            supervisors: f1,
+            events: f2,
+        },
+        0x11 => Record::Event {
+            number: f0,
+            owner: f1,
+            class: f2,
+        },
+        0x12 => Record::Module {
+            number: f0,
+            states: f1,
+            initial: f2,
+        },
+        0x13 => {
+            let f3 = words::byte_at(s, b + 3);
+            Record::ModuleMove {
+                owner: f0,
+                from: f1,
+                event: f2,
+                to: f3,
+            }
+        }
+        0x14 => {
+            let x = words::word_at(s, b + 3);
+            Record::Supervisor {
+                number: f0,
+                states: f1,
+                initial: f2,
+                alphabet: x,
+            }
+        }
+        0x15 => {
+            let f3 = words::byte_at(s, b + 3);
+            Record::SupervisorMove {
+                supervisor: f0,
+                from: f1,
+                event: f2,
+                to: f3,
+            }
+        }
+        0x16 => {
+            let x = words::word_at(s, b + 2);
+            Record::Disabling {
+                supervisor: f0,
+                state: f1,
+                mask: x,
+            }
+        }
+        0x17 => {
+            let x = words::word_at(s, b + 3);
+            Record::Step {
+                event: f0,
+                index: f1,
+                operation: f2,
+                operand: x,
+            }
+        }
+        _ => Record::End,
+    }
+}
+
+// What stands at an offset.
+pub enum Read {
+    // the record and the next offset
+    Whole(Record, usize),
+    Unknown,
+    Cut,
+    Nothing,
+}
+
+pub fn read_at(s: &[u8], at: usize) -> Read
+    ensures { λ r. ⌜ r ≡ readAt (now (s .entry)) at ⌝ }
+{
+    if s.len() <= at {
+        return Read::Nothing;
+    }
+    let k = s[at];
+    let n = records::body_len(k);
+    if n == records::NO_LEN {
+        return Read::Unknown;
+    }
+    let m = words::wide(n);
+    let b = at + 1;
+    if m <= s.len() - b {
+        let r = record_of(k, s, b);
+        Read::Whole(r, b + m)
+    } else {
+        Read::Cut
+    }
+}
+
+pub enum Found {
+    It(Record),
+    Missing,
+}
+
+// The first record of an image with a kind and key.
+pub fn find(s: &[u8], p: Place) -> Found
+    ensures { λ r. ⌜ r ≡ findIn p (recordsOf (now (s .entry))) ⌝ }
+{
+    let mut i: usize = 0;
+    loop {
+        let Read::Whole(r, next) = read_at(s, i) else {
+            return Found::Missing;
+        };
+        if records::same_place(records::place_of(r), p) {
+            return Found::It(r);
+        }
+        i = next;
+    }
+}

@@ -1,0 +1,4 @@
+pub mod Kinds
+pub mod Bytes
+pub mod Range
+pub mod Key

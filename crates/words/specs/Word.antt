@@ -1,0 +1,26 @@
+-- Numbers of eight bytes. Document 01: "Multi-byte values are big-endian".
+use Prim.Native.Nat.{ℕ, _+_, _*_, _/_, _%_}
+use mathlib.Core.List.{List, [], _∷_}
+use mathlib.Core.Bool.{cond}
+use lib.ListN.{length, getD}
+use lib.Dec.{leb}
+use lib.Seq.{sets}
+
+-- one byte more
+abbrev pub step : ℕ → ℕ → ℕ
+step a b = a * 256 + b
+
+-- the number that the eight bytes at an offset are; bytes past the end count as 0
+unfoldable pub wordAt : List ℕ → ℕ → ℕ
+wordAt s o =
+    step (step (step (step (step (step (step (getD s o 0) (getD s (o + 1) 0)) (getD s (o + 2) 0)) (getD s (o + 3) 0)) (getD s (o + 4) 0)) (getD s (o + 5) 0)) (getD s (o + 6) 0)) (getD s (o + 7) 0)
+
+-- its eight bytes, the highest first
+unfoldable pub wordBytes : ℕ → List ℕ
+wordBytes x =
+    x / 0x100000000000000 % 256 ∷ x / 0x1000000000000 % 256 ∷ x / 0x10000000000 % 256 ∷ x / 0x100000000 % 256
+    ∷ x / 0x1000000 % 256 ∷ x / 0x10000 % 256 ∷ x / 0x100 % 256 ∷ x % 256 ∷ []
+
+-- the list with the eight bytes of x at an offset, if it has room for all
+unfoldable pub wordPut : List ℕ → ℕ → ℕ → List ℕ
+wordPut s o x = cond (leb (o + 8) (length s)) (sets s o (wordBytes x)) s

@@ -1,0 +1,78 @@
+// Bytes and numbers of eight bytes in a slice.
+ghost use mathlib.Core.Path.{_≡_};
+ghost use Prim.Native.Nat.{_<_, _≤_, _+_};
+ghost use lib.ListN.{length, getD};
+ghost use lib.Seq.{sets};
+ghost use Rattle.words.specs.Word.{wordAt, wordBytes, wordPut};
+
+// A byte as an index.
+pub fn wide(b: u8) -> usize
+    ensures { λ r. ⌜ r ≡ b ⌝ }
+{
+    b as usize
+}
+
+// The byte at an index, or 0 past the end.
+pub fn byte_at(s: &[u8], i: usize) -> u8
+    ensures { λ r. ⌜ r ≡ getD (now (s .entry)) i 0 ⌝ }
+{
+    if i < s.len() { s[i] } else { 0 }
+}
+
+fn long(b: u8) -> u64
+    ensures { λ r. ⌜ (r ≡ b) × (r < 256) ⌝ }
+{
+    b as u64
+}
+
+fn byte_long(s: &[u8], i: usize) -> u64
+    ensures { λ r. ⌜ (r ≡ getD (now (s .entry)) i 0) × (r < 256) ⌝ }
+{
+    long(byte_at(s, i))
+}
+
+fn word_in(s: &[u8], o: usize) -> u64
+    requires { ⌜ o ≤ length (now s) ⌝ }
+    ensures { λ r. ⌜ r ≡ wordAt (now (s .entry)) o ⌝ }
+{
+    let a = byte_long(s, o);
+    let b = a * 256 + byte_long(s, o + 1);
+    let c = b * 256 + byte_long(s, o + 2);
+    let d = c * 256 + byte_long(s, o + 3);
+    let e = d * 256 + byte_long(s, o + 4);
+    let f = e * 256 + byte_long(s, o + 5);
+    let g = f * 256 + byte_long(s, o + 6);
+    g * 256 + byte_long(s, o + 7)
+}
+
+// The number that the eight bytes at an index are; bytes past the end count as 0.
+pub fn word_at(s: &[u8], o: usize) -> u64
+    ensures { λ r. ⌜ r ≡ wordAt (now (s .entry)) o ⌝ }
+{
+    if o < s.len() { word_in(s, o) } else { 0 }
+}
+
+fn put_in(s: &mut [u8], o: usize, x: u64)
+    requires { ⌜ o + 8 ≤ length (now s) ⌝ }
+    ensures { λ r. ⌜ now (s .exit) ≡ sets (now (s .entry)) o (wordBytes x) ⌝ }
+{
+    s[o] = (x / 0x100000000000000 % 256) as u8;
+    s[o + 1] = (x / 0x1000000000000 % 256) as u8;
+    s[o + 2] = (x / 0x10000000000 % 256) as u8;
+    s[o + 3] = (x / 0x100000000 % 256) as u8;
+    s[o + 4] = (x / 0x1000000 % 256) as u8;
+    s[o + 5] = (x / 0x10000 % 256) as u8;
+    s[o + 6] = (x / 0x100 % 256) as u8;
+    s[o + 7] = (x % 256) as u8;
+}
+
+// Puts the eight bytes of a number at an index, if there is room for all; else the slice stays.
+pub fn put_word(s: &mut [u8], o: usize, x: u64)
+    ensures { λ r. ⌜ now (s .exit) ≡ wordPut (now (s .entry)) o x ⌝ }
+{
+    if 8 <= s.len() {
+        if o <= s.len() - 8 {
+            put_in(&mut *s, o, x);
+        }
+    }
+}

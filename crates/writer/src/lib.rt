@@ -1,0 +1,116 @@
+// The writer of one record into a lent buffer.
+ghost use mathlib.Core.Path.{_≡_};
+ghost use mathlib.Core.List.{List, [], _∷_};
+ghost use Prim.Native.Nat.{_≤_};
+ghost use lib.ListN.{length};
+ghost use lib.Seq.{sets};
+ghost use Rattle.records.specs.Kinds.{sizeOf};
+ghost use Rattle.records.specs.Bytes.{bytesOf};
+ghost use Rattle.writer.specs.Write.{Wrote};
+use records::Record;
+
+// The length written, or the number: 5 or 15.
+pub enum Written {
+    Length(usize),
+    Refused(u8),
+}
+
+// The four bytes from the slice's start.
+fn put_four(s: &mut [u8], k: u8, a: u8, b: u8, c: u8)
+    requires { ⌜ 4 ≤ length (now s) ⌝ }
+    ensures { λ r. ⌜ now (s .exit) ≡ sets (now (s .entry)) 0 (k ∷ a ∷ b ∷ c ∷ []) ⌝ }
+{
+    s[0] = k;
+    s[1] = a;
+    s[2] = b;
+    s[3] = c;
+}
+
+// The record's bytes from the slice's start.
+fn put_record(r: Record, s: &mut [u8])
+    requires { ⌜ sizeOf r ≤ length (now s) ⌝ }
+    ensures { λ t. ⌜ now (s .exit) ≡ sets (now (s .entry)) 0 (bytesOf r) ⌝ }
+{
+    match r {
+        Record::Head {
+            modules,
+            supervisors,
+            events,
+        } => put_four(s, 0x10, modules, supervisors, events),
+        Record::Event {
+            number,
+            owner,
+            class,
+        } => put_four(s, 0x11, number, owner, class),
+        Record::Module {
+            number,
+            states,
+            initial,
+        } => put_four(s, 0x12, number, states, initial),
+        Record::ModuleMove {
+            owner,
+            from,
+            event,
+            to,
+        } => {
+            put_four(&mut *s, 0x13, owner, from, event);
+            s[4] = to;
+        }
+        Record::Supervisor {
+            number,
+            states,
+            initial,
+            alphabet,
+        } => {
+            put_four(&mut *s, 0x14, number, states, initial);
+            words::put_word(&mut *s, 4, alphabet);
+        }
+        Record::SupervisorMove {
+            supervisor,
+            from,
+            event,
+            to,
+        } => {
+            put_four(&mut *s, 0x15, supervisor, from, event);
+            s[4] = to;
+        }
+        Record::Disabling {
+            supervisor,
+            state,
+            mask,
+        } => {
+            s[0] = 0x16;
+            s[1] = supervisor;
+            s[2] = state;
+            words::put_word(&mut *s, 3, mask);
+        }
+        Record::Step {
+            event,
+            index,
+            operation,
+            operand,
+        } => {
+            put_four(&mut *s, 0x17, event, index, operation);
+            words::put_word(&mut *s, 4, operand);
+        }
+        Record::End => {
+            s[0] = 0x1f;
+        }
+    }
+}
+
+// Writes one record from the buffer's start.
+pub fn write(r: Record, buf: &mut [u8]) -> Written
+    ensures { λ w. ⌜ Wrote r (now (buf .entry)) w (now (buf .exit)) ⌝ }
+{
+    if records::in_range(r) {
+        let n = words::wide(records::body_len(records::kind_of(r))) + 1;
+        if buf.len() < n {
+            return Written::Refused(15);
+        }
+        put_record(r, &mut *buf);
+        Written::Length(n)
+    } else {
+        Written::Refused(5)
+    }
+}
