@@ -1,0 +1,3 @@
+pub mod LookUp
+pub mod Rules
+pub mod Check
