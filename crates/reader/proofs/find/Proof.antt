@@ -1,0 +1,58 @@
+use mathlib.Core.Path.{_≡_, refl}
+use Prim.Native.Nat.{_-_}
+use lib.ListN.{length}
+use borrow.Author.Needs.{needs}
+use Rattle.reader.specs.Walk.{walkFrom, recordsIn, recordsOf}
+use Rattle.reader.specs.Find.{findIn}
+use Rattle.reader.proofs.Reading.{missing-by, finds-by, less-by, again-by}
+use Rattle.reader.proofs.find.Statement.{statement}
+use Rattle.reader.proofs.find.Tie as tie
+
+abbrev Inv-loop : tie.InvT-loop
+Inv-loop s p i₀ i = findIn p (recordsIn (walkFrom s i)) ≡ findIn p (recordsOf s)
+
+abbrev μ-loop : tie.MeasureT-loop
+μ-loop s p i₀ i = length s - i
+
+loop-holds : tie.Need-loop-holds Inv-loop μ-loop
+loop-holds c = refl
+
+read-at-requires : tie.Need-read-at-requires Inv-loop μ-loop
+read-at-requires c κs = search needs
+
+enum-known-r : tie.Need-enum-known-r Inv-loop μ-loop
+enum-known-r c = search needs
+
+returns : tie.Need-returns Inv-loop μ-loop
+returns c = search missing-by
+
+place-of-requires : tie.Need-place-of-requires Inv-loop μ-loop
+place-of-requires c κs = search needs
+
+same-place-requires : tie.Need-same-place-requires Inv-loop μ-loop
+same-place-requires c κs = search needs
+
+returns-2 : tie.Need-returns-2 Inv-loop μ-loop
+returns-2 c = search finds-by
+
+loop-less : tie.Need-loop-less Inv-loop μ-loop
+loop-less c = search less-by
+
+loop-again : tie.Need-loop-again Inv-loop μ-loop
+loop-again c = search again-by
+
+pub find-spec : {M : Type 1} → statement M
+find-spec =
+    tie.close
+    (tie.spec
+    Inv-loop
+    μ-loop
+    loop-holds
+    read-at-requires
+    enum-known-r
+    returns
+    place-of-requires
+    same-place-requires
+    returns-2
+    loop-less
+    loop-again)
