@@ -1,0 +1,75 @@
+-- Laws of a record's bytes in a buffer.
+use mathlib.Core.Path.{_≡_, refl, sym, ap, _∙_, subst}
+use mathlib.Core.List.{List, _++_}
+use mathlib.Core.Bool.{Bool, true, false}
+use Prim.Native.Nat.{ℕ, suc, _+_, _≤_, _<_}
+use native.Mathlib.Nat.{zero-add}
+use native.Mathlib.Numerals.{add-one}
+use native.Mathlib.Omega.{arith}
+use lib.ListN.{length, drop}
+use lib.Seq.{sets, sets-eq}
+use borrow.Author.Tests.{lt-ltb, le-ltb}
+use Rattle.words.specs.Word.{wordBytes, wordPut}
+use Rattle.words.proofs.Laws.{put-room}
+use Rattle.records.specs.Kinds.{bodyLen, kindOf, sizeOf}
+use Rattle.records.specs.Bytes.{bytesOf}
+use Rattle.records.specs.Range.{inRange}
+use Rattle.records.specs.declared.Record.{Record}
+use Rattle.records.specs.declared.Record.the-variants.{Head, Event, Module, ModuleMove, Supervisor, SupervisorMove, Disabling, Step, End}
+use Rattle.writer.specs.Write.{Wrote, answerOf}
+use Rattle.writer.specs.declared.Written.the-variants.{Length, Refused}
+
+pub length-bytes : (r : Record) → length (bytesOf r) ≡ sizeOf r
+unfolding bytesOf wordBytes bodyLen kindOf
+length-bytes (Head m v e) = refl
+length-bytes (Event n o c) = refl
+length-bytes (Module n st i) = refl
+length-bytes (ModuleMove m f e t) = refl
+length-bytes (Supervisor n st i a) = refl
+length-bytes (SupervisorMove v f e t) = refl
+length-bytes (Disabling v st m) = refl
+length-bytes (Step e i o x) = refl
+length-bytes End = refl
+
+-- the room for a record is the room for the case that it is
+pub room : {r t : Record} {n : ℕ} → r ≡ t → sizeOf r ≤ n → sizeOf t ≤ n
+room {n = n} e h = subst (λ (x : Record). sizeOf x ≤ n) e h
+
+-- a number's bytes where there is room
+pub word-put : (o x : ℕ) {s t u : List ℕ} → s ≡ u → t ≡ wordPut s o x → o + 8 ≤ length s → t ≡ sets u o (wordBytes x)
+word-put o x {s = s} e f h = f ∙ put-room s o x h ∙ ap (λ (l : List ℕ). sets l o (wordBytes x)) e
+
+-- from what the code of `write` is told: its test t of the range, the kind k, its body length l, and that as an index m
+module _ (r : Record) {k l m : ℕ} where
+  size-by : k ≡ kindOf r → l ≡ bodyLen k → m ≡ l → m + 1 ≡ sizeOf r
+  size-by e f g = add-one m ∙ ap suc (cc)
+
+  pub room-by : {n : ℕ} → k ≡ kindOf r → l ≡ bodyLen k → m ≡ l → m + 1 ≤ n → sizeOf r ≤ n
+  room-by {n = n} e f g h = subst (λ (x : ℕ). x ≤ n) (size-by e f g) h
+
+pub out-by : (r : Record) (b : List ℕ) {t : Bool} → t ≡ inRange r → t ≡ false → Wrote r b (Refused 5) b
+unfolding answerOf
+out-by r b e f =
+    let a : inRange r ≡ false = cc in
+    record { answer = simp a; buffer = refl }
+
+module _ (r : Record) (b : List ℕ) {t : Bool} {k l m : ℕ} where
+  pub short-by : t ≡ inRange r → t ≡ true → k ≡ kindOf r → l ≡ bodyLen k → m ≡ l → length b < m + 1 → Wrote r b (Refused 15) b
+  unfolding answerOf
+  short-by p q e f g h =
+      let a : inRange r ≡ true = cc in
+      let z : length b < sizeOf r = subst (λ (x : ℕ). length b < x) (size-by r e f g) h in
+      record { answer = simp (a, lt-ltb (length b) (sizeOf r) z); buffer = refl }
+
+  pub wrote-by : {s : List ℕ} → t ≡ inRange r → t ≡ true → k ≡ kindOf r → l ≡ bodyLen k → m ≡ l → m + 1 ≤ length b → s ≡ sets b 0 (bytesOf r)
+      → Wrote r b (Length (m + 1)) s
+  unfolding answerOf
+  wrote-by p q e f g h v =
+      let a : inRange r ≡ true = cc in
+      let n : m + 1 ≡ sizeOf r = size-by r e f g in
+      let z : sizeOf r ≤ length b = subst (λ (x : ℕ). x ≤ length b) n h in
+      let w : 0 + length (bytesOf r) ≤ length b = omega (arith, length-bytes r) in
+      record {
+        answer = simp (a, le-ltb (length b) (sizeOf r) z) (ap Length n);
+        buffer = v ∙ sets-eq (bytesOf r) b 0 w ∙ ap (λ (j : ℕ). bytesOf r ++ drop j b) (zero-add (length (bytesOf r)) ∙ length-bytes r ∙ sym n);
+      }
