@@ -1,0 +1,21 @@
+use Rattle.judge.specs.Judge.{namesBy}
+use borrow.Author.Needs.{needs}
+use Rattle.judge.proofs.module_move_named.Statement.{statement}
+use Rattle.judge.proofs.module_move_named.Tie as tie
+
+module-states-requires : tie.Need-module-states-requires
+module-states-requires c κs = search needs
+
+module-known-requires : tie.Need-module-known-requires
+module-known-requires c κs = search needs
+
+event-known-requires : tie.Need-event-known-requires
+event-known-requires c κs = search needs
+
+returns : tie.Need-returns
+unfolding namesBy
+returns c = cc
+
+pub module-move-named-spec : {M : Type 1} → statement M
+module-move-named-spec =
+    tie.close (tie.spec module-states-requires module-known-requires event-known-requires returns)
