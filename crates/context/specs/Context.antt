@@ -15,22 +15,25 @@ use Rattle.context.specs.declared.Modules.{Modules}
 use Rattle.context.specs.declared.Supervisors.{Supervisors}
 use Rattle.context.specs.declared.Context.{Context}
 
-unfoldable pub withEvent : Events → ℕ → ℕ → ℕ → Events
+-- a table of k entries with x at i, and a mask with bit i on or off, where i is below k
+unfoldable pub stored : ℕ → List ℕ → ℕ → ℕ → List ℕ
+stored k t i x = cond (ltb i k) (set t i x) t
+
+unfoldable pub marked : ℕ → ℕ → ℕ → Bool → ℕ
+marked k m i on = cond (ltb i k) (putBit m i on) m
+
+abbrev pub withEvent : Events → ℕ → ℕ → ℕ → Events
 withEvent ev n o c =
-    cond (ltb n 64)
-    (record { known = putBit (ev .known) n true; controllable = putBit (ev .controllable) n (eqb c 1); owner = set (ev .owner) n o; steps = ev .steps })
-    ev
+    record { known = marked 64 (ev .known) n true; controllable = marked 64 (ev .controllable) n (eqb c 1); owner = stored 64 (ev .owner) n o; steps = ev .steps }
 
-unfoldable pub withStep : Events → ℕ → ℕ → Events
-withStep ev e i =
-    cond (ltb e 64) (record { known = ev .known; controllable = ev .controllable; owner = ev .owner; steps = set (ev .steps) e ((i + 1) % 256) }) ev
+abbrev pub withStep : Events → ℕ → ℕ → Events
+withStep ev e i = record { known = ev .known; controllable = ev .controllable; owner = ev .owner; steps = stored 64 (ev .steps) e ((i + 1) % 256) }
 
-unfoldable pub withModule : Modules → ℕ → ℕ → Modules
-withModule ms n st = cond (ltb n 16) (record { known = putBit (ms .known) n true; states = set (ms .states) n st }) ms
+abbrev pub withModule : Modules → ℕ → ℕ → Modules
+withModule ms n st = record { known = marked 16 (ms .known) n true; states = stored 16 (ms .states) n st }
 
-unfoldable pub withSupervisor : Supervisors → ℕ → ℕ → ℕ → Supervisors
-withSupervisor vs n st a =
-    cond (ltb n 32) (record { known = putBit (vs .known) n true; states = set (vs .states) n st; alphabet = set (vs .alphabet) n a }) vs
+abbrev pub withSupervisor : Supervisors → ℕ → ℕ → ℕ → Supervisors
+withSupervisor vs n st a = record { known = marked 32 (vs .known) n true; states = stored 32 (vs .states) n st; alphabet = stored 32 (vs .alphabet) n a }
 
 -- the parts of the context after a record
 unfoldable pub countsAfter : Counts → Record → Counts

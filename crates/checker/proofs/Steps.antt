@@ -1,0 +1,82 @@
+-- The check by what it remembers, one step by what stands at an offset, and that it agrees with the check over the records before.
+use mathlib.Core.Path.{_≡_, refl, sym, ap, _∙_}
+use mathlib.Core.List.{List, [], _∷_}
+use mathlib.Core.Bool.{Bool, true, false, cond}
+use Prim.Native.Nat.{ℕ, suc, _<_}
+use native.Mathlib.Omega.{arith}
+use lib.ListN.{length}
+use lib.Dec.{eqb, ltb}
+use borrow.Author.Tests.{eq-eqb, ne-eqb, eqb-true, lt-ltb, le-ltb}
+use Rattle.records.specs.Kinds.{kindOf}
+use Rattle.records.specs.declared.Record.{Record}
+use Rattle.reader.specs.Read.{readAt}
+use Rattle.reader.specs.Walk.{Walk, more, stop, walkFrom}
+use Rattle.reader.specs.declared.Read.{Read}
+use Rattle.reader.specs.declared.Read.the-variants.{Whole, Unknown, Cut, Nothing}
+use Rattle.reader.proofs.Reading.{walks-by}
+use Rattle.rules.specs.Check.{faultOf, endAt, checkWalk, verdictOf, limit}
+use Rattle.rules.specs.Valid.{Valid}
+use Rattle.rules.specs.declared.Verdict.{Verdict}
+use Rattle.rules.specs.declared.Verdict.the-variants.{Accepted, Refused}
+use Rattle.context.specs.declared.Context.{Context}
+use Rattle.context.specs.Context.{withRecord, start, contextOf}
+use Rattle.judge.specs.Judge.{judgeBy}
+use Rattle.judge.proofs.Represents.{judge-same}
+
+unfoldable pub checkBy : ℕ → Context → Walk → Verdict
+checkBy n c (stop k o) = Refused k o
+checkBy n c (more o r w) =
+    let rest = checkBy n (withRecord c r) w in
+    cond (eqb (judgeBy c r) 0) (cond (eqb (kindOf r) 0x1f) (endAt n o) rest) (Refused (judgeBy c r) o)
+
+agree : (n : ℕ) (rs : List Record) (w : Walk) → Valid rs → checkBy n (contextOf rs) w ≡ checkWalk n rs w
+unfolding checkBy checkWalk contextOf Valid
+agree n rs (stop k o) v = refl
+agree n rs (more o r w) v =
+    ap (λ (j : ℕ). cond (eqb j 0) (cond (eqb (kindOf r) 0x1f) (endAt n o) (checkBy n (contextOf (r ∷ rs)) w)) (Refused j o)) (judge-same rs v r)
+    ∙ go (eqb (faultOf rs r) 0) refl (λ z. agree n (r ∷ rs) w (z, v))
+  where
+    go : (b : Bool) → eqb (faultOf rs r) 0 ≡ b → (faultOf rs r ≡ 0 → checkBy n (contextOf (r ∷ rs)) w ≡ checkWalk n (r ∷ rs) w)
+        → cond b (cond (eqb (kindOf r) 0x1f) (endAt n o) (checkBy n (contextOf (r ∷ rs)) w)) (Refused (faultOf rs r) o)
+        ≡ cond b (cond (eqb (kindOf r) 0x1f) (endAt n o) (checkWalk n (r ∷ rs) w)) (Refused (faultOf rs r) o)
+    go true q f = ap (cond (eqb (kindOf r) 0x1f) (endAt n o)) (f (eqb-true (faultOf rs r) 0 q))
+    go false q f = refl
+
+-- what the loop begins with
+pub begins : (s : List ℕ) {c : Context} → c ≡ start → length s < suc limit → checkBy (length s) c (walkFrom s 0) ≡ verdictOf s
+unfolding verdictOf contextOf Valid
+begins s e h = ap (λ (d : Context). checkBy (length s) d (walkFrom s 0)) e ∙ agree (length s) [] (walkFrom s 0) tt ∙ sym (ap (λ (b : Bool). cond b (Refused 1 0) (checkWalk (length s) [] (walkFrom s 0))) (le-ltb limit (length s) (omega arith)))
+
+pub too-long : (s : List ℕ) → limit < length s → Refused 1 0 ≡ verdictOf s
+unfolding verdictOf
+too-long s h = sym (ap (λ (b : Bool). cond b (Refused 1 0) (checkWalk (length s) [] (walkFrom s 0))) (lt-ltb limit (length s) h))
+
+-- each way on from an offset, with every fact as a premise
+module _ (s : List ℕ) (c : Context) (i : ℕ) where
+  pub nothing-by : {x : Read} {v : Verdict} → x ≡ readAt s i → x ≡ Nothing → checkBy (length s) c (walkFrom s i) ≡ v → Refused 3 i ≡ v
+  unfolding checkBy
+  nothing-by e g h = sym (ap (checkBy (length s) c) (walks-by s i e g)) ∙ h
+
+  pub cut-by : {x : Read} {v : Verdict} → x ≡ readAt s i → x ≡ Cut → checkBy (length s) c (walkFrom s i) ≡ v → Refused 3 i ≡ v
+  unfolding checkBy
+  cut-by e g h = sym (ap (checkBy (length s) c) (walks-by s i e g)) ∙ h
+
+  pub unknown-by : {x : Read} {v : Verdict} → x ≡ readAt s i → x ≡ Unknown → checkBy (length s) c (walkFrom s i) ≡ v → Refused 2 i ≡ v
+  unfolding checkBy
+  unknown-by e g h = sym (ap (checkBy (length s) c) (walks-by s i e g)) ∙ h
+
+  pub refused-by : (num : ℕ) {x : Read} {r : Record} {n : ℕ} {v : Verdict} → x ≡ readAt s i → x ≡ Whole r n → num ≡ judgeBy c r → (num ≡ 0 → ⊥)
+      → checkBy (length s) c (walkFrom s i) ≡ v → Refused num i ≡ v
+  unfolding checkBy
+  refused-by num e g j z h = sym (ap (checkBy (length s) c) (walks-by s i e g) ∙ simp (← j, ne-eqb num 0 z)) ∙ h
+
+  pub ended-by : {x : Read} {r : Record} {n no k : ℕ} {u v : Verdict} → x ≡ readAt s i → x ≡ Whole r n → no ≡ judgeBy c r → no ≡ 0 → k ≡ kindOf r → k ≡ 0x1f
+      → u ≡ endAt (length s) i → checkBy (length s) c (walkFrom s i) ≡ v → u ≡ v
+  unfolding checkBy
+  ended-by e g j z f l u h = u ∙ sym (ap (checkBy (length s) c) (walks-by s i e g) ∙ simp (← j, z, ← f, l)) ∙ h
+
+  pub goes-on-by : (d : Context) (n k : ℕ) {x : Read} {r : Record} {no : ℕ} {v : Verdict} → x ≡ readAt s i → x ≡ Whole r n → no ≡ judgeBy c r → no ≡ 0 → k ≡ kindOf r
+      → (k ≡ 0x1f → ⊥) → d ≡ withRecord c r → checkBy (length s) c (walkFrom s i) ≡ v → checkBy (length s) d (walkFrom s n) ≡ v
+  unfolding checkBy
+  goes-on-by d n k e g j z f l w h =
+      ap (λ (t : Context). checkBy (length s) t (walkFrom s n)) w ∙ sym (ap (checkBy (length s) c) (walks-by s i e g) ∙ simp (← j, z, ← f, ne-eqb k 0x1f l)) ∙ h

@@ -1,0 +1,384 @@
+-- Over records of which none is faulty, a record is judged from the context as it is from the records.
+use mathlib.Core.Path.{_≡_, refl, sym, ap, ap₂, _∙_, subst}
+use mathlib.Core.List.{List, [], _∷_}
+use mathlib.Core.Bool.{Bool, true, false, cond, not, _&&_, _||_, and-false}
+use mathlib.Core.Logic.{⊎-elim}
+use Prim.Native.Nat.{ℕ, zero, suc, _+_, _%_, _≤_, _<_, _^_}
+use native.Mathlib.Nat.{mod-eq-of-lt}
+use native.Mathlib.Numerals.{add-one}
+use native.Mathlib.Omega.{arith}
+use lib.ListN.{length, getD, getD-replicate}
+use lib.Bits.{bitAnd}
+use lib.Dec.{eqb, leb, ltb, lit<, lit≤}
+use borrow.Author.Tests.{ltb-true, ltb-false, lt-ltb, le-ltb, leb-true, eqb-true, eqb-false}
+use Rattle.bits.specs.Bit.{bit, allBelow, everyEvent}
+use Rattle.bits.proofs.Laws.{bit-and, all-same}
+use Rattle.records.specs.Kinds.{kindOf}
+use Rattle.records.specs.Range.{inRange, between, operandInRange}
+use Rattle.records.specs.Key.{placeBy, placeOf, samePlace, precedes}
+use Rattle.records.specs.declared.Record.{Record}
+use Rattle.records.specs.declared.Record.the-variants.{Head, Event, Module, ModuleMove, Supervisor, SupervisorMove, Disabling, Step, End}
+use Rattle.reader.specs.declared.Found.the-variants.{It, Missing}
+use Rattle.reader.specs.Find.{findIn}
+use Rattle.rules.specs.LookUp.{field1, field2, field3, found, fieldOf, modulesOf, supervisorsOf, eventsOf, eventIn, moduleIn, supervisorIn, eventDeclared, moduleDeclared, supervisorDeclared, moduleState, supervisorState, ownerOf, controllable, alphabetOf, stepsOf}
+use Rattle.rules.specs.Rules.{indexRuns, inOrder, namesDeclared, keepsRules, allDeclared}
+use Rattle.rules.specs.Check.{faultOf}
+use Rattle.rules.specs.Valid.{Valid, Passes, passes}
+use Rattle.context.specs.declared.Context.{Context}
+use Rattle.context.specs.Context.{stored, eventsAfter, contextOf, entry, ownerAt, stepsAt, moduleStatesAt, supervisorStatesAt, alphabetAt}
+use Rattle.context.proofs.Tables.{stored-at}
+use Rattle.judge.specs.Judge.{eventKnown, operandKnown, moduleKnown, supervisorKnown, moduleStateBy, supervisorStateBy, indexBy, orderBy, namesBy, respondBy, rulesBy, allBy, judgeBy}
+use Rattle.judge.proofs.Remembers.{counts-told, events-fit, EventTold, event-told, module-told, supervisor-told, same-number}
+
+-- ---- what holds of records of which none is faulty
+
+both : (a b : Bool) → (a && b) ≡ true → (a ≡ true) × (b ≡ true)
+both true b e = (refl, e)
+both false b e = let z : _≡_ {A = ℕ} 0 1 = cc in absurd (omega arith)
+
+-- no head comes after another record
+no-head : (p : Record) (m v e : ℕ) → precedes (placeOf p) (placeOf (Head m v e)) ≡ true → ⊥
+unfolding precedes placeOf
+no-head (Head a b c) m v e h = let z : _≡_ {A = ℕ} 0 1 = cc in omega arith
+no-head (Event a b c) m v e h = let z : _≡_ {A = ℕ} 0 1 = cc in omega arith
+no-head (Module a b c) m v e h = let z : _≡_ {A = ℕ} 0 1 = cc in omega arith
+no-head (ModuleMove a b c d) m v e h = let z : _≡_ {A = ℕ} 0 1 = cc in omega arith
+no-head (Supervisor a b c d) m v e h = let z : _≡_ {A = ℕ} 0 1 = cc in omega arith
+no-head (SupervisorMove a b c d) m v e h = let z : _≡_ {A = ℕ} 0 1 = cc in omega arith
+no-head (Disabling a b c) m v e h = let z : _≡_ {A = ℕ} 0 1 = cc in omega arith
+no-head (Step a b c d) m v e h = let z : _≡_ {A = ℕ} 0 1 = cc in omega arith
+no-head End m v e h = let z : _≡_ {A = ℕ} 0 1 = cc in omega arith
+
+-- the head's counts are in range, and a record's number is below its count
+pub record Bounded (rs : List Record) : Type 0 where
+  pub modules : modulesOf rs ≤ 16
+  pub supervisors : supervisorsOf rs ≤ 32
+  pub events : eventsOf rs ≤ 64
+  pub event : (e : ℕ) → found (eventIn rs e) ≡ true → e < eventsOf rs
+  pub steps : (e : ℕ) → eventsOf rs ≤ e → stepsOf rs e ≡ 0
+
+-- the facts stay where neither a count nor a look-up changed
+unmoved : {rs : List Record} (r : Record)
+    → findIn (placeBy 0x10 0 0 0) (r ∷ rs) ≡ findIn (placeBy 0x10 0 0 0) rs
+    → ((e : ℕ) → found (eventIn (r ∷ rs) e) ≡ true → e < eventsOf rs)
+    → ((e : ℕ) → eventsOf rs ≤ e → stepsOf (r ∷ rs) e ≡ 0)
+    → Bounded rs → Bounded (r ∷ rs)
+unmoved {rs} r h a b k =
+    record {
+      modules = subst (λ f. fieldOf field1 f ≤ 16) (sym h) (k .modules);
+      supervisors = subst (λ f. fieldOf field2 f ≤ 32) (sym h) (k .supervisors);
+      events = subst (λ f. fieldOf field3 f ≤ 64) (sym h) (k .events);
+      event = λ e t. subst (λ f. e < fieldOf field3 f) (sym h) (a e t);
+      steps = λ e l. b e (subst (λ f. fieldOf field3 f ≤ e) h l);
+    }
+
+none-found : (b : Bool) → b ≡ true → b ≡ false → ⊥
+none-found b p q = let z : _≡_ {A = ℕ} 0 1 = cc in omega arith
+
+bounded-head : (m v e : ℕ) → Passes [] (Head m v e) → Bounded (Head m v e ∷ [])
+unfolding inRange findIn placeOf samePlace fieldOf field1 field2 field3 found stepsOf
+bounded-head m v e p =
+    let q = both (leb 1 m && leb m 16 && leb v 32) (leb 1 e && leb e 64) (p .range) in
+    let r = both (leb 1 m && leb m 16) (leb v 32) (q .0) in
+    record {
+      modules = leb-true m 16 (both (leb 1 m) (leb m 16) (r .0) .1);
+      supervisors = leb-true v 32 (r .1);
+      events = leb-true e 64 (both (leb 1 e) (leb e 64) (q .1) .1);
+      event = λ x t. let z : _≡_ {A = ℕ} 0 1 = cc in absurd (omega arith);
+      steps = λ x l. refl;
+    }
+
+-- a number that is found after an event's record is that event's, or was found before
+event-found : (rs : List Record) (n o c e : ℕ) → n < eventsOf rs → ((x : ℕ) → found (eventIn rs x) ≡ true → x < eventsOf rs) → found (eventIn (Event n o c ∷ rs) e) ≡ true → e < eventsOf rs
+unfolding findIn placeOf found
+event-found rs n o c e h k t = go (eqb n e) refl
+  where
+    go : (b : Bool) → eqb n e ≡ b → e < eventsOf rs
+    go true q = subst (λ (x : ℕ). x < eventsOf rs) (eqb-true n e q) h
+    go false q = k e (sym (ap (λ (d : Bool). found (cond d (It (Event n o c)) (eventIn rs e))) (same-number 0x11 n e refl ∙ q)) ∙ t)
+
+step-none : (rs : List Record) (x i o y e : ℕ) → x < eventsOf rs → eventsOf rs ≤ e → stepsOf rs e ≡ 0 → stepsOf (Step x i o y ∷ rs) e ≡ 0
+unfolding stepsOf placeOf
+step-none rs x i o y e h l k = go (eqb x e) refl
+  where
+    go : (b : Bool) → eqb x e ≡ b → cond (true && eqb x e) (suc (stepsOf rs e)) (stepsOf rs e) ≡ 0
+    go true q = let d : x ≡ e = eqb-true x e q in absurd (omega arith)
+    go false q = ap (λ (d : Bool). cond (true && d) (suc (stepsOf rs e)) (stepsOf rs e)) q ∙ k
+
+declared-below : (rs : List Record) (e : ℕ) → eventDeclared rs e ≡ true → e < eventsOf rs
+declared-below rs e h = ltb-true e (eventsOf rs) (both (ltb e (eventsOf rs)) (found (eventIn rs e)) h .0)
+
+bounded-after : (p : Record) (ps : List Record) (r : Record) → Passes (p ∷ ps) r → Bounded (p ∷ ps) → Bounded (r ∷ p ∷ ps)
+unfolding inOrder namesDeclared findIn placeOf samePlace stepsOf
+bounded-after p ps (Head m v e) t k = absurd (no-head p m v e (both (precedes (placeOf p) (placeOf (Head m v e))) (indexRuns (p ∷ ps) (Head m v e)) (t .order) .0))
+bounded-after p ps (Event n o c) t k =
+    unmoved (Event n o c) refl (λ e. event-found (p ∷ ps) n o c e (ltb-true n (eventsOf (p ∷ ps)) (both (ltb n (eventsOf (p ∷ ps))) (ltb o (modulesOf (p ∷ ps))) (t .names) .0)) (k .event)) (k .steps) k
+bounded-after p ps (Module n st i) t k = unmoved (Module n st i) refl (k .event) (k .steps) k
+bounded-after p ps (ModuleMove m f e g) t k = unmoved (ModuleMove m f e g) refl (k .event) (k .steps) k
+bounded-after p ps (Supervisor n st i a) t k = unmoved (Supervisor n st i a) refl (k .event) (k .steps) k
+bounded-after p ps (SupervisorMove v f e g) t k = unmoved (SupervisorMove v f e g) refl (k .event) (k .steps) k
+bounded-after p ps (Disabling v st m) t k = unmoved (Disabling v st m) refl (k .event) (k .steps) k
+bounded-after p ps (Step x i o y) t k =
+    unmoved (Step x i o y) refl (k .event)
+    (λ e l. step-none (p ∷ ps) x i o y e (declared-below (p ∷ ps) x (both (eventDeclared (p ∷ ps) x) (not (eqb o 5) || eventDeclared (p ∷ ps) y) (t .names) .0)) l (k .steps e l)) k
+bounded-after p ps End t k = unmoved End refl (k .event) (k .steps) k
+
+none : Bounded []
+unfolding findIn fieldOf found stepsOf
+none = record { modules = lit≤ tt; supervisors = lit≤ tt; events = lit≤ tt; event = λ e t. let z : _≡_ {A = ℕ} 0 1 = cc in absurd (omega arith); steps = λ e l. refl }
+
+first : (r : Record) → Passes [] r → Bounded (r ∷ [])
+unfolding inOrder kindOf
+first (Head m v e) t = bounded-head m v e t
+first (Event n o c) t = let z : _≡_ {A = ℕ} 0 1 = cc (t .order) in absurd (omega arith)
+first (Module n st i) t = let z : _≡_ {A = ℕ} 0 1 = cc (t .order) in absurd (omega arith)
+first (ModuleMove m f e g) t = let z : _≡_ {A = ℕ} 0 1 = cc (t .order) in absurd (omega arith)
+first (Supervisor n st i a) t = let z : _≡_ {A = ℕ} 0 1 = cc (t .order) in absurd (omega arith)
+first (SupervisorMove v f e g) t = let z : _≡_ {A = ℕ} 0 1 = cc (t .order) in absurd (omega arith)
+first (Disabling v st m) t = let z : _≡_ {A = ℕ} 0 1 = cc (t .order) in absurd (omega arith)
+first (Step x i o y) t = let z : _≡_ {A = ℕ} 0 1 = cc (t .order) in absurd (omega arith)
+first End t = let z : _≡_ {A = ℕ} 0 1 = cc (t .order) in absurd (omega arith)
+
+pub bounded : (rs : List Record) → Valid rs → Bounded rs
+unfolding Valid
+bounded [] v = none
+bounded (r ∷ []) v = first r (passes [] r (v .0))
+bounded (r ∷ p ∷ ps) v = bounded-after p ps r (passes (p ∷ ps) r (v .0)) (bounded (p ∷ ps) (v .1))
+
+-- ---- how many steps an event has
+
+-- a step that passes has the index that its event's steps have come to
+index-is : (rs : List Record) (x i o y : ℕ) → Passes rs (Step x i o y) → i ≡ stepsOf rs x
+unfolding inOrder kindOf indexRuns
+index-is [] x i o y t = let z : _≡_ {A = ℕ} 0 1 = cc (t .order) in absurd (omega arith)
+index-is (p ∷ ps) x i o y t = eqb-true i (stepsOf (p ∷ ps) x) (both (precedes (placeOf p) (placeOf (Step x i o y))) (eqb i (stepsOf (p ∷ ps) x)) (t .order) .1)
+
+index-small : (rs : List Record) (x i o y : ℕ) → Passes rs (Step x i o y) → i ≤ 63
+unfolding inRange
+index-small rs x i o y t = leb-true i 63 (both (leb i 63) (operandInRange o y) (t .range) .0)
+
+steps-after : (rs : List Record) (r : Record) (e : ℕ) → e < 64 → Passes rs r → getD (contextOf rs .events .steps) e 0 ≡ stepsOf rs e → getD (eventsAfter (contextOf rs .events) r .steps) e 0 ≡ stepsOf (r ∷ rs) e
+unfolding eventsAfter stepsOf placeOf
+steps-after rs (Head m v x) e l t k = k
+steps-after rs (Event n o c) e l t k = k
+steps-after rs (Module n st i) e l t k = k
+steps-after rs (ModuleMove m f x g) e l t k = k
+steps-after rs (Supervisor n st i a) e l t k = k
+steps-after rs (SupervisorMove v f x g) e l t k = k
+steps-after rs (Disabling v st m) e l t k = k
+steps-after rs (Step x i o y) e l t k =
+    stored-at 64 (contextOf rs .events .steps) x ((i + 1) % 256) e (events-fit rs .steps) l ∙ go (eqb x e) refl
+  where
+    go : (b : Bool) → eqb x e ≡ b → cond b ((i + 1) % 256) (getD (contextOf rs .events .steps) e 0) ≡ cond (true && b) (suc (stepsOf rs e)) (stepsOf rs e)
+    go true q =
+        let d : i ≡ stepsOf rs e = index-is rs x i o y t ∙ ap (stepsOf rs) (eqb-true x e q) in
+        let s : i ≤ 63 = index-small rs x i o y t in
+        mod-eq-of-lt (omega arith) ∙ add-one i ∙ ap suc d
+    go false q = k
+steps-after rs End e l t k = k
+
+steps-told : (rs : List Record) → Valid rs → (e : ℕ) → e < 64 → getD (contextOf rs .events .steps) e 0 ≡ stepsOf rs e
+unfolding contextOf Valid stepsOf
+steps-told [] v e l = getD-replicate 64 e 0 0 l
+steps-told (r ∷ rs) v e l = steps-after rs r e l (passes rs r (v .0)) (steps-told rs (v .1) e l)
+
+-- ---- each rule by the context
+
+module _ (rs : List Record) (valid : Valid rs) where
+  abbrev c : Context
+  c = contextOf rs
+
+  index-same : (r : Record) → indexBy c r ≡ indexRuns rs r
+  unfolding indexBy indexRuns
+  index-same (Head m v e) = refl
+  index-same (Event n o k) = refl
+  index-same (Module n st i) = refl
+  index-same (ModuleMove m f e t) = refl
+  index-same (Supervisor n st i a) = refl
+  index-same (SupervisorMove v f e t) = refl
+  index-same (Disabling v st m) = refl
+  index-same (Step e i o x) = ap (eqb i) (go (ltb e 64) refl)
+    where
+      go : (b : Bool) → ltb e 64 ≡ b → cond b (getD (c .events .steps) e 0) 0 ≡ stepsOf rs e
+      go true q = steps-told rs valid e (ltb-true e 64 q)
+      go false q =
+          let l : 64 ≤ e = ltb-false e 64 q in
+          let k : eventsOf rs ≤ 64 = bounded rs valid .events in
+          sym (bounded rs valid .steps e (omega arith))
+  index-same End = refl
+
+  -- a number below its count, with its record
+  known-same : (e n k : ℕ) (a b : Bool) → n ≡ k → (e < k → a ≡ b) → (ltb e n && a) ≡ (ltb e k && b)
+  known-same e n k a b h f = ap (λ (x : ℕ). ltb e x && a) h ∙ go (ltb e k) refl
+    where
+      go : (d : Bool) → ltb e k ≡ d → (d && a) ≡ (d && b)
+      go true q = f (ltb-true e k q)
+      go false q = refl
+
+  event-same : (e : ℕ) → eventKnown c e ≡ eventDeclared rs e
+  event-same e =
+      known-same e (c .counts .events) (eventsOf rs) (bit (c .events .known) e) (found (eventIn rs e)) (counts-told rs .2)
+      (λ l. let k : eventsOf rs ≤ 64 = bounded rs valid .events in event-told rs e (omega arith) .known)
+
+  module-same : (m : ℕ) → moduleKnown c m ≡ moduleDeclared rs m
+  module-same m =
+      known-same m (c .counts .modules) (modulesOf rs) (bit (c .modules .known) m) (found (moduleIn rs m)) (counts-told rs .0)
+      (λ l. let k : modulesOf rs ≤ 16 = bounded rs valid .modules in module-told rs m (omega arith) .known)
+
+  supervisor-same : (v : ℕ) → supervisorKnown c v ≡ supervisorDeclared rs v
+  supervisor-same v =
+      known-same v (c .counts .supervisors) (supervisorsOf rs) (bit (c .supervisors .known) v) (found (supervisorIn rs v)) (counts-told rs .1)
+      (λ l. let k : supervisorsOf rs ≤ 32 = bounded rs valid .supervisors in supervisor-told rs v (omega arith) .known)
+
+  operand-same : (x : ℕ) → operandKnown c x ≡ eventDeclared rs x
+  operand-same x = go (ltb x 64) refl
+    where
+      go : (b : Bool) → ltb x 64 ≡ b → cond b (eventKnown c x) false ≡ eventDeclared rs x
+      go true q = event-same x
+      go false q =
+          let l : 64 ≤ x = ltb-false x 64 q in
+          let k : eventsOf rs ≤ 64 = bounded rs valid .events in
+          sym (ap (λ (t : Bool). t && found (eventIn rs x)) (le-ltb x (eventsOf rs) (omega arith)))
+
+  -- what is declared is below the tables' sizes
+  event-small : (e : ℕ) → eventDeclared rs e ≡ true → e < 64
+  event-small e h = let l : e < eventsOf rs = declared-below rs e h in let k : eventsOf rs ≤ 64 = bounded rs valid .events in omega arith
+
+  module-small : (m : ℕ) → moduleDeclared rs m ≡ true → m < 16
+  module-small m h =
+      let l : m < modulesOf rs = ltb-true m (modulesOf rs) (both (ltb m (modulesOf rs)) (found (moduleIn rs m)) h .0) in
+      let k : modulesOf rs ≤ 16 = bounded rs valid .modules in
+      omega arith
+
+  supervisor-small : (v : ℕ) → supervisorDeclared rs v ≡ true → v < 32
+  supervisor-small v h =
+      let l : v < supervisorsOf rs = ltb-true v (supervisorsOf rs) (both (ltb v (supervisorsOf rs)) (found (supervisorIn rs v)) h .0) in
+      let k : supervisorsOf rs ≤ 32 = bounded rs valid .supervisors in
+      omega arith
+
+  -- an entry of a table of k, at a number below k
+  entry-same : (k : ℕ) (t : List ℕ) (i : ℕ) {x : ℕ} → i < k → getD t i 0 ≡ x → entry k t i ≡ x
+  entry-same k t i l h = ap (λ (b : Bool). cond b (getD t i 0) 0) (lt-ltb i k l) ∙ h
+
+  module-state-same : (m st : ℕ) → moduleDeclared rs m ≡ true → moduleStateBy c m st ≡ moduleState rs m st
+  module-state-same m st h = ap (ltb st) (entry-same 16 (c .modules .states) m (module-small m h) (module-told rs m (module-small m h) .states))
+
+  supervisor-state-same : (v st : ℕ) → supervisorDeclared rs v ≡ true → supervisorStateBy c v st ≡ supervisorState rs v st
+  supervisor-state-same v st h = ap (ltb st) (entry-same 32 (c .supervisors .states) v (supervisor-small v h) (supervisor-told rs v (supervisor-small v h) .states))
+
+  -- below 64 an event has a record where it is declared
+  recorded-same : (e : ℕ) → e < 64 → bit (c .events .known) e ≡ eventDeclared rs e
+  recorded-same e l = event-told rs e l .known ∙ go (found (eventIn rs e)) refl
+    where
+      go : (b : Bool) → found (eventIn rs e) ≡ b → found (eventIn rs e) ≡ (ltb e (eventsOf rs) && found (eventIn rs e))
+      go true q = sym (ap (λ (t : Bool). t && found (eventIn rs e)) (lt-ltb e (eventsOf rs) (bounded rs valid .event e q)))
+      go false q = q ∙ sym (ap (λ (t : Bool). ltb e (eventsOf rs) && t) q ∙ and-false (ltb e (eventsOf rs)))
+
+  mask-same : (m : ℕ) → everyEvent m (bit (c .events .known)) ≡ everyEvent m (eventDeclared rs)
+  mask-same m = all-same _ _ 64 (λ e l. ap (λ (t : Bool). not (bit m e) || t) (recorded-same e l))
+
+  -- four tests, the second and the last of which count only where the first holds
+  guarded : (a : Bool) {b b′ d d′ e e′ : Bool} → (a ≡ true → b ≡ b′) → d ≡ d′ → (a ≡ true → e ≡ e′) → (a && b && d && e) ≡ (a && b′ && d′ && e′)
+  guarded true f g h = ap₂ _&&_ (ap₂ _&&_ (f refl) g) (h refl)
+  guarded false f g h = refl
+
+  names-same : (r : Record) → namesBy c r ≡ namesDeclared rs r
+  unfolding namesBy namesDeclared
+  names-same (Head m v e) = refl
+  names-same (Event n o k) = ap₂ (λ (x y : ℕ). ltb n x && ltb o y) (counts-told rs .2) (counts-told rs .0)
+  names-same (Module n st i) = ap (λ (x : ℕ). ltb n x && ltb i st) (counts-told rs .0)
+  names-same (ModuleMove m f e t) =
+      ap (λ (a : Bool). a && moduleStateBy c m f && eventKnown c e && moduleStateBy c m t) (module-same m)
+      ∙ guarded (moduleDeclared rs m) (module-state-same m f) (event-same e) (module-state-same m t)
+  names-same (Supervisor n st i a) = ap₂ (λ (x : ℕ) (y : Bool). ltb n x && ltb i st && y) (counts-told rs .1) (mask-same a)
+  names-same (SupervisorMove v f e t) =
+      ap (λ (a : Bool). a && supervisorStateBy c v f && eventKnown c e && supervisorStateBy c v t) (supervisor-same v)
+      ∙ guarded (supervisorDeclared rs v) (supervisor-state-same v f) (event-same e) (supervisor-state-same v t)
+  names-same (Disabling v st m) =
+      ap (λ (a : Bool). a && supervisorStateBy c v st && everyEvent m (bit (c .events .known))) (supervisor-same v)
+      ∙ three (supervisorDeclared rs v) (supervisor-state-same v st) (mask-same m)
+    where
+      three : (a : Bool) {b b′ d d′ : Bool} → (a ≡ true → b ≡ b′) → d ≡ d′ → (a && b && d) ≡ (a && b′ && d′)
+      three true f g = ap₂ _&&_ (f refl) g
+      three false f g = refl
+  names-same (Step e i o x) = ap₂ (λ (a b : Bool). a && (not (eqb o 5) || b)) (event-same e) (operand-same x)
+  names-same End = refl
+
+  owner-same : (e : ℕ) → e < 64 → ownerAt (c .events) e ≡ ownerOf rs e
+  owner-same e l = entry-same 64 (c .events .owner) e l (event-told rs e l .owner)
+
+  alphabet-same : (v : ℕ) → v < 32 → alphabetAt (c .supervisors) v ≡ alphabetOf rs v
+  alphabet-same v l = entry-same 32 (c .supervisors .alphabet) v l (supervisor-told rs v l .alphabet)
+
+  respond-same : (e x : ℕ) → e < 64 → x < 64 → respondBy c e x ≡ (not (controllable rs x) && eqb (ownerOf rs x) (ownerOf rs e))
+  respond-same e x l k =
+      ap (λ (b : Bool). cond b (not (bit (c .events .controllable) x) && eqb (ownerAt (c .events) x) (ownerAt (c .events) e)) false) (lt-ltb x 64 k)
+      ∙ ap₂ _&&_ (ap not (event-told rs x k .controls)) (ap₂ eqb (owner-same x k) (owner-same e l))
+
+  -- a choice whose second test counts only where the first fails
+  unless : (a : Bool) {b d : Bool} → (a ≡ false → b ≡ d) → (a || b) ≡ (a || d)
+  unless true f = refl
+  unless false f = f refl
+
+  rules-same : (r : Record) → namesDeclared rs r ≡ true → rulesBy c r ≡ keepsRules rs r
+  unfolding namesDeclared rulesBy keepsRules
+  rules-same (Head m v e) h = refl
+  rules-same (Event n o k) h = refl
+  rules-same (Module n st i) h = refl
+  rules-same (ModuleMove m f e t) h =
+      let k = both (moduleDeclared rs m && moduleState rs m f && eventDeclared rs e) (moduleState rs m t) h .0 in
+      ap (λ (x : ℕ). eqb x m) (owner-same e (event-small e (both (moduleDeclared rs m && moduleState rs m f) (eventDeclared rs e) k .1)))
+  rules-same (Supervisor n st i a) h = refl
+  rules-same (SupervisorMove v f e t) h =
+      let k = both (supervisorDeclared rs v && supervisorState rs v f && eventDeclared rs e) (supervisorState rs v t) h .0 in
+      let k′ = both (supervisorDeclared rs v && supervisorState rs v f) (eventDeclared rs e) k .0 in
+      ap (λ (x : ℕ). bit x e) (alphabet-same v (supervisor-small v (both (supervisorDeclared rs v) (supervisorState rs v f) k′ .0)))
+  rules-same (Disabling v st m) h =
+      let k = both (supervisorDeclared rs v && supervisorState rs v st) (everyEvent m (eventDeclared rs)) h .0 in
+      let l : v < 32 = supervisor-small v (both (supervisorDeclared rs v) (supervisorState rs v st) k .0) in
+      all-same _ _ 64
+      (λ e w. ap (λ (t : Bool). not (bit m e) || t)
+      (bit-and (c .events .controllable) (alphabetAt (c .supervisors) v) e ∙ ap₂ _&&_ (event-told rs e w .controls) (ap (λ (x : ℕ). bit x e) (alphabet-same v l))))
+  rules-same (Step e i o x) h =
+      let k = both (eventDeclared rs e) (not (eqb o 5) || eventDeclared rs x) h in
+      let l : e < 64 = event-small e (k .0) in
+      ap₂ _&&_ (event-told rs e l .controls)
+      (unless (not (eqb o 5)) (λ q. respond-same e x l (event-small x (sym (ap (λ (t : Bool). t || eventDeclared rs x) q) ∙ k .1))))
+  rules-same End h = refl
+
+  all-known : (n k : ℕ) (m : ℕ) (f : ℕ → Bool) → n ≡ k → ((e : ℕ) → e < k → bit m e ≡ f e) → allBelow (bit m) n ≡ allBelow (λ e. ltb e k && f e) k
+  all-known n k m f h g = ap (allBelow (bit m)) h ∙ all-same (bit m) (λ e. ltb e k && f e) k (λ e l. g e l ∙ sym (ap (λ (t : Bool). t && f e) (lt-ltb e k l)))
+
+  all-declared-same : (r : Record) → allBy c r ≡ allDeclared rs r
+  unfolding allBy allDeclared
+  all-declared-same (Head m v e) = refl
+  all-declared-same (Event n o k) = refl
+  all-declared-same (Module n st i) = refl
+  all-declared-same (ModuleMove m f e t) = refl
+  all-declared-same (Supervisor n st i a) = refl
+  all-declared-same (SupervisorMove v f e t) = refl
+  all-declared-same (Disabling v st m) = refl
+  all-declared-same (Step e i o x) = refl
+  all-declared-same End =
+      ap₂ _&&_
+      (ap₂ _&&_
+      (all-known (c .counts .modules) (modulesOf rs) (c .modules .known) (λ m. found (moduleIn rs m)) (counts-told rs .0) (λ m l. let k : modulesOf rs ≤ 16 = bounded rs valid .modules in module-told rs m (omega arith) .known))
+      (all-known (c .counts .supervisors) (supervisorsOf rs) (c .supervisors .known) (λ v. found (supervisorIn rs v)) (counts-told rs .1) (λ v l. let k : supervisorsOf rs ≤ 32 = bounded rs valid .supervisors in supervisor-told rs v (omega arith) .known)))
+      (all-known (c .counts .events) (eventsOf rs) (c .events .known) (λ e. found (eventIn rs e)) (counts-told rs .2) (λ e l. let k : eventsOf rs ≤ 64 = bounded rs valid .events in event-told rs e (omega arith) .known))
+
+order-same : (rs : List Record) → Valid rs → (r : Record) → orderBy (contextOf rs) r ≡ inOrder rs r
+unfolding orderBy inOrder contextOf
+order-same [] v r = refl
+order-same (p ∷ ps) v r = ap (λ (t : Bool). precedes (placeOf p) (placeOf r) && t) (index-same (p ∷ ps) v r)
+
+-- a choice whose first answer counts only where the test holds
+where-held : (b : Bool) {x x′ : ℕ} (y : ℕ) → (b ≡ true → x ≡ x′) → cond b x y ≡ cond b x′ y
+where-held true y f = f refl
+where-held false y f = refl
+
+pub judge-same : (rs : List Record) → Valid rs → (r : Record) → judgeBy (contextOf rs) r ≡ faultOf rs r
+unfolding judgeBy faultOf
+judge-same rs v r =
+    ap₂ (λ (a b : Bool). cond a (cond (inRange r) (cond b (cond (rulesBy (contextOf rs) r) (cond (allBy (contextOf rs) r) 0 8) 7) 6) 5) 4) (order-same rs v r) (names-same rs v r)
+    ∙ ap (λ (x : ℕ). cond (inOrder rs r) (cond (inRange r) x 5) 4)
+    (where-held (namesDeclared rs r) 6 (λ h. ap₂ (λ (a b : Bool). cond a (cond b 0 8) 7) (rules-same rs v r h) (all-declared-same rs v r)))
