@@ -1,0 +1,4 @@
+pub mod Fits
+pub mod Shape
+pub mod RoundTrip
+pub mod TakenApart

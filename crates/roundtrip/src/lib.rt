@@ -1,0 +1,1 @@
+// No code: the theorem that records and their bytes are the same thing, in specs/.
