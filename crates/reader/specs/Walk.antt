@@ -31,6 +31,11 @@ unfoldable pub recordsIn : Walk → List Record
 recordsIn (more o r w) = r ∷ recordsIn w
 recordsIn (stop n o) = []
 
+-- the offset at which nothing more can be read
+unfoldable pub stopOf : Walk → ℕ
+stopOf (more o r w) = stopOf w
+stopOf (stop n o) = o
+
 -- the records of an image
 abbrev pub recordsOf : List ℕ → List Record
 recordsOf s = recordsIn (walkFrom s 0)

@@ -1,0 +1,192 @@
+-- The laws of an accepted plan.
+use Prim.Native.Nat.{ℕ, _≤_, _<_}
+use mathlib.Core.Path.{_≡_, refl, sym, ap, _∙_, subst}
+use mathlib.Core.Logic.{_⊎_, inl, inr, ⊎-elim}
+use mathlib.Core.List.{List, [], _∷_, reverseAux, reverse, reverse-reverse, List·Memᴰ·head, List·Memᴰ·tail, List·Memᴰ·not-nil, List·Memᴰ·cases-cons, Memᴰ·cast, Memᴰ·append-right}
+use mathlib.Core.Bool.{true, _&&_}
+use lib.Dec.{T, ltb, leb→le}
+use Rattle.bits.specs.Bit.{allBelow}
+use Rattle.bits.proofs.Laws.{all-at, holds}
+use Rattle.records.specs.Kinds.{kindOf}
+use Rattle.records.specs.Key.{placeBy, placeOf}
+use Rattle.records.specs.Range.{inRange}
+use Rattle.records.specs.declared.Record.{Record}
+use Rattle.records.specs.declared.Record.the-variants.{Head, Event, Module, Supervisor, Step, End}
+use Rattle.records.specs.declared.Place.{Place}
+use Rattle.reader.specs.Find.{findIn}
+use Rattle.reader.specs.Walk.{recordsOf}
+use Rattle.reader.specs.declared.Found.{Found}
+use Rattle.reader.specs.declared.Found.the-variants.{It}
+use Rattle.rules.specs.LookUp.{field1, field2, field3, wordField, found, fieldOf, modulesOf, supervisorsOf, eventsOf}
+use Rattle.rules.specs.Rules.{inOrder, allDeclared}
+use Rattle.rules.specs.Check.{IsPlan}
+use Rattle.rules.specs.Valid.{Valid}
+use Rattle.accepted.specs.Plan.{_∈_, Unique, LawOf, TheEvent, TheModule, TheSupervisor, TheStep, Sound, Ended}
+use Rattle.accepted.proofs.Order.{unique}
+use Rattle.accepted.proofs.Look.{both, head, finds, some-found, found-more}
+use Rattle.accepted.proofs.Shape.{remade, shape}
+use Rattle.accepted.proofs.Walked.{short, walked-plan}
+use Rattle.accepted.proofs.Law.{law}
+use Rattle.accepted.proofs.Before.{At, at, TheHead, the-head, index-is, steps-listed}
+
+record Counts (f : Found) : Type 0 where
+  pub modules : (1 ≤ fieldOf field1 f) × (fieldOf field1 f ≤ 16)
+  pub supervisors : fieldOf field2 f ≤ 32
+  pub events : (1 ≤ fieldOf field3 f) × (fieldOf field3 f ≤ 64)
+
+-- ---- the records of a plan in their order, from the same records, latest first
+
+module _ (latest all : List Record) (v : Valid latest) (ended : End ∈ latest) (to : (r : Record) → r ∈ latest → r ∈ all) (from : (r : Record) → r ∈ all → r ∈ latest) where
+  one-place : Unique all
+  one-place r t m n = unique latest v r t (from r m) (from t n)
+
+  place : (r : Record) → r ∈ all → At all r
+  place r m =
+      let a = at latest v r (from r m) in
+      record { before = a .before; valid = a .valid; passed = a .passed; within = λ t n. to t (a .within t n) }
+
+  same : {r : Record} (a : At all r) (p : Place) → T (found (findIn p (a .before))) → findIn p (a .before) ≡ findIn p all
+  same a = found-more (a .before) all one-place (a .within)
+
+  laws : (r : Record) → r ∈ all → LawOf all r
+  laws r m = let a = place r m in law (a .before) all (same a) r (a .passed)
+
+  ranges : (r : Record) → r ∈ all → inRange r ≡ true
+  ranges r m = place r m .passed .range
+
+  no-gap : (e i o x : ℕ) → Step e i o x ∈ all → (j : ℕ) → j < i → TheStep all e j
+  no-gap e i o x m j h =
+      let a = place (Step e i o x) m in
+      let s = steps-listed (a .before) (a .valid) e j (subst (λ (k : ℕ). j < k) (index-is (a .before) e i o x (a .passed .order)) h) in
+      record { operation = s .operation; operand = s .operand; listed = a .within (Step e j (s .operation) (s .operand)) (s .listed) }
+
+  -- what stands before the end record has every number that the head promises
+  last : At all End
+  last = place End (to End ended)
+
+  start : TheHead (last .before)
+  unfolding inOrder kindOf
+  start = the-head (last .before) (last .valid) (λ e. holds (subst (λ (l : List Record). inOrder l End ≡ true) e (last .passed .order)))
+
+  first : Record
+  first = Head (start .modules) (start .supervisors) (start .events)
+
+  head-found : findIn head (last .before) ≡ It first
+  unfolding placeOf first
+  head-found = finds (last .before) (unique (last .before) (last .valid)) first (start .listed)
+
+  head-same : findIn head (last .before) ≡ findIn head all
+  unfolding found
+  head-same = same last head (subst (λ (f : Found). T (found f)) (sym head-found) tt)
+
+  counts : Counts (findIn head all)
+  unfolding first fieldOf field1 field2 field3 inRange
+  counts =
+      let t : T (inRange first) = holds (ranges first (last .within first (start .listed))) in
+      subst Counts (sym head-found ∙ head-same)
+      (record {
+        modules = (leb→le 1 (start .modules) (search both), leb→le (start .modules) 16 (search both));
+        supervisors = leb→le (start .supervisors) 32 (search both);
+        events = (leb→le 1 (start .events) (search both), leb→le (start .events) 64 (search both));
+      })
+
+  -- the record of kind k of each number below the count that the head's field f gives
+  declared : (k : ℕ) (f : Record → ℕ) → let n = fieldOf f (findIn head (last .before)) in
+      T (allBelow (λ i. ltb i n && found (findIn (placeBy k i 0 0) (last .before))) n)
+      → (i : ℕ) → i < fieldOf f (findIn head all) → (r : Record) × (remade k i r ∈ all)
+  declared k f t i h =
+      let n : ℕ = fieldOf f (findIn head (last .before)) in
+      let d : T (ltb i n && found (findIn (placeBy k i 0 0) (last .before))) = all-at _ n t i (subst (λ (l : Found). i < fieldOf f l) (sym head-same) h) in
+      let s = some-found (placeBy k i 0 0) (last .before) (search both) in
+      (s .0, Memᴰ·cast (sym (shape k i (s .0) (ap (λ (p : Place). p .kind) (s .2)) (ap (λ (p : Place). p .first) (s .2)))) (last .within (s .0) (s .1)))
+
+  the-event : (e : ℕ) → e < eventsOf all → TheEvent all e
+  unfolding allDeclared inRange
+  the-event e h =
+      let t : T (allDeclared (last .before) End) = holds (last .passed .whole) in
+      let k = declared 0x11 field3 (search both) e h in
+      let r : Record = Event e (field2 (k .0)) (field3 (k .0)) in
+      record {
+        owner = field2 (k .0);
+        class = field3 (k .0);
+        listed = k .1;
+        owner-below = laws r (k .1) .owner;
+        class-most = leb→le (field3 (k .0)) 1 (holds (ranges r (k .1)));
+      }
+
+  the-module : (m : ℕ) → m < modulesOf all → TheModule all m
+  unfolding allDeclared inRange
+  the-module m h =
+      let t : T (allDeclared (last .before) End) = holds (last .passed .whole) in
+      let k = declared 0x12 field1 (search both) m h in
+      let r : Record = Module m (field2 (k .0)) (field3 (k .0)) in
+      let s : T (inRange r) = holds (ranges r (k .1)) in
+      record {
+        states = field2 (k .0);
+        initial = field3 (k .0);
+        listed = k .1;
+        states-least = leb→le 1 (field2 (k .0)) (search both);
+        states-most = leb→le (field2 (k .0)) 32 (search both);
+        initial-below = laws r (k .1) .initial;
+      }
+
+  the-supervisor : (v : ℕ) → v < supervisorsOf all → TheSupervisor all v
+  unfolding allDeclared inRange
+  the-supervisor v h =
+      let t : T (allDeclared (last .before) End) = holds (last .passed .whole) in
+      let k = declared 0x14 field2 (search both) v h in
+      let r : Record = Supervisor v (field2 (k .0)) (field3 (k .0)) (wordField (k .0)) in
+      let s : T (inRange r) = holds (ranges r (k .1)) in
+      record {
+        states = field2 (k .0);
+        initial = field3 (k .0);
+        alphabet = wordField (k .0);
+        listed = k .1;
+        states-least = leb→le 1 (field2 (k .0)) (search both);
+        states-most = leb→le (field2 (k .0)) 64 (search both);
+        initial-below = laws r (k .1) .initial;
+      }
+
+  sound-of : Sound all
+  sound-of = record {
+    modules = counts .modules;
+    supervisors = counts .supervisors;
+    events = counts .events;
+    unique = one-place;
+    finds = finds all one-place;
+    ranges = ranges;
+    laws = laws;
+    the-event = the-event;
+    the-module = the-module;
+    the-supervisor = the-supervisor;
+    no-gap = no-gap;
+  }
+
+-- ---- an accepted plan
+
+in-reverse : (xs acc : List Record) (t : Record) → (t ∈ xs) ⊎ (t ∈ acc) → t ∈ reverseAux xs acc
+in-reverse [] acc t (inl m) = absurd (List·Memᴰ·not-nil m)
+in-reverse [] acc t (inr m) = m
+in-reverse (x ∷ xs) acc t (inl m) = in-reverse xs (x ∷ acc) t (⊎-elim (λ e. inr (List·Memᴰ·head e)) (λ n. inl n) (List·Memᴰ·cases-cons m))
+in-reverse (x ∷ xs) acc t (inr m) = in-reverse xs (x ∷ acc) t (inr (List·Memᴰ·tail m))
+
+module _ (s : List ℕ) (accepted : IsPlan s) where
+  pub stops-at-end : Ended s
+  stops-at-end =
+      let w = walked-plan s accepted in
+      record { short = short s accepted; before = w .before; end-last = w .last; stops = w .stops }
+
+  pub valid : Valid (reverse (recordsOf s))
+  valid = walked-plan s accepted .valid
+
+  pub sound : Sound (recordsOf s)
+  sound = sound-of (reverse (recordsOf s)) (recordsOf s) valid (latest-first End ended) in-order latest-first
+    where
+      ended : End ∈ recordsOf s
+      ended = subst (λ (l : List Record). End ∈ l) (sym (stops-at-end .end-last)) (Memᴰ·append-right (stops-at-end .before) (List·Memᴰ·head refl))
+
+      latest-first : (r : Record) → r ∈ recordsOf s → r ∈ reverse (recordsOf s)
+      latest-first r m = in-reverse (recordsOf s) [] r (inl m)
+
+      in-order : (r : Record) → r ∈ reverse (recordsOf s) → r ∈ recordsOf s
+      in-order r m = subst (λ (l : List Record). r ∈ l) (reverse-reverse (recordsOf s)) (in-reverse (reverse (recordsOf s)) [] r (inl m))

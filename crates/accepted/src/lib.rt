@@ -1,0 +1,1 @@
+// What an accepted plan promises, as one checked statement: specs/Plan.antt.
