@@ -77,7 +77,7 @@ pub fn started() -> Context
     }
 }
 
-pub fn with_event(ev: Events, number: u8, owner: u8, class: u8) -> Events
+fn with_event(ev: Events, number: u8, owner: u8, class: u8) -> Events
     ensures { λ r. ⌜ r ≡ withEvent ev number owner class ⌝ }
 {
     if number < 64 {
@@ -93,7 +93,7 @@ pub fn with_event(ev: Events, number: u8, owner: u8, class: u8) -> Events
 }
 
 // An accepted step has the next index of its event, so that its index and one more is how many there are.
-pub fn with_step(ev: Events, event: u8, index: u8) -> Events
+fn with_step(ev: Events, event: u8, index: u8) -> Events
     ensures { λ r. ⌜ r ≡ withStep ev event index ⌝ }
 {
     if event < 64 {
@@ -106,7 +106,7 @@ pub fn with_step(ev: Events, event: u8, index: u8) -> Events
     }
 }
 
-pub fn with_module(ms: Modules, number: u8, states: u8) -> Modules
+fn with_module(ms: Modules, number: u8, states: u8) -> Modules
     ensures { λ r. ⌜ r ≡ withModule ms number states ⌝ }
 {
     if number < 16 {
@@ -120,7 +120,7 @@ pub fn with_module(ms: Modules, number: u8, states: u8) -> Modules
     }
 }
 
-pub fn with_supervisor(vs: Supervisors, number: u8, states: u8, alphabet: u64) -> Supervisors
+fn with_supervisor(vs: Supervisors, number: u8, states: u8, alphabet: u64) -> Supervisors
     ensures { λ r. ⌜ r ≡ withSupervisor vs number states alphabet ⌝ }
 {
     if number < 32 {
@@ -229,33 +229,33 @@ pub fn steps_of(ev: Events, event: u8) -> u8
     }
 }
 
-pub fn module_states(ms: Modules, number: u8) -> u8
-    ensures { λ r. ⌜ r ≡ moduleStatesAt ms number ⌝ }
+pub fn module_states(ms: Modules, m: u8) -> u8
+    ensures { λ r. ⌜ r ≡ moduleStatesAt ms m ⌝ }
 {
-    if number < 16 {
-        let i = words::wide(number);
+    if m < 16 {
+        let i = words::wide(m);
         ms.states[i]
     } else {
         0
     }
 }
 
-pub fn supervisor_states(vs: Supervisors, number: u8) -> u8
-    ensures { λ r. ⌜ r ≡ supervisorStatesAt vs number ⌝ }
+pub fn supervisor_states(vs: Supervisors, v: u8) -> u8
+    ensures { λ r. ⌜ r ≡ supervisorStatesAt vs v ⌝ }
 {
-    if number < 32 {
-        let i = words::wide(number);
+    if v < 32 {
+        let i = words::wide(v);
         vs.states[i]
     } else {
         0
     }
 }
 
-pub fn alphabet_of(vs: Supervisors, number: u8) -> u64
-    ensures { λ r. ⌜ r ≡ alphabetAt vs number ⌝ }
+pub fn alphabet_of(vs: Supervisors, supervisor: u8) -> u64
+    ensures { λ r. ⌜ r ≡ alphabetAt vs supervisor ⌝ }
 {
-    if number < 32 {
-        let i = words::wide(number);
+    if supervisor < 32 {
+        let i = words::wide(supervisor);
         vs.alphabet[i]
     } else {
         0
