@@ -1,10 +1,12 @@
-// Runs the plan check and the reader on the lines of standard input, and prints what each gives.
+// Runs the plan check, the reader and the writer on the lines of standard input, and prints what
+// each gives.
 // tests/reference/plan_check.py says what a line is, and prints the same.
 ghost use Prim.Native.Nat.{_≤_};
 ghost use lib.ListN.{length};
 use reader::Read;
 use records::Record;
 use rules::Verdict;
+use writer::Written;
 
 fn say(text: &[u8]) {
     io::write_all(1, text);
@@ -35,18 +37,34 @@ fn longer(x: u64, digit: u8) -> u64 {
     std::num::wrapping_add_u64(ten, digit as u64)
 }
 
-// The decimal number that ends the line, after a space.
-fn number_at(s: &[u8], space: usize) -> u64 {
+// The decimal number that stands after so many spaces of the line.
+fn number_in(s: &[u8], spaces: usize) -> u64 {
+    let mut left = spaces;
     let mut x: u64 = 0;
-    let mut i = space;
+    let mut i = 0;
     while i < s.len() {
         let d = value(s[i]);
-        if d < 10 {
+        if s[i] == b' ' {
+            left = std::num::wrapping_sub_usize(left, 1);
+        } else if (left == 0) & (d < 10) {
             x = longer(x, d);
         }
         i += 1;
     }
     x
+}
+
+// The spaces of a line, after the last of which a `write` has its buffer's length.
+fn spaces(s: &[u8]) -> usize {
+    let mut n: usize = 0;
+    let mut i = 0;
+    while i < s.len() {
+        if s[i] == b' ' {
+            n = std::num::wrapping_add_usize(n, 1);
+        }
+        i += 1;
+    }
+    n
 }
 
 // An image as far as it is read.
@@ -140,13 +158,8 @@ fn take(img: &mut [u8], mut p: Piece, b: u8) -> Piece {
     }
 }
 
-// The image's length, and where the line goes on.
-struct Image {
-    n: usize,
-    next: usize,
-}
-
-fn image_at(img: &mut [u8], s: &[u8], from: usize) -> Image {
+// Puts the image that stands at an offset of the line, and answers its length.
+fn image_at(img: &mut [u8], s: &[u8], from: usize) -> usize {
     let mut p = Piece {
         n: 0,
         start: 0,
@@ -163,8 +176,7 @@ fn image_at(img: &mut [u8], s: &[u8], from: usize) -> Image {
         p = take(&mut *img, p, b);
         i += 1;
     }
-    let p = close(img, p);
-    Image { n: p.n, next: i }
+    close(img, p).n
 }
 
 fn say_verdict(v: Verdict) {
@@ -289,19 +301,137 @@ fn say_read(r: Read) {
     }
 }
 
+fn say_written(w: Written) {
+    match w {
+        Written::Length(n) => {
+            say(b"length");
+            say_field(n as u64);
+        }
+        Written::Refused(number) => {
+            say(b"refused");
+            say_field(number as u64);
+        }
+    }
+}
+
+// The bytes in hexadecimal digits, or `-` for none.
+fn say_bytes(s: &[u8]) {
+    if s.len() == 0 {
+        say(b"-");
+    }
+    let mut i = 0;
+    while i < s.len() {
+        say_byte(s[i]);
+        i += 1;
+    }
+}
+
+fn fill(s: &mut [u8], b: u8) {
+    let mut i = 0;
+    while i < s.len() {
+        s[i] = b;
+        i += 1;
+    }
+}
+
+// The lowest byte of a number.
+fn low(x: u64) -> u8 {
+    (x % 256) as u8
+}
+
+// A record of a kind whose fields are a byte each.
+fn short_record(kind: u8, a: u8, b: u8, c: u8, d: u8) -> Record {
+    match kind {
+        0x10 => Record::Head {
+            modules: a,
+            supervisors: b,
+            events: c,
+        },
+        0x11 => Record::Event {
+            number: a,
+            owner: b,
+            class: c,
+        },
+        0x12 => Record::Module {
+            number: a,
+            states: b,
+            initial: c,
+        },
+        0x13 => Record::ModuleMove {
+            owner: a,
+            from: b,
+            event: c,
+            to: d,
+        },
+        0x15 => Record::SupervisorMove {
+            supervisor: a,
+            from: b,
+            event: c,
+            to: d,
+        },
+        _ => Record::End,
+    }
+}
+
+// The record of a kind whose fields stand after the line's second space.
+fn record_in(s: &[u8], kind: u8) -> Record {
+    let a = low(number_in(s, 2));
+    let b = low(number_in(s, 3));
+    let third = number_in(s, 4);
+    let fourth = number_in(s, 5);
+    let c = low(third);
+    match kind {
+        0x14 => Record::Supervisor {
+            number: a,
+            states: b,
+            initial: c,
+            alphabet: fourth,
+        },
+        0x16 => Record::Disabling {
+            supervisor: a,
+            state: b,
+            mask: third,
+        },
+        0x17 => Record::Step {
+            event: a,
+            index: b,
+            operation: c,
+            operand: fourth,
+        },
+        _ => short_record(kind, a, b, c, low(fourth)),
+    }
+}
+
 fn run_check(img: &mut [u8], s: &[u8]) {
-    let n = image_at(&mut *img, s, 6).n;
+    let n = image_at(&mut *img, s, 6);
     if n <= img.len() {
         say_verdict(checker::check(&img[..n]));
     }
 }
 
 fn run_read(img: &mut [u8], s: &[u8]) {
-    let i = image_at(&mut *img, s, 5);
-    let n = i.n;
-    let at = number_at(s, i.next) as usize;
+    let n = image_at(&mut *img, s, 5);
+    let at = number_in(s, 2) as usize;
     if n <= img.len() {
         say_read(reader::read_at(&img[..n], at));
+    }
+}
+
+// Writes the record into a buffer of AA, and prints the answer and the buffer.
+fn write_into(buf: &mut [u8], r: Record) {
+    fill(&mut *buf, 0xaa);
+    say_written(writer::write(r, &mut *buf));
+    say(b" ");
+    say_bytes(buf);
+    say(b"\n");
+}
+
+fn run_write(img: &mut [u8], s: &[u8]) {
+    let kind = (value(words::byte_at(s, 6)) << 4) | value(words::byte_at(s, 7));
+    let r = record_in(s, kind);
+    let n = number_in(s, spaces(s)) as usize;
+    if n <= img.len() {
+        write_into(&mut img[..n], r);
     }
 }
 
@@ -313,6 +443,7 @@ fn run_line(img: &mut [u8], s: &[u8]) {
         }
         b'c' => run_check(img, s),
         b'r' => run_read(img, s),
+        b'w' => run_write(img, s),
         _ => say(b"?\n"),
     }
 }

@@ -8,8 +8,8 @@ use Rattle.vectors.proofs.run_read.Tie as tie
 image-at-requires : tie.Need-image-at-requires
 image-at-requires c κs = search needs
 
-number-at-requires : tie.Need-number-at-requires
-number-at-requires c κs = search needs
+number-in-requires : tie.Need-number-in-requires
+number-in-requires c κs = search needs
 
 slice-reshare-prefix-read-at : tie.Need-slice-reshare-prefix-read-at
 slice-reshare-prefix-read-at c = search needs
@@ -40,7 +40,7 @@ run-read-spec =
     tie.close
     (tie.spec
     image-at-requires
-    number-at-requires
+    number-in-requires
     slice-reshare-prefix-read-at
     slice-aggregate-read-at
     read-at-requires
