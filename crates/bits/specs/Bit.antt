@@ -1,6 +1,7 @@
 -- Masks of events. Document 01, "Plan records": "Bit e of a mask stands for event e."
 use Prim.Native.Nat.{ℕ, zero, suc, _-_, _/_, _%_, _^_}
 use mathlib.Core.Bool.{Bool, true, false, cond, not, _&&_, _||_}
+use mathlib.Core.Option.{Option, none, some}
 use lib.Dec.{eqb, ltb}
 use lib.Bits.{bitAnd, bitOr}
 
@@ -20,3 +21,23 @@ everyEvent m p = allBelow (λ e. not (bit m e) || p e) 64
 -- the mask m, of 64 bits, with bit e on or off; no bit at 64 or above
 unfoldable pub putBit : ℕ → ℕ → Bool → ℕ
 putBit m e on = cond (ltb e 64) (cond on (bitOr m (2 ^ e)) (bitAnd m (2 ^ 64 - 1 - 2 ^ e))) m
+
+-- the lowest number below n that passes the test p
+unfoldable pub orElse : Option ℕ → Bool → ℕ → Option ℕ
+orElse (some i) t n = some i
+orElse none true n = some n
+orElse none false n = none
+
+unfoldable pub least : (ℕ → Bool) → ℕ → Option ℕ
+least p zero = none
+least p (suc n) = orElse (least p n) (p n) n
+
+-- some number below n passes the test p
+unfoldable pub someBelow : (ℕ → Bool) → ℕ → Bool
+someBelow p zero = false
+someBelow p (suc n) = p n || someBelow p n
+
+-- the mask of the numbers below n that pass the test p
+unfoldable pub maskOf : (ℕ → Bool) → ℕ → ℕ
+maskOf p zero = 0
+maskOf p (suc n) = cond (p n) (bitOr (maskOf p n) (2 ^ n)) (maskOf p n)

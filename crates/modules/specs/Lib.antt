@@ -1,0 +1,4 @@
+pub mod Queue
+pub mod Procedure
+pub mod Turn
+pub mod Fits

@@ -1,0 +1,88 @@
+-- Document 01, "Procedures and water", and the responses: what a response and a tick do to a module's own part.
+use Prim.Native.Nat.{ℕ, zero, suc, _+_, _-_, _^_}
+use mathlib.Core.List.{List}
+use mathlib.Core.Bool.{Bool, true, false, cond}
+use lib.Bits.{bitOr, bitAnd}
+use lib.Dec.{eqb}
+use Rattle.records.specs.declared.Record.{Record}
+use Rattle.rules.specs.LookUp.{found}
+use Rattle.plan.specs.Plan.{stepIn, operationOf, operandOf, ownUncontrollable}
+use Rattle.water.specs.Water.{flowOk, noWater, waterOf, added, reached}
+use Rattle.water.specs.declared.Water.{Water}
+use Rattle.water.specs.declared.Flow.{Flow}
+use Rattle.modules.specs.declared.Procedure.{Procedure}
+use Rattle.modules.specs.declared.Own.{Own}
+use Rattle.modules.specs.declared.Reply.{Reply}
+use Rattle.modules.specs.declared.Reply.the-variants.{Taken, Refused}
+use Rattle.modules.specs.declared.Replied.{Replied}
+use Rattle.modules.specs.Queue.{full, queued}
+
+abbrev pub idle : Procedure
+idle = record { running = false; event = 0; index = 0; count = 0; water = noWater }
+
+-- Arriving at a step: a count begins at 0, and a litres step has the plan's target and a total of 0. Where there is no such step the
+-- procedure is idle: "without steps it stays idle", "After the last step the procedure is idle."
+unfoldable pub arriveAt : List Record → ℕ → ℕ → Procedure
+arriveAt rs e i =
+    cond (found (stepIn rs e i))
+    (record { running = true; event = e; index = i; count = 0; water = cond (eqb (operationOf rs e i) 4) (waterOf (operandOf rs e i)) noWater })
+    idle
+
+abbrev pub withProcedure : Own → Procedure → Own
+withProcedure own p = record { state = own .state; queue = own .queue; length = own .length; procedure = p; outputs = own .outputs }
+
+abbrev pub withOutputs : Own → ℕ → Own
+withOutputs own o = record { state = own .state; queue = own .queue; length = own .length; procedure = own .procedure; outputs = o }
+
+-- on to the next step of the event
+abbrev pub onward : List Record → Own → Own
+onward rs own = withProcedure own (arriveAt rs (own .procedure .event) (suc (own .procedure .index)))
+
+-- one tick more of a wait, and a litres step's water
+abbrev pub counted : Own → Own
+counted own =
+    withProcedure own
+    (record { running = true; event = own .procedure .event; index = own .procedure .index; count = suc (own .procedure .count); water = own .procedure .water })
+
+abbrev pub withWater : Own → Water → Own
+withWater own w =
+    withProcedure own
+    (record { running = true; event = own .procedure .event; index = own .procedure .index; count = own .procedure .count; water = w })
+
+-- "1 output on and 2 output off"; "Each module has 32 outputs of its own."
+abbrev pub outputOn : ℕ → ℕ → ℕ
+outputOn o i = bitOr o (2 ^ i)
+
+abbrev pub outputOff : ℕ → ℕ → ℕ
+outputOff o i = bitAnd o (2 ^ 32 - 1 - 2 ^ i)
+
+-- "A tick .. performs one step, or one tick of a wait." The step has operation o and operand x.
+-- 3: "A wait of n ends at its nth tick." 4: the reading is added, and "the step ends when it reaches the target". 5: "Respond stays put
+-- while the queue is full."
+unfoldable pub performed : List Record → ℕ → ℕ → Flow → Own → Own
+performed rs o x f own =
+    cond (eqb o 1) (onward rs (withOutputs own (outputOn (own .outputs) x)))
+    (cond (eqb o 2) (onward rs (withOutputs own (outputOff (own .outputs) x)))
+    (cond (eqb o 3) (cond (eqb (suc (own .procedure .count)) x) (onward rs own) (counted own))
+    (cond (eqb o 4) (cond (reached (added (own .procedure .water) f)) (onward rs own) (withWater own (added (own .procedure .water) f)))
+    (cond (full own) own (onward rs (queued own x))))))
+
+abbrev pub ticked : List Record → Flow → Own → Own
+ticked rs f own =
+    cond (own .procedure .running)
+    (performed rs (operationOf rs (own .procedure .event) (own .procedure .index)) (operandOf rs (own .procedure .event) (own .procedure .index)) f own)
+    own
+
+abbrev pub taken : Own → Replied
+taken own = record { reply = Taken; own = own }
+
+abbrev pub refused : ℕ → Own → Replied
+refused n own = record { reply = Refused n; own = own }
+
+-- a tick: 14 "bad flow reading", "checked even when idle"
+unfoldable pub tickOf : List Record → Flow → Own → Replied
+tickOf rs f own = cond (flowOk f) (taken (ticked rs f own)) (refused 14 own)
+
+-- a response: 11 "response not an uncontrollable event of the module", 13 "response queue holds 8"
+unfoldable pub respondOf : List Record → ℕ → ℕ → Own → Replied
+respondOf rs m e own = cond (ownUncontrollable rs m e) (cond (full own) (refused 13 own) (taken (queued own e))) (refused 11 own)

@@ -1,0 +1,88 @@
+-- Look-ups on the records of a plan. 004, 2.1: an automaton has states, an alphabet and a partial move by an event; 4.2: modules and
+-- supervisors; document 01 gives the bytes.
+use Prim.Native.Nat.{ℕ, zero, suc}
+use mathlib.Core.List.{List}
+use mathlib.Core.Option.{Option, none, some}
+use mathlib.Core.Bool.{Bool, true, false, cond, not, _&&_, _||_}
+use lib.Dec.{eqb, ltb}
+use Rattle.bits.specs.Bit.{bit, putBit, least, someBelow, maskOf}
+use Rattle.records.specs.Key.{placeBy}
+use Rattle.records.specs.declared.Record.{Record}
+use Rattle.records.specs.declared.Record.the-variants.{Head, Event, Module, ModuleMove, Supervisor, SupervisorMove, Disabling, Step, End}
+use Rattle.reader.specs.declared.Found.{Found}
+use Rattle.reader.specs.declared.Found.the-variants.{It, Missing}
+use Rattle.reader.specs.Find.{findIn}
+use Rattle.rules.specs.LookUp.{field1, field2, field3, wordField, found, fieldOf, modulesOf, supervisorsOf, eventsOf, eventIn, moduleIn, supervisorIn, ownerOf, controllable, alphabetOf}
+
+-- the fourth field of a move: the state that it leads to
+unfoldable pub field4 : Record → ℕ
+field4 (Head m v e) = 0
+field4 (Event n o c) = 0
+field4 (Module n st i) = 0
+field4 (ModuleMove m f e t) = t
+field4 (Supervisor n st i a) = 0
+field4 (SupervisorMove v f e t) = t
+field4 (Disabling v st m) = 0
+field4 (Step e i o x) = 0
+field4 End = 0
+
+-- where the found move leads, or nothing where none is listed
+unfoldable pub target : Found → Option ℕ
+target (It r) = some (field4 r)
+target Missing = none
+
+-- the listed moves of a module and of a supervisor
+abbrev pub moduleMove : List Record → ℕ → ℕ → ℕ → Option ℕ
+moduleMove rs m st e = target (findIn (placeBy 0x13 m st e) rs)
+
+abbrev pub supervisorMove : List Record → ℕ → ℕ → ℕ → Option ℕ
+supervisorMove rs v st e = target (findIn (placeBy 0x15 v st e) rs)
+
+-- a move is listed
+unfoldable pub listed : Option ℕ → Bool
+listed none = false
+listed (some t) = true
+
+-- the state after a move, which stays where none is listed
+unfoldable pub stateBy : Option ℕ → ℕ → ℕ
+stateBy none st = st
+stateBy (some t) st = t
+
+-- initial states
+abbrev pub moduleInitial : List Record → ℕ → ℕ
+moduleInitial rs m = fieldOf field3 (moduleIn rs m)
+
+abbrev pub supervisorInitial : List Record → ℕ → ℕ
+supervisorInitial rs v = fieldOf field3 (supervisorIn rs v)
+
+-- an event of a module, and of which class
+abbrev pub ownEvent : List Record → ℕ → ℕ → Bool
+ownEvent rs m e = ltb e (eventsOf rs) && eqb (ownerOf rs e) m
+
+abbrev pub ownUncontrollable : List Record → ℕ → ℕ → Bool
+ownUncontrollable rs m e = ownEvent rs m e && not (controllable rs e)
+
+-- "Each supervisor shows the mask of its present state (0 if none)."
+abbrev pub shown : List Record → ℕ → ℕ → ℕ
+shown rs v st = fieldOf wordField (findIn (placeBy 0x16 v st 0) rs)
+
+abbrev pub inAlphabet : List Record → ℕ → ℕ → Bool
+inAlphabet rs v e = bit (alphabetOf rs v) e
+
+-- "A supervisor is a module's neighbour if its alphabet has an event of that module."
+abbrev pub neighbour : List Record → ℕ → ℕ → Bool
+neighbour rs m v = someBelow (λ e. eqb (ownerOf rs e) m && inAlphabet rs v e) (eventsOf rs)
+
+-- "The count of neighbours is the number of ones in the neighbour mask." Bit v stands for supervisor v.
+abbrev pub neighbours : List Record → ℕ → ℕ
+neighbours rs m = maskOf (λ v. ltb v (supervisorsOf rs) && neighbour rs m v) 32
+
+-- a step of an event's procedure
+abbrev pub stepIn : List Record → ℕ → ℕ → Found
+stepIn rs e i = findIn (placeBy 0x17 e i 0) rs
+
+abbrev pub operationOf : List Record → ℕ → ℕ → ℕ
+operationOf rs e i = fieldOf field3 (stepIn rs e i)
+
+abbrev pub operandOf : List Record → ℕ → ℕ → ℕ
+operandOf rs e i = fieldOf wordField (stepIn rs e i)

@@ -1,0 +1,1 @@
+// Look-ups on a plan: specs/Plan.antt.

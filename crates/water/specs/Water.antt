@@ -1,0 +1,45 @@
+-- Document 01, "Procedures and water".
+use Prim.Native.Nat.{ℕ, _+_}
+use mathlib.Core.Bool.{Bool, true, false, _&&_}
+use lib.Dec.{eqb, leb, ltb}
+use lib.Ieee.{Float, binary64, ofBits}
+use Rattle.litres.specs.Eighths.{eighths, isEighths, count, litresOk}
+use Rattle.water.specs.declared.Water.{Water}
+use Rattle.water.specs.declared.Flow.{Flow}
+use Rattle.water.specs.declared.Flow.the-variants.{Litres, NoSensor}
+
+-- "Each tick brings a flow reading: litres, or the word that no sensor is fitted. Litres are from 0 to 64, a multiple of 1/8, not minus
+-- zero, infinite or NaN"
+unfoldable pub flowOk : Flow → Bool
+flowOk (Litres x) = litresOk x
+flowOk NoSensor = true
+
+-- target and total where no litres step runs
+abbrev pub noWater : Water
+noWater = record { target = eighths 0; total = eighths 0 }
+
+-- "The water total of a running litres step is one small record of target and total"; "The total starts at 0". The target's bits are the
+-- plan's.
+abbrev pub waterOf : ℕ → Water
+waterOf bits = record { target = ofBits binary64 bits; total = eighths 0 }
+
+-- "The total .. equals the exact sum in eighths"; "Without a sensor the total stays."
+unfoldable pub added : Water → Flow → Water
+added w (Litres x) = record { target = w .target; total = eighths (count (w .total) + count x) }
+added w NoSensor = w
+
+-- "the step ends when it reaches the target"
+abbrev pub reached : Water → Bool
+reached w = leb (count (w .target)) (count (w .total))
+
+-- "fields not used there 0", by their bits
+abbrev pub isZero : Float → Bool
+isZero x = isEighths x && eqb (count x) 0
+
+abbrev pub dry : Water → Bool
+dry w = isZero (w .target) && isZero (w .total)
+
+-- "the target being the plan's and the .. total from 0 to below it, a total a multiple of 1/8 and not minus zero"
+abbrev pub running : ℕ → Water → Bool
+running bits w =
+    isEighths (w .target) && eqb (count (w .target)) (count (ofBits binary64 bits)) && isEighths (w .total) && ltb (count (w .total)) (count (w .target))
