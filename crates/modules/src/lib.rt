@@ -44,3 +44,9 @@ pub struct Replied {
     pub reply: Reply,
     pub own: Own,
 }
+
+// What a call got that has no other answer: done, or the number and the offset.
+pub enum Called {
+    Done,
+    Refused(u8, usize),
+}
