@@ -22,9 +22,9 @@ use Rattle.reader.proofs.Reading.{walks, next, walks-by, told-by}
 use Rattle.writer.specs.Write.{Wrote, answerOf, bufferBy as bufferOf}
 use Rattle.writer.specs.declared.Written.{Written}
 use Rattle.writer.specs.declared.Written.the-variants.{Length as Wrote-length}
-use Rattle.roundtrip.specs.Shape.{Bytes}
-use Rattle.roundtrip.specs.RoundTrip.{written-read}
-use Rattle.roundtrip.specs.TakenApart.{taken-whole}
+use Rattle.roundtrip.specs.Fits.{Bytes}
+use Rattle.roundtrip.proofs.OneRecord.{written-read}
+use Rattle.roundtrip.proofs.TakenApart.{taken-whole}
 use Rattle.rules.specs.Check.{verdictOf, IsPlan}
 use Rattle.rules.specs.declared.Verdict.{Verdict}
 use Rattle.rules.specs.declared.Verdict.the-variants.{Accepted, Refused}

@@ -1,5 +1,7 @@
--- The records that fields of one byte and of eight bytes can hold.
+-- The records that fields of one byte and of eight bytes can hold, and the lists that bytes are.
 use Prim.Native.Nat.{ℕ, _^_, _<_}
+use mathlib.Core.List.{List}
+use lib.ListN.{getD}
 use Rattle.records.specs.declared.Record.{Record}
 use Rattle.records.specs.declared.Record.the-variants.{Head, Event, Module, ModuleMove, Supervisor, SupervisorMove, Disabling, Step, End}
 
@@ -19,3 +21,6 @@ Fits (SupervisorMove v f e t) = Byte v × Byte f × Byte e × Byte t
 Fits (Disabling v st m) = Byte v × Byte st × Word m
 Fits (Step e i o x) = Byte e × Byte i × Byte o × Word x
 Fits End = Unit {0}
+
+abbrev pub Bytes : List ℕ → Type 0
+Bytes b = (j : ℕ) → Byte (getD b j 0)

@@ -1,4 +1,2 @@
 pub mod Fits
-pub mod Shape
 pub mod RoundTrip
-pub mod TakenApart

@@ -1,1 +1,1 @@
-// No code: the theorem that records and their bytes are the same thing, in specs/.
+// No code: that records and their bytes are the same thing is stated in specs/RoundTrip.antt and proved in proofs/.

@@ -1,4 +1,4 @@
-use Rattle.roundtrip.specs.Shape.{Bytes}
+use Rattle.roundtrip.specs.Fits.{Bytes}
 use Rattle.rewrite.proofs.Apart.{refused-by, plan-by, short-by, whole-by}
 use borrow.Author.Needs.{needs}
 use Rattle.rewrite.proofs.rewrite.Statement.{statement}

@@ -13,8 +13,8 @@ use Rattle.reader.specs.Walk.{Walk, more, stop, walkFrom, recordsIn, stopOf, re
 use Rattle.reader.specs.declared.Read.{Read}
 use Rattle.reader.specs.declared.Read.the-variants.{Whole, Unknown, Cut, Nothing}
 use Rattle.reader.proofs.Reading.{walks, next}
-use Rattle.roundtrip.specs.Shape.{Bytes}
-use Rattle.roundtrip.specs.RoundTrip.{written-read}
+use Rattle.roundtrip.specs.Fits.{Bytes}
+use Rattle.roundtrip.proofs.OneRecord.{written-read}
 
 -- the records of a walk from an offset are the bytes up to its end
 record Apart (s : List ℕ) (i : ℕ) (w : Walk) : Type 0 where

@@ -14,7 +14,7 @@ use Rattle.records.specs.Bytes.{bytesOf}
 use Rattle.records.specs.declared.Record.{Record}
 use Rattle.records.specs.declared.Record.the-variants.{Head, Event, Module, ModuleMove, Supervisor, SupervisorMove, Disabling, Step, End}
 use Rattle.reader.specs.Read.{recordOf}
-use Rattle.roundtrip.specs.Fits.{Byte, Word, Fits}
+use Rattle.roundtrip.specs.Fits.{Byte, Word, Fits, Bytes}
 
 -- from a record to its bytes and back
 module _ (t : List ℕ) where
@@ -68,9 +68,6 @@ module _ (P : ℕ → Type 0) (k : ℕ) where
   kinds u a b c d e f g h i =
       is 0x10 a (λ na. is 0x11 b (λ nb. is 0x12 c (λ nc. is 0x13 d (λ nd. is 0x14 e (λ ne. is 0x15 f (λ nf. is 0x16 g (λ ng. is 0x17 h (λ nh. is 0x1f i (λ ni.
       absurd (u (simp (na, nb, nc, nd, ne, nf, ng, nh, ni))))))))))))
-
-abbrev pub Bytes : List ℕ → Type 0
-Bytes b = (j : ℕ) → Byte (getD b j 0)
 
 -- the eight bytes of the number that eight bytes are, and its size
 module _ (s : List ℕ) (o : ℕ) (g : Bytes s) where

@@ -1,0 +1,4 @@
+pub mod Shape
+pub mod OneRecord
+pub mod TakenApart
+pub mod RoundTrips
