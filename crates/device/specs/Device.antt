@@ -125,7 +125,7 @@ abbrev pub startDevice : List Record → Device
 startDevice rs =
     record {
       modules = listFrom (λ m. cond (ltb m (modulesOf rs)) (startOwn rs m) emptyOwn) 0 16;
-      supervisors = listFrom (λ v. cond (ltb v (supervisorsOf rs)) (supervisorInitial rs v) 0) 0 32
+      supervisors = listFrom (λ v. cond (ltb v (supervisorsOf rs)) (supervisorInitial rs v) 0) 0 32;
     }
 
 unfoldable pub startBy : Verdict → List Record → DeviceCalled
