@@ -1,0 +1,3 @@
+pub mod Names
+pub mod Module
+pub mod Supervisor

@@ -1,0 +1,221 @@
+-- Document 01, "Permits and messages": the module's calls on many devices.
+use Prim.Native.Nat.{ℕ, zero, suc, _-_}
+use mathlib.Core.List.{List, [], _∷_, _++_}
+use mathlib.Core.Option.{Option, none, some}
+use mathlib.Core.Bool.{Bool, true, false, cond, not, _&&_, _||_}
+use lib.ListN.{length, replicate}
+use lib.Bits.{bitAnd, bitOr}
+use lib.Dec.{eqb, ltb}
+use Rattle.bits.specs.Bit.{bit, allBelow, least, putBit}
+use Rattle.records.specs.declared.Record.{Record}
+use Rattle.reader.specs.Walk.{recordsOf}
+use Rattle.rules.specs.LookUp.{modulesOf, supervisorsOf}
+use Rattle.rules.specs.Check.{verdictOf}
+use Rattle.rules.specs.declared.Verdict.{Verdict}
+use Rattle.rules.specs.declared.Verdict.the-variants.{Accepted, Refused}
+use Rattle.plan.specs.Plan.{inAlphabet, neighbours}
+use Rattle.water.specs.declared.Flow.{Flow}
+use Rattle.modules.specs.declared.Own.{Own}
+use Rattle.modules.specs.declared.Turn.{Turn}
+use Rattle.modules.specs.declared.Turn.the-variants.{Event, Stray, Nothing}
+use Rattle.modules.specs.declared.Turned.{Turned}
+use Rattle.modules.specs.declared.Reply.{Reply}
+use Rattle.modules.specs.declared.Reply.the-variants.{Taken, Refused as Denied}
+use Rattle.modules.specs.declared.Replied.{Replied}
+use Rattle.modules.specs.declared.Called.{Called}
+use Rattle.modules.specs.declared.Called.the-variants.{Done, Refused as CallRefused}
+use Rattle.modules.specs.Procedure.{idle, tickOf, respondOf}
+use Rattle.modules.specs.Turn.{turnOf, wish, startOwn}
+use Rattle.modules.specs.Fits.{ownFits}
+use Rattle.messages.specs.Message.{noEvent, messageBytes, parse}
+use Rattle.messages.specs.declared.Message.{Message}
+use Rattle.messages.specs.declared.Message.the-variants.{Bid, Permit, Release}
+use Rattle.messages.specs.declared.Parsed.{Parsed}
+use Rattle.messages.specs.declared.Parsed.the-variants.{Whole, Misshapen}
+use Rattle.permits.specs.declared.Module.{Module}
+use Rattle.permits.specs.declared.Stepped.{Stepped}
+use Rattle.permits.specs.declared.Stepped.the-variants.{Turned as Turns, Bids, Waits, Refused as StepRefused}
+use Rattle.permits.specs.Names.{named, short, written}
+
+-- the lowest neighbour whose permit is not held
+unfoldable pub missing : List Record → ℕ → ℕ → Option ℕ
+missing rs m held = least (λ v. bit (neighbours rs m) v && not (bit held v)) 32
+
+unfoldable pub isSome : Option ℕ → Bool
+isSome none = false
+isSome (some v) = true
+
+-- "held permits are the module's lowest neighbours"
+unfoldable pub heldFits : List Record → ℕ → ℕ → Bool
+heldFits rs m held =
+    allBelow (λ v. not (bit held v) || (bit (neighbours rs m) v && allBelow (λ w. not (bit (neighbours rs m) w) || bit held w) v)) 32
+
+-- "the received mask is 0 when none is held, a bid is outstanding only while one is missing", and the clauses of the own part
+unfoldable pub moduleFits : List Record → ℕ → Module → Bool
+moduleFits rs m x =
+    heldFits rs m (x .held) && (not (eqb (x .held) 0) || eqb (x .received) 0) && (not (x .bid) || isSome (missing rs m (x .held))) && ownFits rs m (x .own)
+
+-- what a module step does
+pub data Choice : Type 0 where
+  takesTurn waits : Choice
+  bidsTo : ℕ → Choice
+
+-- "Module step: with every neighbour's permit held, it takes a turn .. Otherwise, with no bid outstanding and either a permit held or a wish,
+-- it bids to its lowest neighbour not held. Otherwise it waits. .. A module without neighbours takes its turn if it has a wish, else waits."
+-- The arguments: the lowest neighbour not held, whether there are neighbours, a wish, a bid outstanding, a permit held.
+unfoldable pub choiceOn : Option ℕ → Bool → Bool → Bool → Bool → Choice
+choiceOn none true w b h = takesTurn
+choiceOn none false true b h = takesTurn
+choiceOn none false false b h = waits
+choiceOn (some v) n w true h = waits
+choiceOn (some v) n w false true = bidsTo v
+choiceOn (some v) n true false false = bidsTo v
+choiceOn (some v) n false false false = waits
+
+unfoldable pub choice : List Record → ℕ → Module → Choice
+choice rs m x = choiceOn (missing rs m (x .held)) (not (eqb (neighbours rs m) 0)) (wish rs m (x .own)) (x .bid) (not (eqb (x .held) 0))
+
+-- "it takes a turn over the union of the masks received, releases all .. and holds none"
+abbrev pub turnTaken : List Record → ℕ → Module → Turned
+turnTaken rs m x = turnOf rs m (x .received) (x .own)
+
+abbrev pub afterTurn : Module → Own → Module
+afterTurn x own = record { own = own; held = 0; received = 0; bid = x .bid }
+
+-- "A release carries the event that fired if that supervisor's alphabet has it, else FF."
+unfoldable pub eventFor : List Record → ℕ → Turn → ℕ
+eventFor rs v (Event e) = cond (inAlphabet rs v e) e noEvent
+eventFor rs v (Stray e) = noEvent
+eventFor rs v Nothing = noEvent
+
+-- "releases all in ascending order": those of the neighbours below n
+unfoldable pub releases : List Record → ℕ → Turn → ℕ → List Message
+releases rs m t zero = []
+releases rs m t (suc n) = releases rs m t n ++ cond (bit (neighbours rs m) n) (Release m n (eventFor rs n t) ∷ []) []
+
+unfoldable pub bytesOfMessages : List Message → List ℕ
+bytesOfMessages [] = []
+bytesOfMessages (g ∷ gs) = messageBytes g ++ bytesOfMessages gs
+
+abbrev pub afterBid : Module → Module
+afterBid x = record { own = x .own; held = x .held; received = x .received; bid = true }
+
+-- the messages that a step sends, each by itself
+unfoldable pub sentBy : List Record → ℕ → Module → Choice → List Message
+sentBy rs m x takesTurn = releases rs m (turnTaken rs m x .turn) 32
+sentBy rs m x (bidsTo v) = Bid m v ∷ []
+sentBy rs m x waits = []
+
+abbrev pub stepBytes : List Record → ℕ → Module → Choice → List ℕ
+stepBytes rs m x c = bytesOfMessages (sentBy rs m x c)
+
+-- an accepted step: its answer with the bytes written, and the state after it
+unfoldable pub answerBy : List Record → ℕ → Module → Choice → Stepped
+answerBy rs m x takesTurn = Turns (turnTaken rs m x .turn) (length (stepBytes rs m x takesTurn))
+answerBy rs m x (bidsTo v) = Bids v (length (stepBytes rs m x (bidsTo v)))
+answerBy rs m x waits = Waits
+
+unfoldable pub stateBy : List Record → ℕ → Module → Choice → Module
+stateBy rs m x takesTurn = afterTurn x (turnTaken rs m x .own)
+stateBy rs m x (bidsTo v) = afterBid x
+stateBy rs m x waits = x
+
+-- a whole call: its answer, the state after it, the buffer's final contents, and the messages sent
+pub record StepCall : Type 0 where
+  pub answer : Stepped
+  pub state : Module
+  pub buffer : List ℕ
+  pub sent : List Message
+
+abbrev pub stepRefused : Module → List ℕ → ℕ → ℕ → StepCall
+stepRefused x b n o = record { answer = StepRefused n o; state = x; buffer = b; sent = [] }
+
+-- the smallest number that applies: 11 for a module that the plan lacks, which has no state to judge; then 9; then 15
+unfoldable pub stepIn : List Record → ℕ → Module → List ℕ → Choice → StepCall
+stepIn rs m x b c =
+    cond (short (stepBytes rs m x c) b) (stepRefused x b 15 0)
+    (record { answer = answerBy rs m x c; state = stateBy rs m x c; buffer = written (stepBytes rs m x c) b; sent = sentBy rs m x c })
+
+unfoldable pub stepBy : Verdict → List Record → ℕ → Module → List ℕ → StepCall
+stepBy Accepted rs m x b =
+    cond (ltb m (modulesOf rs)) (cond (moduleFits rs m x) (stepIn rs m x b (choice rs m x)) (stepRefused x b 9 0)) (stepRefused x b 11 0)
+stepBy (Refused n o) rs m x b = stepRefused x b n o
+
+abbrev pub moduleStep : List ℕ → ℕ → Module → List ℕ → StepCall
+moduleStep image m x b = stepBy (verdictOf image) (recordsOf image) m x b
+
+-- a call without a buffer
+pub record ModuleCall : Type 0 where
+  pub answer : Called
+  pub state : Module
+
+abbrev pub callRefused : Module → ℕ → ℕ → ModuleCall
+callRefused x n o = record { answer = CallRefused n o; state = x }
+
+-- "A module accepts a permit only from the supervisor it has a bid with, and takes its mask as it is." The bid is with the lowest neighbour
+-- not held.
+unfoldable pub bidWith : List Record → ℕ → Module → ℕ → Bool
+bidWith rs m x v = x .bid && isFor (missing rs m (x .held)) v
+  where
+    isFor : Option ℕ → ℕ → Bool
+    isFor none v = false
+    isFor (some w) v = eqb w v
+
+abbrev pub afterPermit : Module → ℕ → ℕ → Module
+afterPermit x v k = record { own = x .own; held = putBit (x .held) v true; received = bitOr (x .received) k; bid = false }
+
+-- "A message that names another party than the one given it, or is of a kind that party never takes, is 12."
+unfoldable pub takenBy : List Record → ℕ → Module → Message → ModuleCall
+takenBy rs m x (Bid n v) = callRefused x 12 0
+takenBy rs m x (Permit v n k) = cond (eqb n m && bidWith rs m x v) (record { answer = Done; state = afterPermit x v k }) (callRefused x 12 0)
+takenBy rs m x (Release n v e) = callRefused x 12 0
+
+-- 9, then 10, then 11, then 12
+unfoldable pub deliverIn : List Record → ℕ → Module → Parsed → ModuleCall
+deliverIn rs m x Misshapen = callRefused x 10 0
+deliverIn rs m x (Whole g) = cond (named rs g) (takenBy rs m x g) (callRefused x 11 0)
+
+-- a module that the plan lacks has no state to judge: 10 or 11
+unfoldable pub absent : Module → Parsed → ModuleCall
+absent x Misshapen = callRefused x 10 0
+absent x (Whole g) = callRefused x 11 0
+
+unfoldable pub deliverBy : Verdict → List Record → ℕ → Module → Parsed → ModuleCall
+deliverBy Accepted rs m x g = cond (ltb m (modulesOf rs)) (cond (moduleFits rs m x) (deliverIn rs m x g) (callRefused x 9 0)) (absent x g)
+deliverBy (Refused n o) rs m x g = callRefused x n o
+
+abbrev pub moduleDeliver : List ℕ → ℕ → Module → List ℕ → ModuleCall
+moduleDeliver image m x bytes = deliverBy (verdictOf image) (recordsOf image) m x (parse bytes)
+
+-- a response and a tick, as on one device
+abbrev pub withOwn : Module → Own → Module
+withOwn x own = record { own = own; held = x .held; received = x .received; bid = x .bid }
+
+unfoldable pub answerOf : Reply → Called
+answerOf Taken = Done
+answerOf (Denied n) = CallRefused n 0
+
+unfoldable pub replyBy : Verdict → List Record → ℕ → Module → Replied → ModuleCall
+replyBy Accepted rs m x r =
+    cond (ltb m (modulesOf rs)) (cond (moduleFits rs m x) (record { answer = answerOf (r .reply); state = withOwn x (r .own) }) (callRefused x 9 0)) (callRefused x 11 0)
+replyBy (Refused n o) rs m x r = callRefused x n o
+
+abbrev pub moduleRespond : List ℕ → ℕ → Module → ℕ → ModuleCall
+moduleRespond image m x e = replyBy (verdictOf image) (recordsOf image) m x (respondOf (recordsOf image) m e (x .own))
+
+abbrev pub moduleTick : List ℕ → ℕ → Module → Flow → ModuleCall
+moduleTick image m x f = replyBy (verdictOf image) (recordsOf image) m x (tickOf (recordsOf image) f (x .own))
+
+-- "At the start all are in their initial states, permits are home, nothing is noted, queued or bid"
+abbrev pub emptyModule : Module
+emptyModule = record { own = record { state = 0; queue = replicate 8 0; length = 0; procedure = idle; outputs = 0 }; held = 0; received = 0; bid = false }
+
+abbrev pub startModule : List Record → ℕ → Module
+startModule rs m = record { own = startOwn rs m; held = 0; received = 0; bid = false }
+
+unfoldable pub startBy : Verdict → List Record → ℕ → ModuleCall
+startBy Accepted rs m = cond (ltb m (modulesOf rs)) (record { answer = Done; state = startModule rs m }) (callRefused emptyModule 11 0)
+startBy (Refused n o) rs m = callRefused emptyModule n o
+
+abbrev pub moduleStart : List ℕ → ℕ → ModuleCall
+moduleStart image m = startBy (verdictOf image) (recordsOf image) m

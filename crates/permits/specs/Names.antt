@@ -1,0 +1,34 @@
+-- What a message names, and room for an answer. Document 01, "Numbers for what is turned down", 11, 12 and 15.
+use Prim.Native.Nat.{ℕ}
+use mathlib.Core.List.{List, _++_}
+use mathlib.Core.Bool.{Bool, true, false, cond, not, _&&_, _||_}
+use lib.ListN.{length, drop}
+use lib.Dec.{eqb, ltb}
+use Rattle.records.specs.declared.Record.{Record}
+use Rattle.rules.specs.LookUp.{modulesOf, supervisorsOf, eventsOf, ownerOf}
+use Rattle.plan.specs.Plan.{inAlphabet, neighbour}
+use Rattle.messages.specs.Message.{noEvent}
+use Rattle.messages.specs.declared.Message.{Message}
+use Rattle.messages.specs.declared.Message.the-variants.{Bid, Permit, Release}
+
+-- a module and a supervisor of the plan that are neighbours
+abbrev pub neighbours? : List Record → ℕ → ℕ → Bool
+neighbours? rs m v = ltb m (modulesOf rs) && ltb v (supervisorsOf rs) && neighbour rs m v
+
+-- "an event outside the alphabet or of another module is 11"
+abbrev pub eventNamed : List Record → ℕ → ℕ → ℕ → Bool
+eventNamed rs m v e = ltb e (eventsOf rs) && inAlphabet rs v e && eqb (ownerOf rs e) m
+
+-- 11: "number not in the plan; supervisor not the module's neighbour", judged on what the message itself names
+unfoldable pub named : List Record → Message → Bool
+named rs (Bid m v) = neighbours? rs m v
+named rs (Permit v m k) = neighbours? rs m v
+named rs (Release m v e) = neighbours? rs m v && (eqb e noEvent || eventNamed rs m v e)
+
+-- 15: "output buffer shorter than the answer"
+abbrev pub short : List ℕ → List ℕ → Bool
+short answer buffer = ltb (length buffer) (length answer)
+
+-- "An accepted call writes its answer from the buffer's start and nothing else."
+abbrev pub written : List ℕ → List ℕ → List ℕ
+written answer buffer = answer ++ drop (length answer) buffer
