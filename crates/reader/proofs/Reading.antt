@@ -16,8 +16,8 @@ use Rattle.records.specs.Kinds.{bodyLen, noLen}
 use Rattle.records.specs.Key.{placeOf, samePlace}
 use Rattle.records.specs.declared.Record.{Record}
 use Rattle.records.specs.declared.Place.{Place}
-use Rattle.reader.specs.Read.{recordOf, readAt}
-use Rattle.reader.specs.Walk.{Walk, more, stop, walkOf, walkFrom, recordsIn}
+use Rattle.reader.specs.Read.{recordOf, readAt, readNumber}
+use Rattle.reader.specs.Walk.{Walk, more, stop, walkOf, walkFrom, recordsIn, Stopped, StopsAsRead}
 use Rattle.reader.specs.Find.{findIn}
 use Rattle.reader.specs.declared.Read.{Read}
 use Rattle.reader.specs.declared.Read.the-variants.{Whole, Unknown, Cut, Nothing}
@@ -114,6 +114,16 @@ module _ (s : List ℕ) (i : ℕ) where
       go : (a : Bool) → leb (length s) i ≡ a → walkFrom s i ≡ next s i (readAt s i)
       go true p = rw (reads-nothing s i (leb-true _ _ p), drop-of-length-le s (leb-true _ _ p))
       go false p = rw (drop-cons s i 0 (leb-false _ _ p), p) (here (getD s i 0) _ _ refl refl)
+
+-- where a read is refused, the walk stops as it says
+pub stops-as-read : StopsAsRead
+stops-as-read s i = go (readAt s i) (walks s i) (seen s i)
+  where
+    go : (r : Read) → walkFrom s i ≡ next s i r → Seen s i r → (readNumber r ≡ 0 → ⊥) → Stopped s i r
+    go (Whole r n) w k h = absurd (h refl)
+    go Unknown w k h = record { at = i; stops = w; offset = λ l. refl }
+    go Cut w k h = record { at = i; stops = w; offset = λ l. refl }
+    go Nothing w k h = record { at = i; stops = w; offset = λ l. let g : length s ≤ i = k in omega arith }
 
 -- the same, from what a caller of `read_at` is told: its answer r, and which case r is
 module _ (s : List ℕ) (i : ℕ) {r : Read} where

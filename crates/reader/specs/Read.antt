@@ -30,3 +30,17 @@ readAt s at =
     (cond (leb (bodyLen (getD s at 0)) (length s - (at + 1)))
     (Whole (recordOf (getD s at 0) (drop (at + 1) s)) (at + 1 + bodyLen (getD s at 0)))
     Cut))
+
+-- Document 01, "Numbers for what is turned down": 2 is "unknown kind", 3 is "body cut, or no end record"; 0 for a whole record
+abbrev pub readNumber : Read → ℕ
+readNumber (Whole r n) = 0
+readNumber Unknown = 2
+readNumber Cut = 3
+readNumber Nothing = 3
+
+-- the offset: "that of the faulty record's kind byte, the image length where no record is left"
+abbrev pub readOffset : List ℕ → ℕ → Read → ℕ
+readOffset s at (Whole r n) = at
+readOffset s at Unknown = at
+readOffset s at Cut = at
+readOffset s at Nothing = length s

@@ -1,12 +1,14 @@
 -- An image as a walk of records.
-use Prim.Native.Nat.{ℕ, zero, suc}
+use Prim.Native.Nat.{ℕ, zero, suc, _≤_}
+use mathlib.Core.Path.{_≡_}
 use mathlib.Core.List.{List, [], _∷_}
 use mathlib.Core.Bool.{cond}
 use lib.ListN.{length, drop}
 use lib.Dec.{leb, eqb}
 use Rattle.records.specs.Kinds.{bodyLen, noLen}
-use Rattle.reader.specs.Read.{recordOf}
+use Rattle.reader.specs.Read.{recordOf, readAt, readNumber, readOffset}
 use Rattle.records.specs.declared.Record.{Record}
+use Rattle.reader.specs.declared.Read.{Read}
 
 -- a whole record at an offset, and what follows it; or the number and the offset at which nothing more can be read: 2 for an unknown
 -- kind, 3 for a cut body and where no record is left
@@ -39,3 +41,12 @@ stopOf (stop n o) = o
 -- the records of an image
 abbrev pub recordsOf : List ℕ → List Record
 recordsOf s = recordsIn (walkFrom s 0)
+
+-- where a read r at an offset i is refused, the walk stops with its number and, at or before the image's end, its offset
+pub record Stopped (s : List ℕ) (i : ℕ) (r : Read) : Type 0 where
+  pub at : ℕ
+  pub stops : walkFrom s i ≡ stop (readNumber r) at
+  pub offset : i ≤ length s → at ≡ readOffset s i r
+
+abbrev pub StopsAsRead : Type 0
+StopsAsRead = (s : List ℕ) (i : ℕ) → (readNumber (readAt s i) ≡ 0 → ⊥) → Stopped s i (readAt s i)
