@@ -53,7 +53,7 @@ read-wrote r b a n f w =
     let e : n ≡ 0 + sizeOf r = go (inRange r) (ltb (length b) (sizeOf r)) (w .answer) in
     rw (w .buffer) (read-written r [] (drop n b) f ∙ ap (Whole r) (sym e))
   where
-    go : (p q : Bool) → Length n ≡ cond p (cond q (Refused 15) (Length (sizeOf r))) (Refused 5) → n ≡ 0 + sizeOf r
+    go : (p q : Bool) → Length n ≡ cond p (cond q (Refused 15 0) (Length (sizeOf r))) (Refused 5 0) → n ≡ 0 + sizeOf r
     go true true e = let z : _≡_ {A = ℕ} 0 1 = cc in absurd (omega arith)
     go true false e = let z : n ≡ sizeOf r = cc in omega arith
     go false q e = let z : _≡_ {A = ℕ} 0 1 = cc in absurd (omega arith)

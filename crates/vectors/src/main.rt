@@ -307,7 +307,7 @@ fn say_written(w: Written) {
             say(b"length");
             say_field(n as u64);
         }
-        Written::Refused(number) => {
+        Written::Refused(number, _) => {
             say(b"refused");
             say_field(number as u64);
         }

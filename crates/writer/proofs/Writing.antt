@@ -47,14 +47,14 @@ module _ (r : Record) {k l m : ℕ} where
   pub room-by : {n : ℕ} → k ≡ kindOf r → l ≡ bodyLen k → m ≡ l → m + 1 ≤ n → sizeOf r ≤ n
   room-by {n = n} e f g h = subst (λ (x : ℕ). x ≤ n) (size-by e f g) h
 
-pub out-by : (r : Record) (b : List ℕ) {t : Bool} → t ≡ inRange r → t ≡ false → Wrote r b (Refused 5) b
+pub out-by : (r : Record) (b : List ℕ) {t : Bool} → t ≡ inRange r → t ≡ false → Wrote r b (Refused 5 0) b
 unfolding answerOf
 out-by r b e f =
     let a : inRange r ≡ false = cc in
     record { answer = simp a; buffer = refl }
 
 module _ (r : Record) (b : List ℕ) {t : Bool} {k l m : ℕ} where
-  pub short-by : t ≡ inRange r → t ≡ true → k ≡ kindOf r → l ≡ bodyLen k → m ≡ l → length b < m + 1 → Wrote r b (Refused 15) b
+  pub short-by : t ≡ inRange r → t ≡ true → k ≡ kindOf r → l ≡ bodyLen k → m ≡ l → length b < m + 1 → Wrote r b (Refused 15 0) b
   unfolding answerOf
   short-by p q e f g h =
       let a : inRange r ≡ true = cc in

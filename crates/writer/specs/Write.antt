@@ -1,5 +1,5 @@
--- The writer of one record. Document 01, "Numbers": "The writer of one record gives 5 or 15 only, at offset 0"; 15 is "output buffer
--- shorter than the answer"; "An accepted call writes its answer from the buffer's start and nothing else."
+-- The writer of one record. Document 01, "Numbers for what is turned down": "The writer of one record gives 5 or 15 only, at offset 0."
+-- 15 is "output buffer shorter than the answer"; "An accepted call writes its answer from the buffer's start and nothing else."
 use Prim.Native.Nat.{ℕ}
 use mathlib.Core.Path.{_≡_}
 use mathlib.Core.List.{List, _++_}
@@ -13,14 +13,14 @@ use Rattle.records.specs.declared.Record.{Record}
 use Rattle.writer.specs.declared.Written.{Written}
 use Rattle.writer.specs.declared.Written.the-variants.{Length, Refused}
 
--- the length written, or the number
+-- the length written, or the number and the offset
 unfoldable pub answerOf : Record → List ℕ → Written
-answerOf r b = cond (inRange r) (cond (ltb (length b) (sizeOf r)) (Refused 15) (Length (sizeOf r))) (Refused 5)
+answerOf r b = cond (inRange r) (cond (ltb (length b) (sizeOf r)) (Refused 15 0) (Length (sizeOf r))) (Refused 5 0)
 
 -- the buffer afterwards: the record's bytes from its start and the rest as it was; as it came, if the record is refused
 abbrev pub bufferBy : Written → Record → List ℕ → List ℕ
 bufferBy (Length n) r b = bytesOf r ++ drop n b
-bufferBy (Refused n) r b = b
+bufferBy (Refused n o) r b = b
 
 -- the whole answer and the final contents of the buffer
 pub record Wrote (r : Record) (b : List ℕ) (w : Written) (after : List ℕ) : Type 0 where

@@ -9,10 +9,10 @@ ghost use Rattle.records.specs.Bytes.{bytesOf};
 ghost use Rattle.writer.specs.Write.{Wrote};
 use records::Record;
 
-// The length written, or the number: 5 or 15.
+// The length written, or the number, 5 or 15, and the offset, 0.
 pub enum Written {
     Length(usize),
-    Refused(u8),
+    Refused(u8, usize),
 }
 
 // The four bytes from the slice's start.
@@ -106,11 +106,11 @@ pub fn write(r: Record, buf: &mut [u8]) -> Written
     if records::in_range(r) {
         let n = words::wide(records::body_len(records::kind_of(r))) + 1;
         if buf.len() < n {
-            return Written::Refused(15);
+            return Written::Refused(15, 0);
         }
         put_record(r, &mut *buf);
         Written::Length(n)
     } else {
-        Written::Refused(5)
+        Written::Refused(5, 0)
     }
 }
