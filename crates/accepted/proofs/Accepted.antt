@@ -8,11 +8,11 @@ use lib.Dec.{T, ltb, leb→le}
 use Rattle.bits.specs.Bit.{allBelow}
 use Rattle.bits.proofs.Laws.{all-at, holds}
 use Rattle.records.specs.Kinds.{kindOf}
-use Rattle.records.specs.Key.{placeBy, placeOf}
+use Rattle.records.specs.Key.{keyBy, keyOf}
 use Rattle.records.specs.Range.{inRange}
 use Rattle.records.specs.declared.Record.{Record}
 use Rattle.records.specs.declared.Record.the-variants.{Head, Event, Module, Supervisor, Step, End}
-use Rattle.records.specs.declared.Place.{Place}
+use Rattle.records.specs.declared.RecordKey.{RecordKey}
 use Rattle.reader.specs.Find.{findIn}
 use Rattle.reader.specs.Walk.{recordsOf}
 use Rattle.reader.specs.declared.Found.{Found}
@@ -37,32 +37,32 @@ record Counts (f : Found) : Type 0 where
 -- ---- the records of a plan in their order, from the same records, latest first
 
 module _ (latest all : List Record) (v : Valid latest) (ended : End ∈ latest) (to : (r : Record) → r ∈ latest → r ∈ all) (from : (r : Record) → r ∈ all → r ∈ latest) where
-  one-place : Unique all
-  one-place r t m n = unique latest v r t (from r m) (from t n)
+  one-key : Unique all
+  one-key r t m n = unique latest v r t (from r m) (from t n)
 
-  place : (r : Record) → r ∈ all → At all r
-  place r m =
+  stands : (r : Record) → r ∈ all → At all r
+  stands r m =
       let a = at latest v r (from r m) in
       record { before = a .before; valid = a .valid; passed = a .passed; within = λ t n. to t (a .within t n) }
 
-  same : {r : Record} (a : At all r) (p : Place) → T (found (findIn p (a .before))) → findIn p (a .before) ≡ findIn p all
-  same a = found-more (a .before) all one-place (a .within)
+  same : {r : Record} (a : At all r) (p : RecordKey) → T (found (findIn p (a .before))) → findIn p (a .before) ≡ findIn p all
+  same a = found-more (a .before) all one-key (a .within)
 
   laws : (r : Record) → r ∈ all → LawOf all r
-  laws r m = let a = place r m in law (a .before) all (same a) r (a .passed)
+  laws r m = let a = stands r m in law (a .before) all (same a) r (a .passed)
 
   ranges : (r : Record) → r ∈ all → inRange r ≡ true
-  ranges r m = place r m .passed .range
+  ranges r m = stands r m .passed .range
 
   no-gap : (e i o x : ℕ) → Step e i o x ∈ all → (j : ℕ) → j < i → TheStep all e j
   no-gap e i o x m j h =
-      let a = place (Step e i o x) m in
+      let a = stands (Step e i o x) m in
       let s = steps-listed (a .before) (a .valid) e j (subst (λ (k : ℕ). j < k) (index-is (a .before) e i o x (a .passed .order)) h) in
       record { operation = s .operation; operand = s .operand; listed = a .within (Step e j (s .operation) (s .operand)) (s .listed) }
 
   -- what stands before the end record has every number that the head promises
   last : At all End
-  last = place End (to End ended)
+  last = stands End (to End ended)
 
   start : TheHead (last .before)
   unfolding inOrder kindOf
@@ -72,7 +72,7 @@ module _ (latest all : List Record) (v : Valid latest) (ended : End ∈ latest) 
   first = Head (start .modules) (start .supervisors) (start .events)
 
   head-found : findIn head (last .before) ≡ It first
-  unfolding placeOf first
+  unfolding keyOf first
   head-found = finds (last .before) (unique (last .before) (last .valid)) first (start .listed)
 
   head-same : findIn head (last .before) ≡ findIn head all
@@ -92,13 +92,13 @@ module _ (latest all : List Record) (v : Valid latest) (ended : End ∈ latest) 
 
   -- the record of kind k of each number below the count that the head's field f gives
   declared : (k : ℕ) (f : Record → ℕ) → let n = fieldOf f (findIn head (last .before)) in
-      T (allBelow (λ i. ltb i n && found (findIn (placeBy k i 0 0) (last .before))) n)
+      T (allBelow (λ i. ltb i n && found (findIn (keyBy k i 0 0) (last .before))) n)
       → (i : ℕ) → i < fieldOf f (findIn head all) → (r : Record) × (remade k i r ∈ all)
   declared k f t i h =
       let n : ℕ = fieldOf f (findIn head (last .before)) in
-      let d : T (ltb i n && found (findIn (placeBy k i 0 0) (last .before))) = all-at _ n t i (subst (λ (l : Found). i < fieldOf f l) (sym head-same) h) in
-      let s = some-found (placeBy k i 0 0) (last .before) (search both) in
-      (s .0, Memᴰ·cast (sym (shape k i (s .0) (ap (λ (p : Place). p .kind) (s .2)) (ap (λ (p : Place). p .first) (s .2)))) (last .within (s .0) (s .1)))
+      let d : T (ltb i n && found (findIn (keyBy k i 0 0) (last .before))) = all-at _ n t i (subst (λ (l : Found). i < fieldOf f l) (sym head-same) h) in
+      let s = some-found (keyBy k i 0 0) (last .before) (search both) in
+      (s .0, Memᴰ·cast (sym (shape k i (s .0) (ap (λ (p : RecordKey). p .kind) (s .2)) (ap (λ (p : RecordKey). p .first) (s .2)))) (last .within (s .0) (s .1)))
 
   the-event : (e : ℕ) → e < eventsOf all → TheEvent all e
   unfolding allDeclared inRange
@@ -152,8 +152,8 @@ module _ (latest all : List Record) (v : Valid latest) (ended : End ∈ latest) 
     modules = counts .modules;
     supervisors = counts .supervisors;
     events = counts .events;
-    unique = one-place;
-    finds = finds all one-place;
+    unique = one-key;
+    finds = finds all one-key;
     ranges = ranges;
     laws = laws;
     the-event = the-event;

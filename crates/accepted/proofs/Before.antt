@@ -10,7 +10,7 @@ use lib.Dec.{T, eqb, eqb→eq}
 use borrow.Author.Tests.{eqb-true}
 use Rattle.bits.proofs.Laws.{holds}
 use Rattle.records.specs.Kinds.{kindOf}
-use Rattle.records.specs.Key.{placeOf}
+use Rattle.records.specs.Key.{keyOf}
 use Rattle.records.specs.declared.Record.{Record}
 use Rattle.records.specs.declared.Record.the-variants.{Head, Step}
 use Rattle.rules.specs.LookUp.{field1, field2, field3, wordField, stepsOf}
@@ -70,20 +70,20 @@ index-is (p ∷ rs) e i o x h = let t : T (inOrder (p ∷ rs) (Step e i o x)) = 
 pub steps-listed : (rs : List Record) → Valid rs → (e j : ℕ) → j < stepsOf rs e → TheStep rs e j
 unfolding Valid stepsOf
 steps-listed [] v e j h = absurd (omega arith)
-steps-listed (r ∷ rs) v e j h = go (eqb (placeOf r .kind) 0x17 && eqb (placeOf r .first) e) refl h (steps-listed rs (v .1) e j)
+steps-listed (r ∷ rs) v e j h = go (eqb (keyOf r .kind) 0x17 && eqb (keyOf r .first) e) refl h (steps-listed rs (v .1) e j)
   where
     later : TheStep rs e j → TheStep (r ∷ rs) e j
     later s = record { operation = s .operation; operand = s .operand; listed = List·Memᴰ·tail (s .listed) }
 
-    go : (b : Bool) → (eqb (placeOf r .kind) 0x17 && eqb (placeOf r .first) e) ≡ b → j < cond b (suc (stepsOf rs e)) (stepsOf rs e)
+    go : (b : Bool) → (eqb (keyOf r .kind) 0x17 && eqb (keyOf r .first) e) ≡ b → j < cond b (suc (stepsOf rs e)) (stepsOf rs e)
         → (j < stepsOf rs e → TheStep rs e j) → TheStep (r ∷ rs) e j
     go false q h f = later (f h)
     go true q h f = ⊎-elim here (λ l. later (f l)) (eq-or-lt-of-le (le-of-suc-le-suc h))
       where
         is : r ≡ Step e (field2 r) (field3 r) (wordField r)
         is =
-            let t : T (eqb (placeOf r .kind) 0x17 && eqb (placeOf r .first) e) = holds q in
-            shape 0x17 e r (eqb→eq (placeOf r .kind) 0x17 (search both)) (eqb→eq (placeOf r .first) e (search both))
+            let t : T (eqb (keyOf r .kind) 0x17 && eqb (keyOf r .first) e) = holds q in
+            shape 0x17 e r (eqb→eq (keyOf r .kind) 0x17 (search both)) (eqb→eq (keyOf r .first) e (search both))
 
         index : field2 r ≡ stepsOf rs e
         index = index-is rs e (field2 r) (field3 r) (wordField r) (ap (inOrder rs) (sym is) ∙ passes rs r (v .0) .order)

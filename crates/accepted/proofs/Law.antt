@@ -7,11 +7,11 @@ use lib.Dec.{T, eqb, ltb, ltb→lt, leb→le, eqb→eq}
 use borrow.Author.Tests.{eq-eqb, not-true}
 use Rattle.bits.specs.Bit.{bit, everyEvent}
 use Rattle.bits.proofs.Laws.{all-at, holds, is-true}
-use Rattle.records.specs.Key.{placeBy}
+use Rattle.records.specs.Key.{keyBy}
 use Rattle.records.specs.Range.{inRange, operandInRange}
 use Rattle.records.specs.declared.Record.{Record}
 use Rattle.records.specs.declared.Record.the-variants.{Head, Event, Module, ModuleMove, Supervisor, SupervisorMove, Disabling, Step, End}
-use Rattle.records.specs.declared.Place.{Place}
+use Rattle.records.specs.declared.RecordKey.{RecordKey}
 use Rattle.reader.specs.Find.{findIn}
 use Rattle.reader.specs.declared.Found.{Found}
 use Rattle.rules.specs.LookUp.{field1, field2, field3, wordField, found, fieldOf, eventsOf, eventIn, eventDeclared, supervisorDeclared, ownerOf, controllable, alphabetOf}
@@ -27,9 +27,9 @@ under a b e t = subst (λ (x : Bool). T (not x || b)) e t
 each : (m : ℕ) (p : ℕ → Bool) → T (everyEvent m p) → EachOf m (λ e. T (p e))
 each m p t e h b = under (bit m e) (p e) b (all-at _ 64 t e h)
 
-module _ (some all : List Record) (same : (p : Place) → T (found (findIn p some)) → findIn p some ≡ findIn p all) where
+module _ (some all : List Record) (same : (p : RecordKey) → T (found (findIn p some)) → findIn p some ≡ findIn p all) where
   -- a number below a field is below it among all the records
-  below : (f : Record → ℕ) (p : Place) (x : ℕ) → T (ltb x (fieldOf f (findIn p some))) → x < fieldOf f (findIn p all)
+  below : (f : Record → ℕ) (p : RecordKey) (x : ℕ) → T (ltb x (fieldOf f (findIn p some))) → x < fieldOf f (findIn p all)
   below f p x t =
       let h : x < fieldOf f (findIn p some) = ltb→lt x (fieldOf f (findIn p some)) t in
       subst (λ (l : Found). x < fieldOf f l) (same p (found-field f x (findIn p some) h)) h
@@ -38,7 +38,7 @@ module _ (some all : List Record) (same : (p : Place) → T (found (findIn p som
   event-below e t = below field3 head e (search both)
 
   event-same : (e : ℕ) → T (eventDeclared some e) → eventIn some e ≡ eventIn all e
-  event-same e t = same (placeBy 0x11 e 0 0) (search both)
+  event-same e t = same (keyBy 0x11 e 0 0) (search both)
 
   owner-same : (e : ℕ) → T (eventDeclared some e) → ownerOf some e ≡ ownerOf all e
   owner-same e t = ap (fieldOf field2) (event-same e t)
@@ -47,7 +47,7 @@ module _ (some all : List Record) (same : (p : Place) → T (found (findIn p som
   class-same e t = ap (λ (l : Found). eqb (fieldOf field3 l) 1) (event-same e t)
 
   alphabet-same : (v : ℕ) → T (supervisorDeclared some v) → alphabetOf some v ≡ alphabetOf all v
-  alphabet-same v t = ap (fieldOf wordField) (same (placeBy 0x14 v 0 0) (search both))
+  alphabet-same v t = ap (fieldOf wordField) (same (keyBy 0x14 v 0 0) (search both))
 
   pub law : (r : Record) → Passes some r → LawOf all r
   unfolding namesDeclared keepsRules inRange
@@ -62,9 +62,9 @@ module _ (some all : List Record) (same : (p : Place) → T (found (findIn p som
       let named : T (namesDeclared some (ModuleMove m f e t)) = holds (p .names) in
       record {
         owner = below field1 head m (search both);
-        from = below field2 (placeBy 0x12 m 0 0) f (search both);
+        from = below field2 (keyBy 0x12 m 0 0) f (search both);
         event = event-below e (search both);
-        to = below field2 (placeBy 0x12 m 0 0) t (search both);
+        to = below field2 (keyBy 0x12 m 0 0) t (search both);
         own-event = sym (owner-same e (search both)) ∙ eqb→eq (ownerOf some e) m (holds (p .rules));
       }
   law (Supervisor n st i a) p =
@@ -78,16 +78,16 @@ module _ (some all : List Record) (same : (p : Place) → T (found (findIn p som
       let named : T (namesDeclared some (SupervisorMove v f e t)) = holds (p .names) in
       record {
         supervisor = below field2 head v (search both);
-        from = below field2 (placeBy 0x14 v 0 0) f (search both);
+        from = below field2 (keyBy 0x14 v 0 0) f (search both);
         event = event-below e (search both);
-        to = below field2 (placeBy 0x14 v 0 0) t (search both);
+        to = below field2 (keyBy 0x14 v 0 0) t (search both);
         in-alphabet = ap (λ (a : ℕ). bit a e) (sym (alphabet-same v (search both))) ∙ p .rules;
       }
   law (Disabling v st m) p =
       let named : T (namesDeclared some (Disabling v st m)) = holds (p .names) in
       record {
         supervisor = below field2 head v (search both);
-        state = below field2 (placeBy 0x14 v 0 0) st (search both);
+        state = below field2 (keyBy 0x14 v 0 0) st (search both);
         mask = λ e h b.
             let declared : T (eventDeclared some e) = each m (eventDeclared some) (search both) e h b in
             let allowed : T (controllable some e && bit (alphabetOf some v) e) = each m _ (holds (p .rules)) e h b in

@@ -1,4 +1,4 @@
--- Look-ups where no two records share a place.
+-- Look-ups where no two records share a kind and key.
 use Prim.Native.Nat.{ℕ, _<_}
 use native.Mathlib.Omega.{arith}
 use mathlib.Core.Path.{_≡_, refl, sym, ap, _∙_, subst}
@@ -8,9 +8,9 @@ use mathlib.Core.Bool.{Bool, true, false, cond}
 use lib.Dec.{T, eqb→eq, eqb-refl}
 use lib.Ieee.Fits.{and-l, and-r, and-i}
 use Rattle.bits.proofs.Laws.{holds}
-use Rattle.records.specs.Key.{placeBy, placeOf, samePlace}
+use Rattle.records.specs.Key.{keyBy, keyOf, sameKey}
 use Rattle.records.specs.declared.Record.{Record}
-use Rattle.records.specs.declared.Place.{Place}
+use Rattle.records.specs.declared.RecordKey.{RecordKey}
 use Rattle.reader.specs.Find.{findIn}
 use Rattle.reader.specs.declared.Found.{Found}
 use Rattle.reader.specs.declared.Found.the-variants.{It, Missing}
@@ -20,12 +20,12 @@ use Rattle.accepted.specs.Plan.{_∈_, Unique}
 -- the parts of a test joined by &&
 pub ruleset both = (and-l, and-r)
 
--- where the head stands
-abbrev pub head : Place
-head = placeBy 0x10 0 0 0
+-- the kind and key of the head
+abbrev pub head : RecordKey
+head = keyBy 0x10 0 0 0
 
-same-is : (p q : Place) → T (samePlace p q) → p ≡ q
-unfolding samePlace
+same-is : (p q : RecordKey) → T (sameKey p q) → p ≡ q
+unfolding sameKey
 same-is p q t =
     let k : p .kind ≡ q .kind = eqb→eq _ _ (search both) in
     let a : p .first ≡ q .first = eqb→eq _ _ (search both) in
@@ -33,55 +33,55 @@ same-is p q t =
     let c : p .third ≡ q .third = eqb→eq _ _ (search both) in
     λ i. record { kind = k i; first = a i; second = b i; third = c i }
 
-same-self : (p : Place) → T (samePlace p p)
-unfolding samePlace
+same-self : (p : RecordKey) → T (sameKey p p)
+unfolding sameKey
 same-self p = search (and-i, eqb-refl)
 
--- what a look-up finds stands in the list, at that place
-found-at : (p : Place) (rs : List Record) (r : Record) → findIn p rs ≡ It r → (r ∈ rs) × (placeOf r ≡ p)
+-- what a look-up finds stands in the list, with that kind and key
+found-at : (p : RecordKey) (rs : List Record) (r : Record) → findIn p rs ≡ It r → (r ∈ rs) × (keyOf r ≡ p)
 unfolding findIn
 found-at p [] r e = let z : _≡_ {A = ℕ} 0 1 = cc in absurd (omega arith)
-found-at p (x ∷ rs) r e = go (samePlace (placeOf x) p) refl e (found-at p rs r)
+found-at p (x ∷ rs) r e = go (sameKey (keyOf x) p) refl e (found-at p rs r)
   where
-    go : (b : Bool) → samePlace (placeOf x) p ≡ b → cond b (It x) (findIn p rs) ≡ It r → (findIn p rs ≡ It r → (r ∈ rs) × (placeOf r ≡ p)) → (r ∈ (x ∷ rs)) × (placeOf r ≡ p)
-    go true s e f = let q : r ≡ x = cc in (List·Memᴰ·head q, ap placeOf q ∙ same-is (placeOf x) p (holds s))
+    go : (b : Bool) → sameKey (keyOf x) p ≡ b → cond b (It x) (findIn p rs) ≡ It r → (findIn p rs ≡ It r → (r ∈ rs) × (keyOf r ≡ p)) → (r ∈ (x ∷ rs)) × (keyOf r ≡ p)
+    go true s e f = let q : r ≡ x = cc in (List·Memᴰ·head q, ap keyOf q ∙ same-is (keyOf x) p (holds s))
     go false s e f = (List·Memᴰ·tail (f e .0), f e .1)
 
-pub some-found : (p : Place) (rs : List Record) → T (found (findIn p rs)) → (r : Record) × (r ∈ rs) × (placeOf r ≡ p)
+pub some-found : (p : RecordKey) (rs : List Record) → T (found (findIn p rs)) → (r : Record) × (r ∈ rs) × (keyOf r ≡ p)
 unfolding found
 some-found p rs t = go (findIn p rs) refl t
   where
-    go : (f : Found) → findIn p rs ≡ f → T (found f) → (r : Record) × (r ∈ rs) × (placeOf r ≡ p)
+    go : (f : Found) → findIn p rs ≡ f → T (found f) → (r : Record) × (r ∈ rs) × (keyOf r ≡ p)
     go (It r) e t = let k = found-at p rs r e in (r, k .0, k .1)
     go Missing e t = absurd t
 
--- at a record's place a look-up finds something
-some-at : (rs : List Record) (r : Record) → r ∈ rs → (t : Record) × (findIn (placeOf r) rs ≡ It t)
+-- at the key of a record a look-up finds something
+some-at : (rs : List Record) (r : Record) → r ∈ rs → (t : Record) × (findIn (keyOf r) rs ≡ It t)
 unfolding findIn
 some-at [] r m = absurd (List·Memᴰ·not-nil m)
-some-at (x ∷ rs) r m = go (samePlace (placeOf x) (placeOf r)) refl (List·Memᴰ·cases-cons m) (some-at rs r)
+some-at (x ∷ rs) r m = go (sameKey (keyOf x) (keyOf r)) refl (List·Memᴰ·cases-cons m) (some-at rs r)
   where
-    go : (b : Bool) → samePlace (placeOf x) (placeOf r) ≡ b → (r ≡ x) ⊎ (r ∈ rs) → (r ∈ rs → (t : Record) × (findIn (placeOf r) rs ≡ It t))
-        → (t : Record) × (cond b (It x) (findIn (placeOf r) rs) ≡ It t)
+    go : (b : Bool) → sameKey (keyOf x) (keyOf r) ≡ b → (r ≡ x) ⊎ (r ∈ rs) → (r ∈ rs → (t : Record) × (findIn (keyOf r) rs ≡ It t))
+        → (t : Record) × (cond b (It x) (findIn (keyOf r) rs) ≡ It t)
     go true s c f = (x, refl)
-    go false s (inl e) f = absurd (subst T s (subst (λ (y : Record). T (samePlace (placeOf y) (placeOf r))) e (same-self (placeOf r))))
+    go false s (inl e) f = absurd (subst T s (subst (λ (y : Record). T (sameKey (keyOf y) (keyOf r))) e (same-self (keyOf r))))
     go false s (inr n) f = f n
 
-pub finds : (rs : List Record) → Unique rs → (r : Record) → r ∈ rs → findIn (placeOf r) rs ≡ It r
+pub finds : (rs : List Record) → Unique rs → (r : Record) → r ∈ rs → findIn (keyOf r) rs ≡ It r
 finds rs u r m =
     let s = some-at rs r m in
-    let h = found-at (placeOf r) rs (s .0) (s .1) in
+    let h = found-at (keyOf r) rs (s .0) (s .1) in
     s .1 ∙ ap It (u (s .0) r (h .0) m (h .1))
 
 -- what is found among some of the records is found among all of them
-pub found-more : (some all : List Record) → Unique all → ((t : Record) → t ∈ some → t ∈ all) → (p : Place) → T (found (findIn p some)) → findIn p some ≡ findIn p all
+pub found-more : (some all : List Record) → Unique all → ((t : Record) → t ∈ some → t ∈ all) → (p : RecordKey) → T (found (findIn p some)) → findIn p some ≡ findIn p all
 unfolding found
 found-more some all u h p t = go (findIn p some) refl t
   where
     go : (f : Found) → findIn p some ≡ f → T (found f) → f ≡ findIn p all
     go (It r) e t =
         let k = found-at p some r e in
-        sym (finds all u r (h r (k .0))) ∙ ap (λ (q : Place). findIn q all) (k .1)
+        sym (finds all u r (h r (k .0))) ∙ ap (λ (q : RecordKey). findIn q all) (k .1)
     go Missing e t = absurd t
 
 -- a field of what is not found is 0

@@ -1,4 +1,4 @@
--- The places of faultless records strictly ascend, so no two share one.
+-- The keys of faultless records strictly ascend, so no two share one.
 use Prim.Native.Nat.{ℕ, _<_}
 use native.Mathlib.Omega.{arith}
 use mathlib.Core.Path.{_≡_, refl, sym, ap, _∙_, subst}
@@ -9,20 +9,20 @@ use lib.Dec.{T, ltb, eqb, ltb→lt}
 use lib.Ieee.Fits.{and-l}
 use borrow.Author.Tests.{ltb-true, eqb-true}
 use Rattle.bits.proofs.Laws.{holds}
-use Rattle.records.specs.Key.{placeOf, precedes}
+use Rattle.records.specs.Key.{keyOf, precedes}
 use Rattle.records.specs.declared.Record.{Record}
-use Rattle.records.specs.declared.Place.{Place}
+use Rattle.records.specs.declared.RecordKey.{RecordKey}
 use Rattle.rules.specs.Rules.{inOrder, indexRuns}
 use Rattle.rules.specs.Valid.{Valid, passes}
 use Rattle.accepted.specs.Plan.{_∈_, Unique}
 
--- ---- the order of places
+-- ---- the order of keys
 
 -- one field decides, or it is equal and the later fields do
 abbrev Before : ℕ → ℕ → Type 0 → Type 0
 Before a b X = (a < b) ⊎ ((a ≡ b) × X)
 
-abbrev Precedes : Place → Place → Type 0
+abbrev Precedes : RecordKey → RecordKey → Type 0
 Precedes p q = Before (p .kind) (q .kind) (Before (p .first) (q .first) (Before (p .second) (q .second) (p .third < q .third)))
 
 abbrev before : ℕ → ℕ → Bool → Bool
@@ -36,7 +36,7 @@ before-is a b x {X} f t = go (ltb a b) (eqb a b) refl refl t
     go false true e h t = inr (eqb-true a b h, f t)
     go false false e h t = absurd t
 
-precedes-is : (p q : Place) → T (precedes p q) → Precedes p q
+precedes-is : (p q : RecordKey) → T (precedes p q) → Precedes p q
 unfolding precedes
 precedes-is p q =
     let third : Bool = ltb (p .third) (q .third) in
@@ -56,40 +56,40 @@ before-irrefl : (a : ℕ) {X : Type 0} → (X → ⊥) → Before a a X → ⊥
 before-irrefl a f (inl h) = omega arith
 before-irrefl a f (inr h) = f (h .1)
 
-precedes-trans : (p q r : Place) → Precedes p q → Precedes q r → Precedes p r
+precedes-trans : (p q r : RecordKey) → Precedes p q → Precedes q r → Precedes p r
 precedes-trans p q r =
     before-trans (p .kind) (q .kind) (r .kind)
     (before-trans (p .first) (q .first) (r .first)
     (before-trans (p .second) (q .second) (r .second) (λ h k. omega arith)))
 
-precedes-irrefl : (p : Place) → Precedes p p → ⊥
+precedes-irrefl : (p : RecordKey) → Precedes p p → ⊥
 precedes-irrefl p = before-irrefl (p .kind) (before-irrefl (p .first) (before-irrefl (p .second) (λ h. omega arith)))
 
 -- ---- the order of faultless records
 
 -- each record comes after those before it
-after : (rs : List Record) (r t : Record) → Valid (r ∷ rs) → t ∈ rs → Precedes (placeOf t) (placeOf r)
+after : (rs : List Record) (r t : Record) → Valid (r ∷ rs) → t ∈ rs → Precedes (keyOf t) (keyOf r)
 unfolding Valid inOrder
 after [] r t v m = absurd (List·Memᴰ·not-nil m)
 after (x ∷ rs) r t v m = go (List·Memᴰ·cases-cons m) (λ n. after rs x t (v .1) n)
   where
-    next : Precedes (placeOf x) (placeOf r)
-    next = precedes-is (placeOf x) (placeOf r) (and-l (precedes (placeOf x) (placeOf r)) (indexRuns (x ∷ rs) r) (holds (passes (x ∷ rs) r (v .0) .order)))
+    next : Precedes (keyOf x) (keyOf r)
+    next = precedes-is (keyOf x) (keyOf r) (and-l (precedes (keyOf x) (keyOf r)) (indexRuns (x ∷ rs) r) (holds (passes (x ∷ rs) r (v .0) .order)))
 
-    go : (t ≡ x) ⊎ (t ∈ rs) → (t ∈ rs → Precedes (placeOf t) (placeOf x)) → Precedes (placeOf t) (placeOf r)
-    go (inl e) f = subst (λ (y : Record). Precedes (placeOf y) (placeOf r)) (sym e) next
-    go (inr n) f = precedes-trans (placeOf t) (placeOf x) (placeOf r) (f n) next
+    go : (t ≡ x) ⊎ (t ∈ rs) → (t ∈ rs → Precedes (keyOf t) (keyOf x)) → Precedes (keyOf t) (keyOf r)
+    go (inl e) f = subst (λ (y : Record). Precedes (keyOf y) (keyOf r)) (sym e) next
+    go (inr n) f = precedes-trans (keyOf t) (keyOf x) (keyOf r) (f n) next
 
 pub unique : (rs : List Record) → Valid rs → Unique rs
 unfolding Valid
 unique [] v r t m n e = absurd (List·Memᴰ·not-nil m)
 unique (x ∷ rs) v r t m n e = go (List·Memᴰ·cases-cons m) (List·Memᴰ·cases-cons n) (unique rs (v .1) r t)
   where
-    other : (y : Record) → y ∈ rs → placeOf y ≡ placeOf x → ⊥
-    other y k q = precedes-irrefl (placeOf x) (subst (λ (p : Place). Precedes p (placeOf x)) q (after rs x y v k))
+    other : (y : Record) → y ∈ rs → keyOf y ≡ keyOf x → ⊥
+    other y k q = precedes-irrefl (keyOf x) (subst (λ (p : RecordKey). Precedes p (keyOf x)) q (after rs x y v k))
 
-    go : (r ≡ x) ⊎ (r ∈ rs) → (t ≡ x) ⊎ (t ∈ rs) → (r ∈ rs → t ∈ rs → placeOf r ≡ placeOf t → r ≡ t) → r ≡ t
+    go : (r ≡ x) ⊎ (r ∈ rs) → (t ≡ x) ⊎ (t ∈ rs) → (r ∈ rs → t ∈ rs → keyOf r ≡ keyOf t → r ≡ t) → r ≡ t
     go (inl p) (inl q) f = p ∙ sym q
-    go (inl p) (inr q) f = absurd (other t q (sym e ∙ ap placeOf p))
-    go (inr p) (inl q) f = absurd (other r p (e ∙ ap placeOf q))
+    go (inl p) (inr q) f = absurd (other t q (sym e ∙ ap keyOf p))
+    go (inr p) (inl q) f = absurd (other r p (e ∙ ap keyOf q))
     go (inr p) (inr q) f = f p q e

@@ -4,7 +4,7 @@ use mathlib.Core.Path.{_≡_, refl, sym, ap₂, _∙_}
 use mathlib.Core.Bool.{cond}
 use lib.Dec.{eqb}
 use Rattle.records.specs.Kinds.{kindOf}
-use Rattle.records.specs.Key.{placeOf}
+use Rattle.records.specs.Key.{keyOf}
 use Rattle.records.specs.declared.Record.{Record}
 use Rattle.records.specs.declared.Record.the-variants.{Head, Event, Module, ModuleMove, Supervisor, SupervisorMove, Disabling, Step, End}
 use Rattle.rules.specs.LookUp.{field1, field2, field3, wordField}
@@ -19,8 +19,8 @@ remade k n r =
     (cond (eqb k 0x17) (Step n (field2 r) (field3 r) (wordField r))
     (cond (eqb k 0x1f) End r)))))
 
-remade-is : (r : Record) → remade (placeOf r .kind) (placeOf r .first) r ≡ r
-unfolding placeOf field1 field2 field3 wordField
+remade-is : (r : Record) → remade (keyOf r .kind) (keyOf r .first) r ≡ r
+unfolding keyOf field1 field2 field3 wordField
 remade-is (Head m v e) = refl
 remade-is (Event n o c) = refl
 remade-is (Module n st i) = refl
@@ -31,21 +31,21 @@ remade-is (Disabling v st m) = refl
 remade-is (Step e i o x) = refl
 remade-is End = refl
 
-pub shape : (k n : ℕ) (r : Record) → placeOf r .kind ≡ k → placeOf r .first ≡ n → r ≡ remade k n r
+pub shape : (k n : ℕ) (r : Record) → keyOf r .kind ≡ k → keyOf r .first ≡ n → r ≡ remade k n r
 shape k n r e f = sym (remade-is r) ∙ ap₂ (λ (x y : ℕ). remade x y r) e f
 
-pub place-kind : (r : Record) → placeOf r .kind ≡ kindOf r
-unfolding kindOf placeOf
-place-kind (Head m v e) = refl
-place-kind (Event n o c) = refl
-place-kind (Module n st i) = refl
-place-kind (ModuleMove m f e t) = refl
-place-kind (Supervisor n st i a) = refl
-place-kind (SupervisorMove v f e t) = refl
-place-kind (Disabling v st m) = refl
-place-kind (Step e i o x) = refl
-place-kind End = refl
+pub key-kind : (r : Record) → keyOf r .kind ≡ kindOf r
+unfolding kindOf keyOf
+key-kind (Head m v e) = refl
+key-kind (Event n o c) = refl
+key-kind (Module n st i) = refl
+key-kind (ModuleMove m f e t) = refl
+key-kind (Supervisor n st i a) = refl
+key-kind (SupervisorMove v f e t) = refl
+key-kind (Disabling v st m) = refl
+key-kind (Step e i o x) = refl
+key-kind End = refl
 
 -- the two kinds of which there is one record
-pub lone : (k : ℕ) (r : Record) → kindOf r ≡ k → r ≡ remade k (placeOf r .first) r
-lone k r e = shape k (placeOf r .first) r (place-kind r ∙ e) refl
+pub lone : (k : ℕ) (r : Record) → kindOf r ≡ k → r ≡ remade k (keyOf r .first) r
+lone k r e = shape k (keyOf r .first) r (key-kind r ∙ e) refl

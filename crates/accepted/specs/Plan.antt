@@ -5,7 +5,7 @@ use mathlib.Core.List.{List, [], _∷_, _++_, List·Memᴰ}
 use mathlib.Core.Bool.{true, false}
 use lib.ListN.{length}
 use Rattle.bits.specs.Bit.{bit}
-use Rattle.records.specs.Key.{placeOf}
+use Rattle.records.specs.Key.{keyOf}
 use Rattle.records.specs.Range.{inRange, operandInRange}
 use Rattle.records.specs.declared.Record.{Record}
 use Rattle.records.specs.declared.Record.the-variants.{Head, Event, Module, ModuleMove, Supervisor, SupervisorMove, Disabling, Step, End}
@@ -21,7 +21,7 @@ r ∈ rs = List·Memᴰ r rs
 
 -- two records with one kind and key are one
 abbrev pub Unique : List Record → Type 0
-Unique rs = (r t : Record) → r ∈ rs → t ∈ rs → placeOf r ≡ placeOf t → r ≡ t
+Unique rs = (r t : Record) → r ∈ rs → t ∈ rs → keyOf r ≡ keyOf t → r ≡ t
 
 -- the events of a mask, of 64 bits
 abbrev pub EachOf : ℕ → (ℕ → Type 0) → Type 0
@@ -129,7 +129,7 @@ pub record Sound (rs : List Record) : Type 0 where
   pub events : (1 ≤ eventsOf rs) × (eventsOf rs ≤ 64)
   -- a look-up finds each record
   pub unique : Unique rs
-  pub finds : (r : Record) → r ∈ rs → findIn (placeOf r) rs ≡ It r
+  pub finds : (r : Record) → r ∈ rs → findIn (keyOf r) rs ≡ It r
   -- each record's fields are in range and name what is there
   pub ranges : (r : Record) → r ∈ rs → inRange r ≡ true
   pub laws : (r : Record) → r ∈ rs → LawOf rs r

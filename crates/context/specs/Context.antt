@@ -6,7 +6,7 @@ use mathlib.Core.Bool.{Bool, true, false, cond}
 use lib.ListN.{getD, set, replicate}
 use lib.Dec.{eqb, ltb}
 use Rattle.bits.specs.Bit.{putBit}
-use Rattle.records.specs.Key.{placeBy, placeOf}
+use Rattle.records.specs.Key.{keyBy, keyOf}
 use Rattle.records.specs.declared.Record.{Record}
 use Rattle.records.specs.declared.Record.the-variants.{Head, Event, Module, ModuleMove, Supervisor, SupervisorMove, Disabling, Step, End}
 use Rattle.context.specs.declared.Counts.{Counts}
@@ -16,24 +16,24 @@ use Rattle.context.specs.declared.Supervisors.{Supervisors}
 use Rattle.context.specs.declared.Context.{Context}
 
 -- a table of k entries with x at i, and a mask with bit i on or off, where i is below k
-unfoldable pub stored : ℕ → List ℕ → ℕ → ℕ → List ℕ
-stored k t i x = cond (ltb i k) (set t i x) t
+unfoldable pub withEntry : ℕ → List ℕ → ℕ → ℕ → List ℕ
+withEntry k t i x = cond (ltb i k) (set t i x) t
 
-unfoldable pub marked : ℕ → ℕ → ℕ → Bool → ℕ
-marked k m i on = cond (ltb i k) (putBit m i on) m
+unfoldable pub withBit : ℕ → ℕ → ℕ → Bool → ℕ
+withBit k m i on = cond (ltb i k) (putBit m i on) m
 
 abbrev pub withEvent : Events → ℕ → ℕ → ℕ → Events
 withEvent ev n o c =
-    record { known = marked 64 (ev .known) n true; controllable = marked 64 (ev .controllable) n (eqb c 1); owner = stored 64 (ev .owner) n o; steps = ev .steps }
+    record { known = withBit 64 (ev .known) n true; controllable = withBit 64 (ev .controllable) n (eqb c 1); owner = withEntry 64 (ev .owner) n o; steps = ev .steps }
 
 abbrev pub withStep : Events → ℕ → ℕ → Events
-withStep ev e i = record { known = ev .known; controllable = ev .controllable; owner = ev .owner; steps = stored 64 (ev .steps) e ((i + 1) % 256) }
+withStep ev e i = record { known = ev .known; controllable = ev .controllable; owner = ev .owner; steps = withEntry 64 (ev .steps) e ((i + 1) % 256) }
 
 abbrev pub withModule : Modules → ℕ → ℕ → Modules
-withModule ms n st = record { known = marked 16 (ms .known) n true; states = stored 16 (ms .states) n st }
+withModule ms n st = record { known = withBit 16 (ms .known) n true; states = withEntry 16 (ms .states) n st }
 
 abbrev pub withSupervisor : Supervisors → ℕ → ℕ → ℕ → Supervisors
-withSupervisor vs n st a = record { known = marked 32 (vs .known) n true; states = stored 32 (vs .states) n st; alphabet = stored 32 (vs .alphabet) n a }
+withSupervisor vs n st a = record { known = withBit 32 (vs .known) n true; states = withEntry 32 (vs .states) n st; alphabet = withEntry 32 (vs .alphabet) n a }
 
 -- the parts of the context after a record
 unfoldable pub countsAfter : Counts → Record → Counts
@@ -84,7 +84,7 @@ abbrev pub withRecord : Context → Record → Context
 withRecord c r =
     record {
       begun = true;
-      last = placeOf r;
+      last = keyOf r;
       counts = countsAfter (c .counts) r;
       events = eventsAfter (c .events) r;
       modules = modulesAfter (c .modules) r;
@@ -96,7 +96,7 @@ abbrev pub start : Context
 start =
     record {
       begun = false;
-      last = placeBy 0 0 0 0;
+      last = keyBy 0 0 0 0;
       counts = record { modules = 0; supervisors = 0; events = 0 };
       events = record { known = 0; controllable = 0; owner = replicate 64 0; steps = replicate 64 0 };
       modules = record { known = 0; states = replicate 16 0 };

@@ -1,8 +1,8 @@
 // What the check of a plan remembers of the records before: one struct by value, some 500 bytes.
 ghost use mathlib.Core.Path.{_≡_};
 ghost use Rattle.context.specs.Context.{withEvent, withStep, withModule, withSupervisor, withRecord, start, ownerAt, stepsAt, moduleStatesAt, supervisorStatesAt, alphabetAt};
-use records::Place;
 use records::Record;
+use records::RecordKey;
 
 // The head's counts.
 pub struct Counts {
@@ -35,7 +35,7 @@ pub struct Supervisors {
 // Whether a record has come, the last one's kind and key, and what the records declared.
 pub struct Context {
     pub begun: bool,
-    pub last: Place,
+    pub last: RecordKey,
     pub counts: Counts,
     pub events: Events,
     pub modules: Modules,
@@ -48,7 +48,7 @@ pub fn started() -> Context
 {
     Context {
         begun: false,
-        last: Place {
+        last: RecordKey {
             kind: 0,
             first: 0,
             second: 0,
@@ -141,7 +141,7 @@ pub fn with_record(c: Context, r: Record) -> Context
 {
     let mut next = c;
     next.begun = true;
-    let p = records::place_of(r);
+    let p = records::key_of(r);
     next.last = p;
     match r {
         Record::Head {

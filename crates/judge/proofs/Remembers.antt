@@ -9,7 +9,7 @@ use lib.Dec.{eqb, lit<, lit≤}
 use lib.Pow.{pow-pos}
 use Rattle.bits.specs.Bit.{bit}
 use Rattle.bits.proofs.Laws.{bit-none}
-use Rattle.records.specs.Key.{placeBy, placeOf, samePlace}
+use Rattle.records.specs.Key.{keyBy, keyOf, sameKey}
 use Rattle.records.specs.declared.Record.{Record}
 use Rattle.records.specs.declared.Record.the-variants.{Head, Event, Module, ModuleMove, Supervisor, SupervisorMove, Disabling, Step, End}
 use Rattle.reader.specs.declared.Found.{Found}
@@ -20,14 +20,14 @@ use Rattle.context.specs.declared.Counts.{Counts}
 use Rattle.context.specs.declared.Events.{Events}
 use Rattle.context.specs.declared.Modules.{Modules}
 use Rattle.context.specs.declared.Supervisors.{Supervisors}
-use Rattle.context.specs.Context.{stored, marked, countsAfter, eventsAfter, modulesAfter, supervisorsAfter, contextOf}
-use Rattle.context.proofs.Tables.{stored-length, stored-at, marked-fits, marked-at}
+use Rattle.context.specs.Context.{withEntry, withBit, countsAfter, eventsAfter, modulesAfter, supervisorsAfter, contextOf}
+use Rattle.context.proofs.Tables.{with-entry-length, with-entry-at, with-bit-fits, with-bit-at}
 
 -- ---- a look-up by number in a list with one record more
 
--- two places of one kind whose keys are numbers
-pub same-number : (k n e : ℕ) → eqb k k ≡ true → samePlace (placeBy k n 0 0) (placeBy k e 0 0) ≡ eqb n e
-unfolding samePlace
+-- two keys of one kind that are numbers
+pub same-number : (k n e : ℕ) → eqb k k ≡ true → sameKey (keyBy k n 0 0) (keyBy k e 0 0) ≡ eqb n e
+unfolding sameKey
 same-number k n e h = simp h (go (eqb n e))
   where
     go : (b : Bool) → (b && true && true) ≡ b
@@ -54,7 +54,7 @@ abbrev pub CountsTold : Counts → List Record → Type 0
 CountsTold k rs = (k .modules ≡ modulesOf rs) × (k .supervisors ≡ supervisorsOf rs) × (k .events ≡ eventsOf rs)
 
 counts-after : (k : Counts) (rs : List Record) (r : Record) → CountsTold k rs → CountsTold (countsAfter k r) (r ∷ rs)
-unfolding countsAfter findIn placeOf samePlace fieldOf field1 field2 field3
+unfolding countsAfter findIn keyOf sameKey fieldOf field1 field2 field3
 counts-after k rs (Head m v e) t = (refl, refl, refl)
 counts-after k rs (Event n o c) t = t
 counts-after k rs (Module n st i) t = t
@@ -82,13 +82,13 @@ events-fit-after : (ev : Events) (r : Record) → EventsFit ev → EventsFit (ev
 unfolding eventsAfter
 events-fit-after ev (Head m v e) f = f
 events-fit-after ev (Event n o c) f =
-    record { known = marked-fits 64 _ n true (f .known); controllable = marked-fits 64 _ n (eqb c 1) (f .controllable); owner = stored-length 64 _ n o (f .owner); steps = f .steps }
+    record { known = with-bit-fits 64 _ n true (f .known); controllable = with-bit-fits 64 _ n (eqb c 1) (f .controllable); owner = with-entry-length 64 _ n o (f .owner); steps = f .steps }
 events-fit-after ev (Module n st i) f = f
 events-fit-after ev (ModuleMove m f e t) g = g
 events-fit-after ev (Supervisor n st i a) f = f
 events-fit-after ev (SupervisorMove v f e t) g = g
 events-fit-after ev (Disabling v st m) f = f
-events-fit-after ev (Step e i o x) f = record { known = f .known; controllable = f .controllable; owner = f .owner; steps = stored-length 64 _ e _ (f .steps) }
+events-fit-after ev (Step e i o x) f = record { known = f .known; controllable = f .controllable; owner = f .owner; steps = with-entry-length 64 _ e _ (f .steps) }
 events-fit-after ev End f = f
 
 pub events-fit : (rs : List Record) → EventsFit (contextOf rs .events)
@@ -107,17 +107,17 @@ event-kept r h t =
     record { known = t .known ∙ ap found (sym h); controls = t .controls ∙ ap (λ (x : Found). eqb (fieldOf field3 x) 1) (sym h); owner = t .owner ∙ ap (fieldOf field2) (sym h) }
 
 event-after : (ev : Events) (rs : List Record) (r : Record) (e : ℕ) → e < 64 → EventsFit ev → EventTold ev rs e → EventTold (eventsAfter ev r) (r ∷ rs) e
-unfolding eventsAfter findIn placeOf samePlace field2 field3
+unfolding eventsAfter findIn keyOf sameKey field2 field3
 event-after ev rs (Head m v x) e l f t = event-kept (Head m v x) refl t
 event-after ev rs (Event n o c) e l f t =
     let b = eqb n e in
     let look : eventIn (Event n o c ∷ rs) e ≡ cond b (It (Event n o c)) (eventIn rs e) = ap (λ (d : Bool). cond d (It (Event n o c)) (eventIn rs e)) (same-number 0x11 n e refl) in
     record {
-      known = marked-at 64 (ev .known) n true e (lit≤ tt) (f .known) l ∙ ap (cond b true) (t .known) ∙ sym (ap found look ∙ found-cond b (Event n o c) (eventIn rs e));
+      known = with-bit-at 64 (ev .known) n true e (lit≤ tt) (f .known) l ∙ ap (cond b true) (t .known) ∙ sym (ap found look ∙ found-cond b (Event n o c) (eventIn rs e));
       controls =
-          marked-at 64 (ev .controllable) n (eqb c 1) e (lit≤ tt) (f .controllable) l ∙ ap (cond b (eqb c 1)) (t .controls)
+          with-bit-at 64 (ev .controllable) n (eqb c 1) e (lit≤ tt) (f .controllable) l ∙ ap (cond b (eqb c 1)) (t .controls)
           ∙ sym (ap (λ (x : Found). eqb (fieldOf field3 x) 1) look ∙ ap (λ (x : ℕ). eqb x 1) (field-cond field3 b (Event n o c) (eventIn rs e)) ∙ test-cond b c (fieldOf field3 (eventIn rs e)));
-      owner = stored-at 64 (ev .owner) n o e (f .owner) l ∙ ap (cond b o) (t .owner) ∙ sym (ap (fieldOf field2) look ∙ field-cond field2 b (Event n o c) (eventIn rs e));
+      owner = with-entry-at 64 (ev .owner) n o e (f .owner) l ∙ ap (cond b o) (t .owner) ∙ sym (ap (fieldOf field2) look ∙ field-cond field2 b (Event n o c) (eventIn rs e));
     }
 event-after ev rs (Module n st i) e l f t = event-kept (Module n st i) refl t
 event-after ev rs (ModuleMove m g x u) e l f t = event-kept (ModuleMove m g x u) refl t
@@ -144,7 +144,7 @@ modules-fit-after : (ms : Modules) (r : Record) → ModulesFit ms → ModulesFit
 unfolding modulesAfter
 modules-fit-after ms (Head m v e) f = f
 modules-fit-after ms (Event n o c) f = f
-modules-fit-after ms (Module n st i) f = record { known = marked-fits 16 _ n true (f .known); states = stored-length 16 _ n st (f .states) }
+modules-fit-after ms (Module n st i) f = record { known = with-bit-fits 16 _ n true (f .known); states = with-entry-length 16 _ n st (f .states) }
 modules-fit-after ms (ModuleMove m f e t) g = g
 modules-fit-after ms (Supervisor n st i a) f = f
 modules-fit-after ms (SupervisorMove v f e t) g = g
@@ -165,15 +165,15 @@ module-kept : {ms : Modules} {rs : List Record} {m : ℕ} (r : Record) → modul
 module-kept r h t = record { known = t .known ∙ ap found (sym h); states = t .states ∙ ap (fieldOf field2) (sym h) }
 
 module-after : (ms : Modules) (rs : List Record) (r : Record) (m : ℕ) → m < 16 → ModulesFit ms → ModuleTold ms rs m → ModuleTold (modulesAfter ms r) (r ∷ rs) m
-unfolding modulesAfter findIn placeOf samePlace field2
+unfolding modulesAfter findIn keyOf sameKey field2
 module-after ms rs (Head n v x) m l f t = module-kept (Head n v x) refl t
 module-after ms rs (Event n o c) m l f t = module-kept (Event n o c) refl t
 module-after ms rs (Module n st i) m l f t =
     let b = eqb n m in
     let look : moduleIn (Module n st i ∷ rs) m ≡ cond b (It (Module n st i)) (moduleIn rs m) = ap (λ (d : Bool). cond d (It (Module n st i)) (moduleIn rs m)) (same-number 0x12 n m refl) in
     record {
-      known = marked-at 16 (ms .known) n true m (lit≤ tt) (f .known) l ∙ ap (cond b true) (t .known) ∙ sym (ap found look ∙ found-cond b (Module n st i) (moduleIn rs m));
-      states = stored-at 16 (ms .states) n st m (f .states) l ∙ ap (cond b st) (t .states) ∙ sym (ap (fieldOf field2) look ∙ field-cond field2 b (Module n st i) (moduleIn rs m));
+      known = with-bit-at 16 (ms .known) n true m (lit≤ tt) (f .known) l ∙ ap (cond b true) (t .known) ∙ sym (ap found look ∙ found-cond b (Module n st i) (moduleIn rs m));
+      states = with-entry-at 16 (ms .states) n st m (f .states) l ∙ ap (cond b st) (t .states) ∙ sym (ap (fieldOf field2) look ∙ field-cond field2 b (Module n st i) (moduleIn rs m));
     }
 module-after ms rs (ModuleMove n g x u) m l f t = module-kept (ModuleMove n g x u) refl t
 module-after ms rs (Supervisor n st i a) m l f t = module-kept (Supervisor n st i a) refl t
@@ -201,7 +201,7 @@ supervisors-fit-after vs (Event n o c) f = f
 supervisors-fit-after vs (Module n st i) f = f
 supervisors-fit-after vs (ModuleMove m f e t) g = g
 supervisors-fit-after vs (Supervisor n st i a) f =
-    record { known = marked-fits 32 _ n true (f .known); states = stored-length 32 _ n st (f .states); alphabet = stored-length 32 _ n a (f .alphabet) }
+    record { known = with-bit-fits 32 _ n true (f .known); states = with-entry-length 32 _ n st (f .states); alphabet = with-entry-length 32 _ n a (f .alphabet) }
 supervisors-fit-after vs (SupervisorMove v f e t) g = g
 supervisors-fit-after vs (Disabling v st m) f = f
 supervisors-fit-after vs (Step e i o x) f = f
@@ -222,7 +222,7 @@ supervisor-kept r h t =
     record { known = t .known ∙ ap found (sym h); states = t .states ∙ ap (fieldOf field2) (sym h); alphabet = t .alphabet ∙ ap (fieldOf wordField) (sym h) }
 
 supervisor-after : (vs : Supervisors) (rs : List Record) (r : Record) (v : ℕ) → v < 32 → SupervisorsFit vs → SupervisorTold vs rs v → SupervisorTold (supervisorsAfter vs r) (r ∷ rs) v
-unfolding supervisorsAfter findIn placeOf samePlace field2 wordField
+unfolding supervisorsAfter findIn keyOf sameKey field2 wordField
 supervisor-after vs rs (Head m n x) v l f t = supervisor-kept (Head m n x) refl t
 supervisor-after vs rs (Event n o c) v l f t = supervisor-kept (Event n o c) refl t
 supervisor-after vs rs (Module n st i) v l f t = supervisor-kept (Module n st i) refl t
@@ -232,9 +232,9 @@ supervisor-after vs rs (Supervisor n st i a) v l f t =
     let r = Supervisor n st i a in
     let look : supervisorIn (r ∷ rs) v ≡ cond b (It r) (supervisorIn rs v) = ap (λ (d : Bool). cond d (It r) (supervisorIn rs v)) (same-number 0x14 n v refl) in
     record {
-      known = marked-at 32 (vs .known) n true v (lit≤ tt) (f .known) l ∙ ap (cond b true) (t .known) ∙ sym (ap found look ∙ found-cond b r (supervisorIn rs v));
-      states = stored-at 32 (vs .states) n st v (f .states) l ∙ ap (cond b st) (t .states) ∙ sym (ap (fieldOf field2) look ∙ field-cond field2 b r (supervisorIn rs v));
-      alphabet = stored-at 32 (vs .alphabet) n a v (f .alphabet) l ∙ ap (cond b a) (t .alphabet) ∙ sym (ap (fieldOf wordField) look ∙ field-cond wordField b r (supervisorIn rs v));
+      known = with-bit-at 32 (vs .known) n true v (lit≤ tt) (f .known) l ∙ ap (cond b true) (t .known) ∙ sym (ap found look ∙ found-cond b r (supervisorIn rs v));
+      states = with-entry-at 32 (vs .states) n st v (f .states) l ∙ ap (cond b st) (t .states) ∙ sym (ap (fieldOf field2) look ∙ field-cond field2 b r (supervisorIn rs v));
+      alphabet = with-entry-at 32 (vs .alphabet) n a v (f .alphabet) l ∙ ap (cond b a) (t .alphabet) ∙ sym (ap (fieldOf wordField) look ∙ field-cond wordField b r (supervisorIn rs v));
     }
 supervisor-after vs rs (SupervisorMove n g x u) v l f t = supervisor-kept (SupervisorMove n g x u) refl t
 supervisor-after vs rs (Disabling n st x) v l f t = supervisor-kept (Disabling n st x) refl t

@@ -15,7 +15,7 @@ use Rattle.bits.specs.Bit.{bit, allBelow, everyEvent}
 use Rattle.bits.proofs.Laws.{bit-and, all-same}
 use Rattle.records.specs.Kinds.{kindOf}
 use Rattle.records.specs.Range.{inRange, between, operandInRange}
-use Rattle.records.specs.Key.{placeBy, placeOf, samePlace, precedes}
+use Rattle.records.specs.Key.{keyBy, keyOf, sameKey, precedes}
 use Rattle.records.specs.declared.Record.{Record}
 use Rattle.records.specs.declared.Record.the-variants.{Head, Event, Module, ModuleMove, Supervisor, SupervisorMove, Disabling, Step, End}
 use Rattle.reader.specs.declared.Found.the-variants.{It, Missing}
@@ -25,8 +25,8 @@ use Rattle.rules.specs.Rules.{indexRuns, inOrder, namesDeclared, keepsRules, al
 use Rattle.rules.specs.Check.{faultOf}
 use Rattle.rules.specs.Valid.{Valid, Passes, passes}
 use Rattle.context.specs.declared.Context.{Context}
-use Rattle.context.specs.Context.{stored, eventsAfter, contextOf, entry, ownerAt, stepsAt, moduleStatesAt, supervisorStatesAt, alphabetAt}
-use Rattle.context.proofs.Tables.{stored-at}
+use Rattle.context.specs.Context.{withEntry, eventsAfter, contextOf, entry, ownerAt, stepsAt, moduleStatesAt, supervisorStatesAt, alphabetAt}
+use Rattle.context.proofs.Tables.{with-entry-at}
 use Rattle.judge.specs.Judge.{eventKnown, operandKnown, moduleKnown, supervisorKnown, moduleStateBy, supervisorStateBy, indexBy, orderBy, namesBy, respondBy, rulesBy, allBy, judgeBy}
 use Rattle.judge.proofs.Remembers.{counts-told, events-fit, EventTold, event-told, module-told, supervisor-told, same-number}
 
@@ -37,8 +37,8 @@ both true b e = (refl, e)
 both false b e = let z : _≡_ {A = ℕ} 0 1 = cc in absurd (omega arith)
 
 -- no head comes after another record
-no-head : (p : Record) (m v e : ℕ) → precedes (placeOf p) (placeOf (Head m v e)) ≡ true → ⊥
-unfolding precedes placeOf
+no-head : (p : Record) (m v e : ℕ) → precedes (keyOf p) (keyOf (Head m v e)) ≡ true → ⊥
+unfolding precedes keyOf
 no-head (Head a b c) m v e h = let z : _≡_ {A = ℕ} 0 1 = cc in omega arith
 no-head (Event a b c) m v e h = let z : _≡_ {A = ℕ} 0 1 = cc in omega arith
 no-head (Module a b c) m v e h = let z : _≡_ {A = ℕ} 0 1 = cc in omega arith
@@ -59,7 +59,7 @@ pub record Bounded (rs : List Record) : Type 0 where
 
 -- the facts stay where neither a count nor a look-up changed
 unmoved : {rs : List Record} (r : Record)
-    → findIn (placeBy 0x10 0 0 0) (r ∷ rs) ≡ findIn (placeBy 0x10 0 0 0) rs
+    → findIn (keyBy 0x10 0 0 0) (r ∷ rs) ≡ findIn (keyBy 0x10 0 0 0) rs
     → ((e : ℕ) → found (eventIn (r ∷ rs) e) ≡ true → e < eventsOf rs)
     → ((e : ℕ) → eventsOf rs ≤ e → stepsOf (r ∷ rs) e ≡ 0)
     → Bounded rs → Bounded (r ∷ rs)
@@ -76,7 +76,7 @@ none-found : (b : Bool) → b ≡ true → b ≡ false → ⊥
 none-found b p q = let z : _≡_ {A = ℕ} 0 1 = cc in omega arith
 
 bounded-head : (m v e : ℕ) → Passes [] (Head m v e) → Bounded (Head m v e ∷ [])
-unfolding inRange findIn placeOf samePlace fieldOf field1 field2 field3 found stepsOf
+unfolding inRange findIn keyOf sameKey fieldOf field1 field2 field3 found stepsOf
 bounded-head m v e p =
     let q = both (leb 1 m && leb m 16 && leb v 32) (leb 1 e && leb e 64) (p .range) in
     let r = both (leb 1 m && leb m 16) (leb v 32) (q .0) in
@@ -90,7 +90,7 @@ bounded-head m v e p =
 
 -- a number that is found after an event's record is that event's, or was found before
 event-found : (rs : List Record) (n o c e : ℕ) → n < eventsOf rs → ((x : ℕ) → found (eventIn rs x) ≡ true → x < eventsOf rs) → found (eventIn (Event n o c ∷ rs) e) ≡ true → e < eventsOf rs
-unfolding findIn placeOf found
+unfolding findIn keyOf found
 event-found rs n o c e h k t = go (eqb n e) refl
   where
     go : (b : Bool) → eqb n e ≡ b → e < eventsOf rs
@@ -98,7 +98,7 @@ event-found rs n o c e h k t = go (eqb n e) refl
     go false q = k e (sym (ap (λ (d : Bool). found (cond d (It (Event n o c)) (eventIn rs e))) (same-number 0x11 n e refl ∙ q)) ∙ t)
 
 step-none : (rs : List Record) (x i o y e : ℕ) → x < eventsOf rs → eventsOf rs ≤ e → stepsOf rs e ≡ 0 → stepsOf (Step x i o y ∷ rs) e ≡ 0
-unfolding stepsOf placeOf
+unfolding stepsOf keyOf
 step-none rs x i o y e h l k = go (eqb x e) refl
   where
     go : (b : Bool) → eqb x e ≡ b → cond (true && eqb x e) (suc (stepsOf rs e)) (stepsOf rs e) ≡ 0
@@ -109,8 +109,8 @@ declared-below : (rs : List Record) (e : ℕ) → eventDeclared rs e ≡ true �
 declared-below rs e h = ltb-true e (eventsOf rs) (both (ltb e (eventsOf rs)) (found (eventIn rs e)) h .0)
 
 bounded-after : (p : Record) (ps : List Record) (r : Record) → Passes (p ∷ ps) r → Bounded (p ∷ ps) → Bounded (r ∷ p ∷ ps)
-unfolding inOrder namesDeclared findIn placeOf samePlace stepsOf
-bounded-after p ps (Head m v e) t k = absurd (no-head p m v e (both (precedes (placeOf p) (placeOf (Head m v e))) (indexRuns (p ∷ ps) (Head m v e)) (t .order) .0))
+unfolding inOrder namesDeclared findIn keyOf sameKey stepsOf
+bounded-after p ps (Head m v e) t k = absurd (no-head p m v e (both (precedes (keyOf p) (keyOf (Head m v e))) (indexRuns (p ∷ ps) (Head m v e)) (t .order) .0))
 bounded-after p ps (Event n o c) t k =
     unmoved (Event n o c) refl (λ e. event-found (p ∷ ps) n o c e (ltb-true n (eventsOf (p ∷ ps)) (both (ltb n (eventsOf (p ∷ ps))) (ltb o (modulesOf (p ∷ ps))) (t .names) .0)) (k .event)) (k .steps) k
 bounded-after p ps (Module n st i) t k = unmoved (Module n st i) refl (k .event) (k .steps) k
@@ -151,14 +151,14 @@ bounded (r ∷ p ∷ ps) v = bounded-after p ps r (passes (p ∷ ps) r (v .0)) (
 index-is : (rs : List Record) (x i o y : ℕ) → Passes rs (Step x i o y) → i ≡ stepsOf rs x
 unfolding inOrder kindOf indexRuns
 index-is [] x i o y t = let z : _≡_ {A = ℕ} 0 1 = cc (t .order) in absurd (omega arith)
-index-is (p ∷ ps) x i o y t = eqb-true i (stepsOf (p ∷ ps) x) (both (precedes (placeOf p) (placeOf (Step x i o y))) (eqb i (stepsOf (p ∷ ps) x)) (t .order) .1)
+index-is (p ∷ ps) x i o y t = eqb-true i (stepsOf (p ∷ ps) x) (both (precedes (keyOf p) (keyOf (Step x i o y))) (eqb i (stepsOf (p ∷ ps) x)) (t .order) .1)
 
 index-small : (rs : List Record) (x i o y : ℕ) → Passes rs (Step x i o y) → i ≤ 63
 unfolding inRange
 index-small rs x i o y t = leb-true i 63 (both (leb i 63) (operandInRange o y) (t .range) .0)
 
 steps-after : (rs : List Record) (r : Record) (e : ℕ) → e < 64 → Passes rs r → getD (contextOf rs .events .steps) e 0 ≡ stepsOf rs e → getD (eventsAfter (contextOf rs .events) r .steps) e 0 ≡ stepsOf (r ∷ rs) e
-unfolding eventsAfter stepsOf placeOf
+unfolding eventsAfter stepsOf keyOf
 steps-after rs (Head m v x) e l t k = k
 steps-after rs (Event n o c) e l t k = k
 steps-after rs (Module n st i) e l t k = k
@@ -167,7 +167,7 @@ steps-after rs (Supervisor n st i a) e l t k = k
 steps-after rs (SupervisorMove v f x g) e l t k = k
 steps-after rs (Disabling v st m) e l t k = k
 steps-after rs (Step x i o y) e l t k =
-    stored-at 64 (contextOf rs .events .steps) x ((i + 1) % 256) e (events-fit rs .steps) l ∙ go (eqb x e) refl
+    with-entry-at 64 (contextOf rs .events .steps) x ((i + 1) % 256) e (events-fit rs .steps) l ∙ go (eqb x e) refl
   where
     go : (b : Bool) → eqb x e ≡ b → cond b ((i + 1) % 256) (getD (contextOf rs .events .steps) e 0) ≡ cond (true && b) (suc (stepsOf rs e)) (stepsOf rs e)
     go true q =
@@ -369,7 +369,7 @@ module _ (rs : List Record) (valid : Valid rs) where
 order-same : (rs : List Record) → Valid rs → (r : Record) → orderBy (contextOf rs) r ≡ inOrder rs r
 unfolding orderBy inOrder contextOf
 order-same [] v r = refl
-order-same (p ∷ ps) v r = ap (λ (t : Bool). precedes (placeOf p) (placeOf r) && t) (index-same (p ∷ ps) v r)
+order-same (p ∷ ps) v r = ap (λ (t : Bool). precedes (keyOf p) (keyOf r) && t) (index-same (p ∷ ps) v r)
 
 -- a choice whose first answer counts only where the test holds
 where-held : (b : Bool) {x x′ : ℕ} (y : ℕ) → (b ≡ true → x ≡ x′) → cond b x y ≡ cond b x′ y

@@ -6,7 +6,7 @@ use lib.Bits.{bitAnd}
 use Rattle.bits.specs.Bit.{bit, allBelow, everyEvent}
 use Rattle.records.specs.Kinds.{kindOf}
 use Rattle.records.specs.Range.{inRange}
-use Rattle.records.specs.Key.{placeOf, precedes}
+use Rattle.records.specs.Key.{keyOf, precedes}
 use Rattle.records.specs.declared.Record.{Record}
 use Rattle.records.specs.declared.Record.the-variants.{Head, Event, Module, ModuleMove, Supervisor, SupervisorMove, Disabling, Step, End}
 use Rattle.context.specs.Context.{ownerAt, stepsAt, moduleStatesAt, supervisorStatesAt, alphabetAt}
@@ -33,7 +33,7 @@ indexBy c (Step e i o x) = eqb i (stepsAt (c .events) e)
 indexBy c End = true
 
 unfoldable pub orderBy : Context → Record → Bool
-orderBy c r = cond (c .begun) (precedes (c .last) (placeOf r) && indexBy c r) (eqb (kindOf r) 0x10)
+orderBy c r = cond (c .begun) (precedes (c .last) (keyOf r) && indexBy c r) (eqb (kindOf r) 0x10)
 
 -- a state below a module's, or a supervisor's, states
 abbrev pub moduleStateBy : Context → ℕ → ℕ → Bool

@@ -72,7 +72,7 @@ fn in_order(c: Context, r: Record) -> bool
     let begun = c.begun;
     if begun {
         let p = c.last;
-        let q = records::place_of(r);
+        let q = records::key_of(r);
         let after = records::precedes(p, q);
         let runs = index_runs(c, r);
         after & runs

@@ -6,7 +6,7 @@ use mathlib.Core.Option.{Option, none, some}
 use mathlib.Core.Bool.{Bool, true, false, cond, not, _&&_, _||_}
 use lib.Dec.{eqb, ltb}
 use Rattle.bits.specs.Bit.{bit, putBit, least, someBelow, maskOf}
-use Rattle.records.specs.Key.{placeBy}
+use Rattle.records.specs.Key.{keyBy}
 use Rattle.records.specs.declared.Record.{Record}
 use Rattle.records.specs.declared.Record.the-variants.{Head, Event, Module, ModuleMove, Supervisor, SupervisorMove, Disabling, Step, End}
 use Rattle.reader.specs.declared.Found.{Found}
@@ -33,10 +33,10 @@ target Missing = none
 
 -- the listed moves of a module and of a supervisor
 abbrev pub moduleMove : List Record → ℕ → ℕ → ℕ → Option ℕ
-moduleMove rs m st e = target (findIn (placeBy 0x13 m st e) rs)
+moduleMove rs m st e = target (findIn (keyBy 0x13 m st e) rs)
 
 abbrev pub supervisorMove : List Record → ℕ → ℕ → ℕ → Option ℕ
-supervisorMove rs v st e = target (findIn (placeBy 0x15 v st e) rs)
+supervisorMove rs v st e = target (findIn (keyBy 0x15 v st e) rs)
 
 -- a move is listed
 unfoldable pub listed : Option ℕ → Bool
@@ -64,7 +64,7 @@ ownUncontrollable rs m e = ownEvent rs m e && not (controllable rs e)
 
 -- "Each supervisor shows the mask of its present state (0 if none)."
 abbrev pub shown : List Record → ℕ → ℕ → ℕ
-shown rs v st = fieldOf wordField (findIn (placeBy 0x16 v st 0) rs)
+shown rs v st = fieldOf wordField (findIn (keyBy 0x16 v st 0) rs)
 
 abbrev pub inAlphabet : List Record → ℕ → ℕ → Bool
 inAlphabet rs v e = bit (alphabetOf rs v) e
@@ -79,7 +79,7 @@ neighbours rs m = maskOf (λ v. ltb v (supervisorsOf rs) && neighbour rs m v) 32
 
 -- a step of an event's procedure
 abbrev pub stepIn : List Record → ℕ → ℕ → Found
-stepIn rs e i = findIn (placeBy 0x17 e i 0) rs
+stepIn rs e i = findIn (keyBy 0x17 e i 0) rs
 
 abbrev pub operationOf : List Record → ℕ → ℕ → ℕ
 operationOf rs e i = fieldOf field3 (stepIn rs e i)

@@ -13,9 +13,9 @@ use borrow.Author.Tests.{le-leb, lt-leb, eq-eqb, ne-eqb, leb-true, leb-false, eq
 use types.Run.{OneOf, miss}
 use denote.Enum.Declared.{tagOf}
 use Rattle.records.specs.Kinds.{bodyLen, noLen}
-use Rattle.records.specs.Key.{placeOf, samePlace}
+use Rattle.records.specs.Key.{keyOf, sameKey}
 use Rattle.records.specs.declared.Record.{Record}
-use Rattle.records.specs.declared.Place.{Place}
+use Rattle.records.specs.declared.RecordKey.{RecordKey}
 use Rattle.reader.specs.Read.{recordOf, readAt, readNumber}
 use Rattle.reader.specs.Walk.{Walk, more, stop, walkOf, walkFrom, recordsIn, Stopped, StopsAsRead}
 use Rattle.reader.specs.Find.{findIn}
@@ -140,19 +140,19 @@ module _ (s : List ℕ) (i : ℕ) {r : Read} where
   less-by n e g = let w = told-by e g in omega arith
 
 -- a look-up among the records from i, by the same
-module _ (p : Place) (s : List ℕ) (i : ℕ) {r : Read} {x : Found} where
-  pub finds-by : {t : Record} {n : ℕ} {q : Place} {b : Bool} → r ≡ readAt s i → r ≡ Whole t n → q ≡ placeOf t → b ≡ samePlace q p → b ≡ true
+module _ (p : RecordKey) (s : List ℕ) (i : ℕ) {r : Read} {x : Found} where
+  pub finds-by : {t : Record} {n : ℕ} {q : RecordKey} {b : Bool} → r ≡ readAt s i → r ≡ Whole t n → q ≡ keyOf t → b ≡ sameKey q p → b ≡ true
       → findIn p (recordsIn (walkFrom s i)) ≡ x → It t ≡ x
   unfolding findIn recordsIn
   finds-by {t = t} e g h m f v =
-      let a : samePlace (placeOf t) p ≡ true = cc in
+      let a : sameKey (keyOf t) p ≡ true = cc in
       sym (ap (λ (w : Walk). findIn p (recordsIn w)) (walks-by s i e g) ∙ simp a) ∙ v
 
-  pub again-by : {t : Record} (n : ℕ) {q : Place} {b : Bool} → r ≡ readAt s i → r ≡ Whole t n → q ≡ placeOf t → b ≡ samePlace q p → b ≡ false
+  pub again-by : {t : Record} (n : ℕ) {q : RecordKey} {b : Bool} → r ≡ readAt s i → r ≡ Whole t n → q ≡ keyOf t → b ≡ sameKey q p → b ≡ false
       → findIn p (recordsIn (walkFrom s i)) ≡ x → findIn p (recordsIn (walkFrom s n)) ≡ x
   unfolding findIn recordsIn
   again-by {t = t} n e g h m f v =
-      let a : samePlace (placeOf t) p ≡ false = cc in
+      let a : sameKey (keyOf t) p ≡ false = cc in
       sym (ap (λ (w : Walk). findIn p (recordsIn w)) (walks-by s i e g) ∙ simp a) ∙ v
 
   pub missing-by : r ≡ readAt s i → OneOf (1 ∷ 2 ∷ 3 ∷ []) (tagOf the-type r) → findIn p (recordsIn (walkFrom s i)) ≡ x → Missing ≡ x

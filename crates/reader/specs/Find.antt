@@ -2,13 +2,13 @@
 use Prim.Native.Nat.{ℕ}
 use mathlib.Core.List.{List, [], _∷_}
 use mathlib.Core.Bool.{Bool, cond}
-use Rattle.records.specs.Key.{placeOf, samePlace}
+use Rattle.records.specs.Key.{keyOf, sameKey}
 use Rattle.records.specs.declared.Record.{Record}
-use Rattle.records.specs.declared.Place.{Place}
+use Rattle.records.specs.declared.RecordKey.{RecordKey}
 use Rattle.reader.specs.declared.Found.{Found}
 use Rattle.reader.specs.declared.Found.the-variants.{It, Missing}
 
 -- the first record of a list with a kind and key
-unfoldable pub findIn : Place → List Record → Found
+unfoldable pub findIn : RecordKey → List Record → Found
 findIn p [] = Missing
-findIn p (r ∷ rs) = cond (samePlace (placeOf r) p) (It r) (findIn p rs)
+findIn p (r ∷ rs) = cond (sameKey (keyOf r) p) (It r) (findIn p rs)

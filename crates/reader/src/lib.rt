@@ -5,8 +5,8 @@ ghost use lib.ListN.{length, drop};
 ghost use Rattle.reader.specs.Read.{recordOf, readAt};
 ghost use Rattle.reader.specs.Find.{findIn};
 ghost use Rattle.reader.specs.Walk.{recordsOf};
-use records::Place;
 use records::Record;
+use records::RecordKey;
 
 // The record of a kind of the table whose body begins at an offset of the slice.
 fn record_of(kind: u8, s: &[u8], b: usize) -> Record
@@ -116,15 +116,15 @@ pub enum Found {
 }
 
 // The first record of an image with a kind and key.
-pub fn find(s: &[u8], p: Place) -> Found
-    ensures { λ r. ⌜ r ≡ findIn p (recordsOf (now (s .entry))) ⌝ }
+pub fn find(s: &[u8], key: RecordKey) -> Found
+    ensures { λ r. ⌜ r ≡ findIn key (recordsOf (now (s .entry))) ⌝ }
 {
     let mut i: usize = 0;
     loop {
         let Read::Whole(r, next) = read_at(s, i) else {
             return Found::Missing;
         };
-        if records::same_place(records::place_of(r), p) {
+        if records::same_key(records::key_of(r), key) {
             return Found::It(r);
         }
         i = next;

@@ -2,7 +2,7 @@
 ghost use mathlib.Core.Path.{_≡_};
 ghost use Rattle.records.specs.Kinds.{bodyLen, kindOf};
 ghost use Rattle.records.specs.Range.{inRange, operandInRange};
-ghost use Rattle.records.specs.Key.{placeBy, placeOf, samePlace, precedes};
+ghost use Rattle.records.specs.Key.{keyBy, keyOf, sameKey, precedes};
 
 // A record of each kind, with its fields in their order.
 pub enum Record {
@@ -166,17 +166,17 @@ pub fn in_range(r: Record) -> bool
 }
 
 // A record's kind and key; what a key lacks is 0.
-pub struct Place {
+pub struct RecordKey {
     pub kind: u8,
     pub first: u8,
     pub second: u8,
     pub third: u8,
 }
 
-fn place_by(kind: u8, first: u8, second: u8, third: u8) -> Place
-    ensures { λ p. ⌜ p ≡ placeBy kind first second third ⌝ }
+fn key_by(kind: u8, first: u8, second: u8, third: u8) -> RecordKey
+    ensures { λ p. ⌜ p ≡ keyBy kind first second third ⌝ }
 {
-    Place {
+    RecordKey {
         kind,
         first,
         second,
@@ -184,62 +184,62 @@ fn place_by(kind: u8, first: u8, second: u8, third: u8) -> Place
     }
 }
 
-pub fn place_of(r: Record) -> Place
-    ensures { λ p. ⌜ p ≡ placeOf r ⌝ }
+pub fn key_of(r: Record) -> RecordKey
+    ensures { λ p. ⌜ p ≡ keyOf r ⌝ }
 {
     match r {
-        Record::Head { .. } => place_by(0x10, 0, 0, 0),
+        Record::Head { .. } => key_by(0x10, 0, 0, 0),
         Record::Event {
             number,
             owner: _,
             class: _,
-        } => place_by(0x11, number, 0, 0),
+        } => key_by(0x11, number, 0, 0),
         Record::Module {
             number,
             states: _,
             initial: _,
-        } => place_by(0x12, number, 0, 0),
+        } => key_by(0x12, number, 0, 0),
         Record::ModuleMove {
             owner,
             from,
             event,
             to: _,
-        } => place_by(0x13, owner, from, event),
+        } => key_by(0x13, owner, from, event),
         Record::Supervisor {
             number,
             states: _,
             initial: _,
             alphabet: _,
-        } => place_by(0x14, number, 0, 0),
+        } => key_by(0x14, number, 0, 0),
         Record::SupervisorMove {
             supervisor,
             from,
             event,
             to: _,
-        } => place_by(0x15, supervisor, from, event),
+        } => key_by(0x15, supervisor, from, event),
         Record::Disabling {
             supervisor,
             state,
             mask: _,
-        } => place_by(0x16, supervisor, state, 0),
+        } => key_by(0x16, supervisor, state, 0),
         Record::Step {
             event,
             index,
             operation: _,
             operand: _,
-        } => place_by(0x17, event, index, 0),
-        Record::End => place_by(0x1f, 0, 0, 0),
+        } => key_by(0x17, event, index, 0),
+        Record::End => key_by(0x1f, 0, 0, 0),
     }
 }
 
-pub fn same_place(p: Place, q: Place) -> bool
-    ensures { λ t. ⌜ t ≡ samePlace p q ⌝ }
+pub fn same_key(p: RecordKey, q: RecordKey) -> bool
+    ensures { λ t. ⌜ t ≡ sameKey p q ⌝ }
 {
     (p.kind == q.kind) & (p.first == q.first) & (p.second == q.second) & (p.third == q.third)
 }
 
 // Whether p stands before q in the order of records.
-pub fn precedes(p: Place, q: Place) -> bool
+pub fn precedes(p: RecordKey, q: RecordKey) -> bool
     ensures { λ t. ⌜ t ≡ precedes p q ⌝ }
 {
     let third = (p.second < q.second) | ((p.second == q.second) & (p.third < q.third));

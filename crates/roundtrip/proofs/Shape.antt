@@ -7,7 +7,7 @@ use native.Mathlib.Omega.{arith}
 use lib.ListN.{length, getD, take, drop}
 use lib.Dec.{eqb}
 use borrow.Author.Tests.{eqb-true}
-use Rattle.words.specs.Word.{wordAt, wordBytes, step}
+use Rattle.words.specs.Word.{wordAt, wordBytes, appendByte}
 use Rattle.words.proofs.Laws.{word-read}
 use Rattle.records.specs.Kinds.{bodyLen, noLen, kindOf}
 use Rattle.records.specs.Bytes.{bytesOf}
@@ -77,9 +77,9 @@ module _ (s : List ℕ) (o : ℕ) (g : Bytes s) where
   word-written = digits (g o) (g (o + 1)) (g (o + 2)) (g (o + 3)) (g (o + 4)) (g (o + 5)) (g (o + 6)) (g (o + 7))
     where
       digits : {a b c d e f h i : ℕ} → Byte a → Byte b → Byte c → Byte d → Byte e → Byte f → Byte h → Byte i
-          → wordBytes (step (step (step (step (step (step (step a b) c) d) e) f) h) i) ≡ a ∷ b ∷ c ∷ d ∷ e ∷ f ∷ h ∷ i ∷ []
+          → wordBytes (appendByte (appendByte (appendByte (appendByte (appendByte (appendByte (appendByte a b) c) d) e) f) h) i) ≡ a ∷ b ∷ c ∷ d ∷ e ∷ f ∷ h ∷ i ∷ []
       digits {a} {b} {c} {d} {e} {f} {h} {i} la lb lc ld le lf lh li =
-          let x : ℕ = step (step (step (step (step (step (step a b) c) d) e) f) h) i in
+          let x : ℕ = appendByte (appendByte (appendByte (appendByte (appendByte (appendByte (appendByte a b) c) d) e) f) h) i in
           let ea : x / 0x100000000000000 % 256 ≡ a = omega arith in
           let eb : x / 0x1000000000000 % 256 ≡ b = omega arith in
           let ec : x / 0x10000000000 % 256 ≡ c = omega arith in

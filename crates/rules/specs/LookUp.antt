@@ -4,7 +4,7 @@ use mathlib.Core.List.{List, [], _∷_}
 use mathlib.Core.Bool.{Bool, true, false, cond, not, _&&_, _||_}
 use lib.Dec.{eqb, ltb}
 use Rattle.bits.specs.Bit.{bit, everyEvent}
-use Rattle.records.specs.Key.{placeBy, placeOf}
+use Rattle.records.specs.Key.{keyBy, keyOf}
 use Rattle.records.specs.declared.Record.{Record}
 use Rattle.records.specs.declared.Record.the-variants.{Head, Event, Module, ModuleMove, Supervisor, SupervisorMove, Disabling, Step, End}
 use Rattle.reader.specs.declared.Found.{Found}
@@ -69,23 +69,23 @@ fieldOf f Missing = 0
 
 -- the head's counts
 abbrev pub modulesOf : List Record → ℕ
-modulesOf rs = fieldOf field1 (findIn (placeBy 0x10 0 0 0) rs)
+modulesOf rs = fieldOf field1 (findIn (keyBy 0x10 0 0 0) rs)
 
 abbrev pub supervisorsOf : List Record → ℕ
-supervisorsOf rs = fieldOf field2 (findIn (placeBy 0x10 0 0 0) rs)
+supervisorsOf rs = fieldOf field2 (findIn (keyBy 0x10 0 0 0) rs)
 
 abbrev pub eventsOf : List Record → ℕ
-eventsOf rs = fieldOf field3 (findIn (placeBy 0x10 0 0 0) rs)
+eventsOf rs = fieldOf field3 (findIn (keyBy 0x10 0 0 0) rs)
 
 -- the records of an event, a module and a supervisor
 abbrev pub eventIn : List Record → ℕ → Found
-eventIn rs e = findIn (placeBy 0x11 e 0 0) rs
+eventIn rs e = findIn (keyBy 0x11 e 0 0) rs
 
 abbrev pub moduleIn : List Record → ℕ → Found
-moduleIn rs m = findIn (placeBy 0x12 m 0 0) rs
+moduleIn rs m = findIn (keyBy 0x12 m 0 0) rs
 
 abbrev pub supervisorIn : List Record → ℕ → Found
-supervisorIn rs v = findIn (placeBy 0x14 v 0 0) rs
+supervisorIn rs v = findIn (keyBy 0x14 v 0 0) rs
 
 -- "Undeclared means not below the head's count, or without its record so far"
 abbrev pub eventDeclared : List Record → ℕ → Bool
@@ -117,4 +117,4 @@ alphabetOf rs v = fieldOf wordField (supervisorIn rs v)
 -- how many steps of an event there are
 unfoldable pub stepsOf : List Record → ℕ → ℕ
 stepsOf [] e = zero
-stepsOf (r ∷ rs) e = cond (eqb (placeOf r .kind) 0x17 && eqb (placeOf r .first) e) (suc (stepsOf rs e)) (stepsOf rs e)
+stepsOf (r ∷ rs) e = cond (eqb (keyOf r .kind) 0x17 && eqb (keyOf r .first) e) (suc (stepsOf rs e)) (stepsOf rs e)

@@ -6,7 +6,7 @@ use mathlib.Core.Bool.{Bool, true, false, not, _&&_, _||_}
 use lib.Dec.{eqb, ltb}
 use Rattle.bits.specs.Bit.{bit, allBelow, everyEvent}
 use Rattle.records.specs.Kinds.{kindOf}
-use Rattle.records.specs.Key.{placeOf, precedes}
+use Rattle.records.specs.Key.{keyOf, precedes}
 use Rattle.records.specs.declared.Record.{Record}
 use Rattle.records.specs.declared.Record.the-variants.{Head, Event, Module, ModuleMove, Supervisor, SupervisorMove, Disabling, Step, End}
 use Rattle.rules.specs.LookUp.{modulesOf, supervisorsOf, eventsOf, eventDeclared, moduleDeclared, supervisorDeclared, moduleState, supervisorState, ownerOf, controllable, alphabetOf, stepsOf}
@@ -26,7 +26,7 @@ indexRuns rs End = true
 -- "There is one head. Records ascend by kind, then strictly by key": so no second head can follow
 unfoldable pub inOrder : List Record → Record → Bool
 inOrder [] r = eqb (kindOf r) 0x10
-inOrder (p ∷ rs) r = precedes (placeOf p) (placeOf r) && indexRuns (p ∷ rs) r
+inOrder (p ∷ rs) r = precedes (keyOf p) (keyOf r) && indexRuns (p ∷ rs) r
 
 -- 6: "names an undeclared module, supervisor, event or state". "The number that a record of kind 11, 12 or 14 declares, and the module
 -- in kind 11, need only be below the count. A mask bit at or above the event count is 6, as is a respond operand that is no declared

@@ -7,7 +7,7 @@ use native.Mathlib.Omega.{arith}
 use lib.ListN.{length, getD, drop, List·getD-eq-default}
 use lib.Seq.{sets, getD-drop}
 use borrow.Author.Tests.{le-leb, lt-leb}
-use Rattle.words.specs.Word.{wordAt, wordBytes, wordPut, step}
+use Rattle.words.specs.Word.{wordAt, wordBytes, wordPut, appendByte}
 
 -- past the end
 pub word-none : (s : List ℕ) (o : ℕ) → length s ≤ o → wordAt s o ≡ 0
@@ -37,11 +37,11 @@ unfolding wordPut
 put-short s o x h = simp (lt-leb (o + 8) (length s) h)
 
 -- one digit more
-up : (x c : ℕ) → step (x / (c * 256)) (x / c % 256) ≡ x / c
+up : (x c : ℕ) → appendByte (x / (c * 256)) (x / c % 256) ≡ x / c
 up x c = ap (λ (k : ℕ). k * 256 + x / c % 256) (sym (div-div-eq-div-mul x c 256)) ∙ div-add-mod' (x / c) 256
 
 digits : (x : ℕ) → x < 2 ^ 64
-    → step (step (step (step (step (step (step (x / 0x100000000000000 % 256) (x / 0x1000000000000 % 256)) (x / 0x10000000000 % 256)) (x / 0x100000000 % 256)) (x / 0x1000000 % 256)) (x / 0x10000 % 256)) (x / 0x100 % 256)) (x % 256) ≡ x
+    → appendByte (appendByte (appendByte (appendByte (appendByte (appendByte (appendByte (x / 0x100000000000000 % 256) (x / 0x1000000000000 % 256)) (x / 0x10000000000 % 256)) (x / 0x100000000 % 256)) (x / 0x1000000 % 256)) (x / 0x10000 % 256)) (x / 0x100 % 256)) (x % 256) ≡ x
 digits x h =
     let t : x / 0x100000000000000 % 256 ≡ x / 0x100000000000000 = omega arith in
     simp (t, up x 0x1000000000000, up x 0x10000000000, up x 0x100000000, up x 0x1000000, up x 0x10000, up x 0x100) (div-add-mod' x 256)

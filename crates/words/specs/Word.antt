@@ -6,14 +6,14 @@ use lib.ListN.{length, getD}
 use lib.Dec.{leb}
 use lib.Seq.{sets}
 
--- one byte more
-abbrev pub step : ℕ → ℕ → ℕ
-step a b = a * 256 + b
+-- a number with one byte appended
+abbrev pub appendByte : ℕ → ℕ → ℕ
+appendByte a b = a * 256 + b
 
 -- the number that the eight bytes at an offset are; bytes past the end count as 0
 unfoldable pub wordAt : List ℕ → ℕ → ℕ
 wordAt s o =
-    step (step (step (step (step (step (step (getD s o 0) (getD s (o + 1) 0)) (getD s (o + 2) 0)) (getD s (o + 3) 0)) (getD s (o + 4) 0)) (getD s (o + 5) 0)) (getD s (o + 6) 0)) (getD s (o + 7) 0)
+    appendByte (appendByte (appendByte (appendByte (appendByte (appendByte (appendByte (getD s o 0) (getD s (o + 1) 0)) (getD s (o + 2) 0)) (getD s (o + 3) 0)) (getD s (o + 4) 0)) (getD s (o + 5) 0)) (getD s (o + 6) 0)) (getD s (o + 7) 0)
 
 -- its eight bytes, the highest first
 unfoldable pub wordBytes : ℕ → List ℕ

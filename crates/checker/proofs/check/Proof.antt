@@ -6,7 +6,7 @@ use lib.ListN.{length}
 use Rattle.reader.specs.Walk.{walkFrom}
 use Rattle.reader.proofs.Reading.{inside-by, less-by}
 use Rattle.rules.specs.Check.{verdictOf}
-use Rattle.checker.proofs.Steps.{checkBy, begins, too-long, nothing-by, cut-by, unknown-by, refused-by, ended-by, goes-on-by}
+use Rattle.checker.proofs.Loop.{checkBy, begins, too-long, nothing-by, cut-by, unknown-by, refused-by, ended-by, goes-on-by}
 use Rattle.checker.proofs.check.Statement.{statement}
 use Rattle.checker.proofs.check.Tie as tie
 

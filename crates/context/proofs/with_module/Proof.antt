@@ -1,5 +1,5 @@
 use borrow.Author.Tests.{lt-ltb, le-ltb}
-use Rattle.context.specs.Context.{stored, marked}
+use Rattle.context.specs.Context.{withEntry, withBit}
 use borrow.Author.Needs.{needs}
 use Rattle.context.proofs.with_module.Statement.{statement}
 use Rattle.context.proofs.with_module.Tie as tie
@@ -14,11 +14,11 @@ element-write-next : tie.Need-element-write-next
 element-write-next c = search needs
 
 returns : tie.Need-returns
-unfolding stored marked
+unfolding withEntry withBit
 returns c = simp (lt-ltb _ 16 (c .before .before .if1 .taken), c .before .wide .ensures, c .put .ensures)
 
 returns-2 : tie.Need-returns-2
-unfolding stored marked
+unfolding withEntry withBit
 returns-2 c = simp (le-ltb _ _ (c .if1 .left))
 
 pub with-module-spec : {M : Type 1} → statement M

@@ -8,11 +8,11 @@ use Rattle.context.proofs.with_event.Reads as with-event-reads
 use Rattle.context.proofs.with_module.Reads as with-module-reads
 use Rattle.context.proofs.with_step.Reads as with-step-reads
 use Rattle.context.proofs.with_supervisor.Reads as with-supervisor-reads
-use Rattle.records.proofs.place_of.Reads as place-of-reads
+use Rattle.records.proofs.key_of.Reads as key-of-reads
 
 -- src/lib.rt:144:9
-place-of-requires : tie.Need-place-of-requires
-place-of-requires c κs = search needs
+key-of-requires : tie.Need-key-of-requires
+key-of-requires c κs = search needs
 
 -- src/lib.rt:147:24
 enum-known-r : tie.Need-enum-known-r
@@ -69,53 +69,53 @@ enum-told-4 c = search needs
 -- src/lib.rt:139:1
 returns : tie.Need-returns
 unfolding countsAfter eventsAfter modulesAfter supervisorsAfter
-returns c = simp (c .before .before .before .place-of .ensures, c .before .r .given .1)
+returns c = simp (c .before .before .before .key-of .ensures, c .before .r .given .1)
 
 -- src/lib.rt:139:1
 returns-2 : tie.Need-returns-2
 unfolding countsAfter eventsAfter modulesAfter supervisorsAfter
-returns-2 c = simp (c .before .before .before .before .before .place-of .ensures, c .with-event .ensures, c .before .before .before .r2 .given .1)
+returns-2 c = simp (c .before .before .before .before .before .key-of .ensures, c .with-event .ensures, c .before .before .before .r2 .given .1)
 
 -- src/lib.rt:139:1
 returns-3 : tie.Need-returns-3
 unfolding countsAfter eventsAfter modulesAfter supervisorsAfter
-returns-3 c = simp (c .before .before .before .before .before .place-of .ensures, c .with-module .ensures, c .before .before .before .r3 .given .1)
+returns-3 c = simp (c .before .before .before .before .before .key-of .ensures, c .with-module .ensures, c .before .before .before .r3 .given .1)
 
 -- src/lib.rt:139:1
 returns-4 : tie.Need-returns-4
 unfolding countsAfter eventsAfter modulesAfter supervisorsAfter
-returns-4 c = simp (c .before .before .place-of .ensures, c .enum-told .given .1)
+returns-4 c = simp (c .before .before .key-of .ensures, c .enum-told .given .1)
 
 -- src/lib.rt:139:1
 returns-5 : tie.Need-returns-5
 unfolding countsAfter eventsAfter modulesAfter supervisorsAfter
-returns-5 c = simp (c .before .before .before .before .before .place-of .ensures, c .with-supervisor .ensures, c .before .before .before .r4 .given .1)
+returns-5 c = simp (c .before .before .before .before .before .key-of .ensures, c .with-supervisor .ensures, c .before .before .before .r4 .given .1)
 
 -- src/lib.rt:139:1
 returns-6 : tie.Need-returns-6
 unfolding countsAfter eventsAfter modulesAfter supervisorsAfter
-returns-6 c = simp (c .before .before .place-of .ensures, c .enum-told2 .given .1)
+returns-6 c = simp (c .before .before .key-of .ensures, c .enum-told2 .given .1)
 
 -- src/lib.rt:139:1
 returns-7 : tie.Need-returns-7
 unfolding countsAfter eventsAfter modulesAfter supervisorsAfter
-returns-7 c = simp (c .before .before .place-of .ensures, c .enum-told3 .given .1)
+returns-7 c = simp (c .before .before .key-of .ensures, c .enum-told3 .given .1)
 
 -- src/lib.rt:139:1
 returns-8 : tie.Need-returns-8
 unfolding countsAfter eventsAfter modulesAfter supervisorsAfter
-returns-8 c = simp (c .before .before .before .before .before .place-of .ensures, c .with-step .ensures, c .before .before .before .r5 .given .1)
+returns-8 c = simp (c .before .before .before .before .before .key-of .ensures, c .with-step .ensures, c .before .before .before .r5 .given .1)
 
 -- src/lib.rt:139:1
 returns-9 : tie.Need-returns-9
 unfolding countsAfter eventsAfter modulesAfter supervisorsAfter
-returns-9 c = simp (c .before .before .place-of .ensures, c .enum-told4 .given .1)
+returns-9 c = simp (c .before .before .key-of .ensures, c .enum-told4 .given .1)
 
 pub with-record-spec : {M : Type 1} → statement M
 with-record-spec =
     tie.close
     (tie.spec
-    place-of-requires
+    key-of-requires
     enum-known-r
     enum-known-r-2
     with-event-requires

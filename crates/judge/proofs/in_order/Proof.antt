@@ -3,8 +3,8 @@ use borrow.Author.Needs.{needs}
 use Rattle.judge.proofs.in_order.Statement.{statement}
 use Rattle.judge.proofs.in_order.Tie as tie
 
-place-of-requires : tie.Need-place-of-requires
-place-of-requires c κs = search needs
+key-of-requires : tie.Need-key-of-requires
+key-of-requires c κs = search needs
 
 precedes-requires : tie.Need-precedes-requires
 precedes-requires c κs = search needs
@@ -17,7 +17,7 @@ kind-of-requires c κs = search needs
 
 returns : tie.Need-returns
 unfolding orderBy
-returns c = simp (c .before .before .before .before .if1 .taken, c .before .precedes .ensures, c .before .before .place-of .ensures, c .index-runs .ensures)
+returns c = simp (c .before .before .before .before .if1 .taken, c .before .precedes .ensures, c .before .before .key-of .ensures, c .index-runs .ensures)
 
 returns-2 : tie.Need-returns-2
 unfolding orderBy
@@ -27,7 +27,7 @@ pub in-order-spec : {M : Type 1} → statement M
 in-order-spec =
     tie.close
     (tie.spec
-    place-of-requires
+    key-of-requires
     precedes-requires
     index-runs-requires
     kind-of-requires

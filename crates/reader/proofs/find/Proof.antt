@@ -26,11 +26,11 @@ enum-known-r c = search needs
 returns : tie.Need-returns Inv-loop μ-loop
 returns c = search missing-by
 
-place-of-requires : tie.Need-place-of-requires Inv-loop μ-loop
-place-of-requires c κs = search needs
+key-of-requires : tie.Need-key-of-requires Inv-loop μ-loop
+key-of-requires c κs = search needs
 
-same-place-requires : tie.Need-same-place-requires Inv-loop μ-loop
-same-place-requires c κs = search needs
+same-key-requires : tie.Need-same-key-requires Inv-loop μ-loop
+same-key-requires c κs = search needs
 
 returns-2 : tie.Need-returns-2 Inv-loop μ-loop
 returns-2 c = search finds-by
@@ -51,8 +51,8 @@ find-spec =
     read-at-requires
     enum-known-r
     returns
-    place-of-requires
-    same-place-requires
+    key-of-requires
+    same-key-requires
     returns-2
     loop-less
     loop-again)
