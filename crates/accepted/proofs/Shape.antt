@@ -46,6 +46,6 @@ key-kind (Disabling v st m) = refl
 key-kind (Step e i o x) = refl
 key-kind End = refl
 
--- the two kinds of which there is one record
+-- the same by `kindOf`; a head and an end have no number, so that they are known by their kind alone
 pub lone : (k : ℕ) (r : Record) → kindOf r ≡ k → r ≡ remade k (keyOf r .first) r
 lone k r e = shape k (keyOf r .first) r (key-kind r ∙ e) refl

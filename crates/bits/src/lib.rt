@@ -28,7 +28,7 @@ pub fn within(a: u64, b: u64) -> bool
     a & !b == 0
 }
 
-// Whether the mask has every bit below n, which is at most 64.
+// Whether the mask has every bit below n. Above 64 the answer is false, since no mask has a bit there.
 pub fn has_below(m: u64, n: u8) -> bool
     ensures { λ r. ⌜ r ≡ allBelow (bit m) n ⌝ }
 {

@@ -206,7 +206,7 @@ pub fn with_record(c: Context, r: Record) -> Context
     }
 }
 
-// The module of an event, and 0 for a number that no event can have; so the others below.
+// The module of an event, and 0 for a number that no event can have.
 pub fn owner_of(ev: Events, event: u8) -> u8
     ensures { λ r. ⌜ r ≡ ownerAt ev event ⌝ }
 {
@@ -218,6 +218,7 @@ pub fn owner_of(ev: Events, event: u8) -> u8
     }
 }
 
+// How many steps an event has so far, and 0 for a number that no event can have.
 pub fn steps_of(ev: Events, event: u8) -> u8
     ensures { λ r. ⌜ r ≡ stepsAt ev event ⌝ }
 {
@@ -229,6 +230,7 @@ pub fn steps_of(ev: Events, event: u8) -> u8
     }
 }
 
+// How many states a module has, and 0 for a number that no module can have.
 pub fn module_states(ms: Modules, m: u8) -> u8
     ensures { λ r. ⌜ r ≡ moduleStatesAt ms m ⌝ }
 {
@@ -240,6 +242,7 @@ pub fn module_states(ms: Modules, m: u8) -> u8
     }
 }
 
+// How many states a supervisor has, and 0 for a number that no supervisor can have.
 pub fn supervisor_states(vs: Supervisors, v: u8) -> u8
     ensures { λ r. ⌜ r ≡ supervisorStatesAt vs v ⌝ }
 {
@@ -251,6 +254,7 @@ pub fn supervisor_states(vs: Supervisors, v: u8) -> u8
     }
 }
 
+// The alphabet of a supervisor, and 0 for a number that no supervisor can have.
 pub fn alphabet_of(vs: Supervisors, supervisor: u8) -> u64
     ensures { λ r. ⌜ r ≡ alphabetAt vs supervisor ⌝ }
 {

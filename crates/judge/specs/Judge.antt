@@ -1,4 +1,5 @@
--- The rules of the check by what it remembers of the records before. That this gives the same as those records is `proofs/Represents.antt`.
+-- The rules of the check by what it remembers of the records before. That this gives the same as those records do, over records of which
+-- none is faulty, is proved in `proofs/Represents.antt`.
 use Prim.Native.Nat.{ℕ}
 use mathlib.Core.Bool.{Bool, true, false, cond, not, _&&_, _||_}
 use lib.Dec.{eqb, ltb}

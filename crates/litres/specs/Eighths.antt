@@ -17,7 +17,7 @@ isEighths nan = false
 isEighths (inf s) = false
 isEighths (fin s m e) = not s && eqb (m * up e * 8 % down e) 0
 
--- that n
+-- the number of eighths of a finite value, 0 for others; the sign is not looked at
 unfoldable pub count : Float → ℕ
 count nan = 0
 count (inf s) = 0

@@ -1,4 +1,5 @@
--- Document 01, "Marked ◆", as one table over the definitions, each row by computation.
+-- Document 01, "Marked ◆", as one table over the definitions, each row by computation. `p-length` is the length that the sheet gives for P,
+-- not a marked row.
 use Prim.Native.Nat.{ℕ}
 use mathlib.Core.Path.{_≡_, refl}
 use mathlib.Core.List.{List, [], _∷_}

@@ -115,7 +115,8 @@ pub enum Found {
     Missing,
 }
 
-// The first record of an image with a kind and key.
+// The first record with a kind and key, as far as the image can be read, also after an end record;
+// in an accepted plan the end record is the last.
 pub fn find(s: &[u8], key: RecordKey) -> Found
     ensures { λ r. ⌜ r ≡ findIn key (recordsOf (now (s .entry))) ⌝ }
 {

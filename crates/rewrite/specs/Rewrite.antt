@@ -1,4 +1,4 @@
--- MISSION, demand 2: "An accepted plan, taken apart into records and written, yields its own bytes". Number 15 of document 01: "output
+-- Demand 2: "An accepted plan, taken apart into records and written, yields its own bytes". Number 15 of document 01: "output
 -- buffer shorter than the answer"; "An accepted call writes its answer from the buffer's start and nothing else."
 use Prim.Native.Nat.{ℕ}
 use mathlib.Core.Path.{_≡_}

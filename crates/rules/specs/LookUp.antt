@@ -11,7 +11,7 @@ use Rattle.reader.specs.declared.Found.{Found}
 use Rattle.reader.specs.declared.Found.the-variants.{It, Missing}
 use Rattle.reader.specs.Find.{findIn}
 
--- the one-byte fields of a record, the first one first, and 0 where it has none
+-- the first three one-byte fields of a record, and 0 where it has none
 unfoldable pub field1 : Record → ℕ
 field1 (Head m v e) = m
 field1 (Event n o c) = n

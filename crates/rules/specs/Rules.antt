@@ -1,5 +1,5 @@
 -- Document 01, "Numbers for what is turned down", 4 to 8: what each number asks of a record r, over the records rs before it, the latest
--- first. Number 5, the ranges, is `inRange` of the crate records.
+-- first. Number 5, the ranges, is `inRange` of the crate records. The "bytes after end" of number 4 are `endAt` of `Check.antt`.
 use Prim.Native.Nat.{ℕ}
 use mathlib.Core.List.{List, [], _∷_}
 use mathlib.Core.Bool.{Bool, true, false, not, _&&_, _||_}
@@ -28,7 +28,7 @@ unfoldable pub inOrder : List Record → Record → Bool
 inOrder [] r = eqb (kindOf r) 0x10
 inOrder (p ∷ rs) r = precedes (keyOf p) (keyOf r) && indexRuns (p ∷ rs) r
 
--- 6: "names an undeclared module, supervisor, event or state". "The number that a record of kind 11, 12 or 14 declares, and the module
+-- 6: "names an undeclared module, supervisor, event or state". "the number that a record of kind 11, 12 or 14 declares, and the module
 -- in kind 11, need only be below the count. A mask bit at or above the event count is 6, as is a respond operand that is no declared
 -- event."
 unfoldable pub namesDeclared : List Record → Record → Bool

@@ -4,19 +4,14 @@ use Rattle.bits.proofs.Laws.{bit-above}
 use borrow.Author.Needs.{needs}
 use Rattle.bits.proofs.has.Statement.{statement}
 use Rattle.bits.proofs.has.Tie as tie
-use Rattle.bits.proofs.has.Reads as reads
-use Rattle.bits.proofs.has.Lts as lts
 
--- src/lib.rt:9:18
 shr-result : tie.Need-shr-result
 shr-result c = search needs
 
--- src/lib.rt:6:1
 returns : tie.Need-returns
 unfolding bit
 returns c = refl
 
--- src/lib.rt:6:1
 returns-2 : tie.Need-returns-2
 returns-2 c = sym (bit-above 64 (c .before .args .m) (c .before .args .e) (c .before .fits .m .fits) (c .if1 .left))
 

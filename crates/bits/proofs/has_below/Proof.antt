@@ -5,31 +5,22 @@ use Rattle.bits.proofs.Laws.{shl-one, below-is, full-is, over-is}
 use borrow.Author.Needs.{needs}
 use Rattle.bits.proofs.has_below.Statement.{statement}
 use Rattle.bits.proofs.has_below.Tie as tie
-use Rattle.bits.proofs.has_below.Reads as reads
-use Rattle.bits.proofs.has_below.Lts as lts
-use Rattle.bits.proofs.within.Reads as within-reads
 
--- src/lib.rt:36:17
 shl-b : tie.Need-shl-b
 shl-b c = search needs
 
--- src/lib.rt:37:16
 sub-within : tie.Need-sub-within
 sub-within c = rw (shl-one 64 _ (c .if1 .taken)) (pow-pos _)
 
--- src/lib.rt:37:9
 within-requires : tie.Need-within-requires
 within-requires c κs = search needs
 
--- src/lib.rt:32:1
 returns : tie.Need-returns
 returns c = c .within .ensures ∙ rw (shl-one 64 _ (c .before .if1 .taken)) (below-is _ _ (omega arith))
 
--- src/lib.rt:32:1
 returns-2 : tie.Need-returns-2
 returns-2 c = full-is _ (c .before .before .fits .m .fits) ∙ rw (c .if2 .taken)
 
--- src/lib.rt:32:1
 returns-3 : tie.Need-returns-3
 returns-3 c = over-is _ _ (c .before .before .fits .m .fits) (omega arith)
 

@@ -2,111 +2,81 @@ use Rattle.context.specs.Context.{countsAfter, eventsAfter, modulesAfter
 use borrow.Author.Needs.{needs}
 use Rattle.context.proofs.with_record.Statement.{statement}
 use Rattle.context.proofs.with_record.Tie as tie
-use Rattle.context.proofs.with_record.Reads as reads
-use Rattle.context.proofs.with_record.Lts as lts
-use Rattle.context.proofs.with_event.Reads as with-event-reads
-use Rattle.context.proofs.with_module.Reads as with-module-reads
-use Rattle.context.proofs.with_step.Reads as with-step-reads
-use Rattle.context.proofs.with_supervisor.Reads as with-supervisor-reads
-use Rattle.records.proofs.key_of.Reads as key-of-reads
 
--- src/lib.rt:144:9
 key-of-requires : tie.Need-key-of-requires
 key-of-requires c κs = search needs
 
--- src/lib.rt:147:24
 enum-known-r : tie.Need-enum-known-r
 enum-known-r c = search needs
 
--- src/lib.rt:152:25
 enum-known-r-2 : tie.Need-enum-known-r-2
 enum-known-r-2 c = search needs
 
--- src/lib.rt:154:17
 with-event-requires : tie.Need-with-event-requires
 with-event-requires c κs = search needs
 
--- src/lib.rt:158:26
 enum-known-r-3 : tie.Need-enum-known-r-3
 enum-known-r-3 c = search needs
 
--- src/lib.rt:160:17
 with-module-requires : tie.Need-with-module-requires
 with-module-requires c κs = search needs
 
--- src/lib.rt:164:38
 enum-told : tie.Need-enum-told
 enum-told c = search needs
 
--- src/lib.rt:165:30
 enum-known-r-4 : tie.Need-enum-known-r-4
 enum-known-r-4 c = search needs
 
--- src/lib.rt:167:17
 with-supervisor-requires : tie.Need-with-supervisor-requires
 with-supervisor-requires c κs = search needs
 
--- src/lib.rt:171:42
 enum-told-2 : tie.Need-enum-told-2
 enum-told-2 c = search needs
 
--- src/lib.rt:172:37
 enum-told-3 : tie.Need-enum-told-3
 enum-told-3 c = search needs
 
--- src/lib.rt:173:24
 enum-known-r-5 : tie.Need-enum-known-r-5
 enum-known-r-5 c = search needs
 
--- src/lib.rt:175:17
 with-step-requires : tie.Need-with-step-requires
 with-step-requires c κs = search needs
 
--- src/lib.rt:179:24
 enum-told-4 : tie.Need-enum-told-4
 enum-told-4 c = search needs
 
--- src/lib.rt:139:1
 returns : tie.Need-returns
 unfolding countsAfter eventsAfter modulesAfter supervisorsAfter
 returns c = simp (c .before .before .before .key-of .ensures, c .before .r .given .1)
 
--- src/lib.rt:139:1
 returns-2 : tie.Need-returns-2
 unfolding countsAfter eventsAfter modulesAfter supervisorsAfter
 returns-2 c = simp (c .before .before .before .before .before .key-of .ensures, c .with-event .ensures, c .before .before .before .r2 .given .1)
 
--- src/lib.rt:139:1
 returns-3 : tie.Need-returns-3
 unfolding countsAfter eventsAfter modulesAfter supervisorsAfter
 returns-3 c = simp (c .before .before .before .before .before .key-of .ensures, c .with-module .ensures, c .before .before .before .r3 .given .1)
 
--- src/lib.rt:139:1
 returns-4 : tie.Need-returns-4
 unfolding countsAfter eventsAfter modulesAfter supervisorsAfter
 returns-4 c = simp (c .before .before .key-of .ensures, c .enum-told .given .1)
 
--- src/lib.rt:139:1
 returns-5 : tie.Need-returns-5
 unfolding countsAfter eventsAfter modulesAfter supervisorsAfter
 returns-5 c = simp (c .before .before .before .before .before .key-of .ensures, c .with-supervisor .ensures, c .before .before .before .r4 .given .1)
 
--- src/lib.rt:139:1
 returns-6 : tie.Need-returns-6
 unfolding countsAfter eventsAfter modulesAfter supervisorsAfter
 returns-6 c = simp (c .before .before .key-of .ensures, c .enum-told2 .given .1)
 
--- src/lib.rt:139:1
 returns-7 : tie.Need-returns-7
 unfolding countsAfter eventsAfter modulesAfter supervisorsAfter
 returns-7 c = simp (c .before .before .key-of .ensures, c .enum-told3 .given .1)
 
--- src/lib.rt:139:1
 returns-8 : tie.Need-returns-8
 unfolding countsAfter eventsAfter modulesAfter supervisorsAfter
 returns-8 c = simp (c .before .before .before .before .before .key-of .ensures, c .with-step .ensures, c .before .before .before .r5 .given .1)
 
--- src/lib.rt:139:1
 returns-9 : tie.Need-returns-9
 unfolding countsAfter eventsAfter modulesAfter supervisorsAfter
 returns-9 c = simp (c .before .before .key-of .ensures, c .enum-told4 .given .1)

@@ -11,14 +11,10 @@ use Rattle.records.proofs.Table.{below}
 use borrow.Author.Needs.{needs}
 use Rattle.records.proofs.body_len.Statement.{statement}
 use Rattle.records.proofs.body_len.Tie as tie
-use Rattle.records.proofs.body_len.Reads as reads
-use Rattle.records.proofs.body_len.Lts as lts
 
--- src/lib.rt:85:21
 cast-i : tie.Need-cast-i
 cast-i c = search needs
 
--- src/lib.rt:86:20
 array-read-result : tie.Need-array-read-result
 array-read-result c = search needs
 

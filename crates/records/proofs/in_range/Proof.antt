@@ -5,92 +5,70 @@ use Rattle.records.specs.Range.{inRange}
 use borrow.Author.Needs.{needs}
 use Rattle.records.proofs.in_range.Statement.{statement}
 use Rattle.records.proofs.in_range.Tie as tie
-use Rattle.records.proofs.in_range.Reads as reads
-use Rattle.records.proofs.in_range.Lts as lts
-use Rattle.records.proofs.operand_in_range.Reads as operand-in-range-reads
 
--- src/lib.rt:125:13
 enum-known-r : tie.Need-enum-known-r
 enum-known-r c = search needs
 
--- src/lib.rt:137:13
 enum-known-r-2 : tie.Need-enum-known-r-2
 enum-known-r-2 c = search needs
 
--- src/lib.rt:141:13
 enum-known-r-3 : tie.Need-enum-known-r-3
 enum-known-r-3 c = search needs
 
--- src/lib.rt:144:38
 enum-told : tie.Need-enum-told
 enum-told c = search needs
 
--- src/lib.rt:147:13
 enum-known-r-4 : tie.Need-enum-known-r-4
 enum-known-r-4 c = search needs
 
--- src/lib.rt:151:42
 enum-told-2 : tie.Need-enum-told-2
 enum-told-2 c = search needs
 
--- src/lib.rt:155:13
 enum-known-r-5 : tie.Need-enum-known-r-5
 enum-known-r-5 c = search needs
 
--- src/lib.rt:159:13
 enum-known-r-6 : tie.Need-enum-known-r-6
 enum-known-r-6 c = search needs
 
--- src/lib.rt:162:30
 operand-in-range-requires : tie.Need-operand-in-range-requires
 operand-in-range-requires c κs = search needs
 
--- src/lib.rt:163:24
 enum-told-3 : tie.Need-enum-told-3
 enum-told-3 c = search needs
 
--- src/lib.rt:120:1
 returns : tie.Need-returns
 unfolding inRange
 returns c = cc
 
--- src/lib.rt:120:1
 returns-2 : tie.Need-returns-2
 unfolding inRange
 returns-2 c = cc
 
--- src/lib.rt:120:1
 returns-3 : tie.Need-returns-3
 unfolding inRange
 returns-3 c = cc
 
--- src/lib.rt:120:1
 returns-4 : tie.Need-returns-4
 unfolding inRange
 returns-4 c = cc
 
--- src/lib.rt:120:1
 returns-5 : tie.Need-returns-5
 unfolding inRange
 returns-5 c = sym (ap inRange (c .before .r4 .given .1))
 
--- src/lib.rt:120:1
 returns-6 : tie.Need-returns-6
 unfolding inRange
 returns-6 c = cc
 
--- src/lib.rt:120:1
 returns-7 : tie.Need-returns-7
 unfolding inRange
 returns-7 c = cc
 
--- src/lib.rt:120:1
 returns-8 : tie.Need-returns-8
 unfolding inRange
 returns-8 c =
     ap (λ (t : Bool). leb (c .before .before .r6 .given .0 .1 .0) 63 && t) (c .operand-in-range .ensures) ∙ sym (ap inRange (c .before .before .r6 .given .1))
 
--- src/lib.rt:120:1
 returns-9 : tie.Need-returns-9
 unfolding inRange
 returns-9 c = cc

@@ -2,86 +2,66 @@ use Rattle.records.specs.Kinds.{kindOf}
 use borrow.Author.Needs.{needs}
 use Rattle.records.proofs.kind_of.Statement.{statement}
 use Rattle.records.proofs.kind_of.Tie as tie
-use Rattle.records.proofs.kind_of.Reads as reads
-use Rattle.records.proofs.kind_of.Lts as lts
 
--- src/lib.rt:96:32
 enum-told : tie.Need-enum-told
 enum-told c = search needs
 
--- src/lib.rt:97:33
 enum-told-2 : tie.Need-enum-told-2
 enum-told-2 c = search needs
 
--- src/lib.rt:98:34
 enum-told-3 : tie.Need-enum-told-3
 enum-told-3 c = search needs
 
--- src/lib.rt:99:38
 enum-told-4 : tie.Need-enum-told-4
 enum-told-4 c = search needs
 
--- src/lib.rt:100:38
 enum-told-5 : tie.Need-enum-told-5
 enum-told-5 c = search needs
 
--- src/lib.rt:101:42
 enum-told-6 : tie.Need-enum-told-6
 enum-told-6 c = search needs
 
--- src/lib.rt:102:37
 enum-told-7 : tie.Need-enum-told-7
 enum-told-7 c = search needs
 
--- src/lib.rt:103:32
 enum-told-8 : tie.Need-enum-told-8
 enum-told-8 c = search needs
 
--- src/lib.rt:104:24
 enum-told-9 : tie.Need-enum-told-9
 enum-told-9 c = search needs
 
--- src/lib.rt:92:1
 returns : tie.Need-returns
 unfolding kindOf
 returns c = search needs
 
--- src/lib.rt:92:1
 returns-2 : tie.Need-returns-2
 unfolding kindOf
 returns-2 c = search needs
 
--- src/lib.rt:92:1
 returns-3 : tie.Need-returns-3
 unfolding kindOf
 returns-3 c = search needs
 
--- src/lib.rt:92:1
 returns-4 : tie.Need-returns-4
 unfolding kindOf
 returns-4 c = search needs
 
--- src/lib.rt:92:1
 returns-5 : tie.Need-returns-5
 unfolding kindOf
 returns-5 c = search needs
 
--- src/lib.rt:92:1
 returns-6 : tie.Need-returns-6
 unfolding kindOf
 returns-6 c = search needs
 
--- src/lib.rt:92:1
 returns-7 : tie.Need-returns-7
 unfolding kindOf
 returns-7 c = search needs
 
--- src/lib.rt:92:1
 returns-8 : tie.Need-returns-8
 unfolding kindOf
 returns-8 c = search needs
 
--- src/lib.rt:92:1
 returns-9 : tie.Need-returns-9
 unfolding kindOf
 returns-9 c = search needs

@@ -4,35 +4,26 @@ use Rattle.records.specs.Range.{operandInRange}
 use borrow.Author.Needs.{needs}
 use Rattle.records.proofs.operand_in_range.Statement.{statement}
 use Rattle.records.proofs.operand_in_range.Tie as tie
-use Rattle.records.proofs.operand_in_range.Reads as reads
-use Rattle.records.proofs.operand_in_range.Lts as lts
-use Rattle.litres.proofs.target_ok.Reads as target-ok-reads
 
--- src/lib.rt:115:14
 target-ok-requires : tie.Need-target-ok-requires
 target-ok-requires c κs = search needs
 
--- src/lib.rt:108:1
 returns : tie.Need-returns
 unfolding operandInRange
 returns c = rw (c .match .keys1)
 
--- src/lib.rt:108:1
 returns-2 : tie.Need-returns-2
 unfolding operandInRange
 returns-2 c = rw (c .match .keys2)
 
--- src/lib.rt:108:1
 returns-3 : tie.Need-returns-3
 unfolding operandInRange
 returns-3 c = rw (c .match .keys3)
 
--- src/lib.rt:108:1
 returns-4 : tie.Need-returns-4
 unfolding operandInRange
 returns-4 c = c .target-ok .ensures ∙ rw (c .before .match .keys4)
 
--- src/lib.rt:108:1
 returns-5 : tie.Need-returns-5
 unfolding operandInRange
 returns-5 c = simp (ne-eqb _ _ (c .match .rest .0 .0 .0 .1), ne-eqb _ _ (c .match .rest .0 .0 .1), ne-eqb _ _ (c .match .rest .0 .1), ne-eqb _ _ (c .match .rest .1))
