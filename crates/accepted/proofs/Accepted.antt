@@ -21,7 +21,7 @@ use Rattle.rules.specs.LookUp.{field1, field2, field3, wordField, found, fieldO
 use Rattle.rules.specs.Rules.{inOrder, allDeclared}
 use Rattle.rules.specs.Check.{IsPlan}
 use Rattle.rules.specs.Valid.{Valid}
-use Rattle.accepted.specs.Plan.{_∈_, Unique, LawOf, TheEvent, TheModule, TheSupervisor, TheStep, Sound, Ended}
+use Rattle.accepted.specs.Plan.{_∈_, Unique, LawOf, TheEvent, TheModule, TheSupervisor, TheStep, Sound, Ended, EveryPlan}
 use Rattle.accepted.proofs.Order.{unique}
 use Rattle.accepted.proofs.Look.{both, head, finds, some-found, found-more}
 use Rattle.accepted.proofs.Shape.{remade, shape}
@@ -171,22 +171,22 @@ in-reverse (x ∷ xs) acc t (inl m) = in-reverse xs (x ∷ acc) t (⊎-elim (λ 
 in-reverse (x ∷ xs) acc t (inr m) = in-reverse xs (x ∷ acc) t (inr (List·Memᴰ·tail m))
 
 module _ (s : List ℕ) (accepted : IsPlan s) where
-  pub stops-at-end : Ended s
-  stops-at-end =
+  ended : Ended s
+  ended =
       let w = walked-plan s accepted in
       record { short = short s accepted; before = w .before; end-last = w .last; stops = w .stops }
 
-  pub valid : Valid (reverse (recordsOf s))
-  valid = walked-plan s accepted .valid
-
-  pub sound : Sound (recordsOf s)
-  sound = sound-of (reverse (recordsOf s)) (recordsOf s) valid (latest-first End ended) in-order latest-first
+  sound : Sound (recordsOf s)
+  sound = sound-of (reverse (recordsOf s)) (recordsOf s) (walked-plan s accepted .valid) (latest-first End listed) in-order latest-first
     where
-      ended : End ∈ recordsOf s
-      ended = subst (λ (l : List Record). End ∈ l) (sym (stops-at-end .end-last)) (Memᴰ·append-right (stops-at-end .before) (List·Memᴰ·head refl))
+      listed : End ∈ recordsOf s
+      listed = subst (λ (l : List Record). End ∈ l) (sym (ended .end-last)) (Memᴰ·append-right (ended .before) (List·Memᴰ·head refl))
 
       latest-first : (r : Record) → r ∈ recordsOf s → r ∈ reverse (recordsOf s)
       latest-first r m = in-reverse (recordsOf s) [] r (inl m)
 
       in-order : (r : Record) → r ∈ reverse (recordsOf s) → r ∈ recordsOf s
       in-order r m = subst (λ (l : List Record). r ∈ l) (reverse-reverse (recordsOf s)) (in-reverse (reverse (recordsOf s)) [] r (inl m))
+
+pub every-plan : EveryPlan
+every-plan s accepted = record { sound = sound s accepted; ended = ended s accepted }

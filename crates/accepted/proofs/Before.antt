@@ -16,7 +16,8 @@ use Rattle.records.specs.declared.Record.the-variants.{Head, Step}
 use Rattle.rules.specs.LookUp.{field1, field2, field3, wordField, stepsOf}
 use Rattle.rules.specs.Rules.{inOrder, indexRuns}
 use Rattle.rules.specs.Check.{faultOf}
-use Rattle.rules.specs.Valid.{Valid, Passes, passes}
+use Rattle.rules.specs.Valid.{Valid, Passes}
+use Rattle.rules.proofs.Valid.{passes}
 use Rattle.accepted.specs.Plan.{_∈_, TheStep}
 use Rattle.accepted.proofs.Look.{both}
 use Rattle.accepted.proofs.Shape.{shape, lone}

@@ -13,7 +13,8 @@ use Rattle.records.specs.Key.{keyOf, precedes}
 use Rattle.records.specs.declared.Record.{Record}
 use Rattle.records.specs.declared.RecordKey.{RecordKey}
 use Rattle.rules.specs.Rules.{inOrder, indexRuns}
-use Rattle.rules.specs.Valid.{Valid, passes}
+use Rattle.rules.specs.Valid.{Valid}
+use Rattle.rules.proofs.Valid.{passes}
 use Rattle.accepted.specs.Plan.{_∈_, Unique}
 
 -- ---- the order of keys

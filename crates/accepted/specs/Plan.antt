@@ -11,9 +11,9 @@ use Rattle.records.specs.declared.Record.{Record}
 use Rattle.records.specs.declared.Record.the-variants.{Head, Event, Module, ModuleMove, Supervisor, SupervisorMove, Disabling, Step, End}
 use Rattle.reader.specs.declared.Found.the-variants.{It}
 use Rattle.reader.specs.Find.{findIn}
-use Rattle.reader.specs.Walk.{walkFrom, recordsOf}
+use Rattle.reader.specs.Walk.{walkFrom, recordsOf, stopOf}
 use Rattle.rules.specs.LookUp.{field2, fieldOf, modulesOf, supervisorsOf, eventsOf, moduleIn, supervisorIn, ownerOf, controllable, alphabetOf}
-use Rattle.reader.specs.Walk.{stopOf}
+use Rattle.rules.specs.Check.{limit, IsPlan}
 
 infix 45 _∈_
 abbrev pub _∈_ : Record → List Record → Type 0
@@ -142,7 +142,15 @@ pub record Sound (rs : List Record) : Type 0 where
 
 -- the image of an accepted plan: records, the end record last and nothing after it
 pub record Ended (s : List ℕ) : Type 0 where
-  pub short : length s ≤ 49152
+  pub short : length s ≤ limit
   pub before : List Record
   pub end-last : recordsOf s ≡ before ++ (End ∷ [])
   pub stops : stopOf (walkFrom s 0) ≡ length s
+
+-- what every accepted plan promises
+pub record OfPlan (s : List ℕ) : Type 0 where
+  pub sound : Sound (recordsOf s)
+  pub ended : Ended s
+
+abbrev pub EveryPlan : Type 0
+EveryPlan = (s : List ℕ) → IsPlan s → OfPlan s

@@ -23,7 +23,8 @@ use Rattle.reader.specs.Find.{findIn}
 use Rattle.rules.specs.LookUp.{field1, field2, field3, found, fieldOf, modulesOf, supervisorsOf, eventsOf, eventIn, moduleIn, supervisorIn, eventDeclared, moduleDeclared, supervisorDeclared, moduleState, supervisorState, ownerOf, controllable, alphabetOf, stepsOf}
 use Rattle.rules.specs.Rules.{indexRuns, inOrder, namesDeclared, keepsRules, allDeclared}
 use Rattle.rules.specs.Check.{faultOf}
-use Rattle.rules.specs.Valid.{Valid, Passes, passes}
+use Rattle.rules.specs.Valid.{Valid, Passes}
+use Rattle.rules.proofs.Valid.{passes}
 use Rattle.context.specs.declared.Context.{Context}
 use Rattle.context.specs.Context.{withEntry, eventsAfter, contextOf, entry, ownerAt, stepsAt, moduleStatesAt, supervisorStatesAt, alphabetAt}
 use Rattle.context.proofs.Tables.{with-entry-at}

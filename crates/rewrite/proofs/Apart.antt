@@ -4,7 +4,7 @@ use mathlib.Core.List.{List, [], _∷_, _++_, append-assoc, append-nil, List·Me
 use mathlib.Core.Bool.{true}
 use Prim.Native.Nat.{ℕ, _+_, _-_, _≤_, _<_}
 use native.Mathlib.Omega.{arith}
-use lib.ListN.{length, getD, take, drop, length-append, length-drop, drop-of-length-le}
+use lib.ListN.{length, take, drop, length-append, length-drop, drop-of-length-le}
 use lib.Seq.{take-all, take-length, take-at, take-add, drop-drop, drop-append-add, length-take-le}
 use borrow.Author.Tests.{lt-ltb, le-ltb}
 use types.Run.{OneOf, miss}
@@ -29,13 +29,12 @@ use Rattle.rules.specs.Check.{verdictOf, IsPlan}
 use Rattle.rules.specs.declared.Verdict.{Verdict}
 use Rattle.rules.specs.declared.Verdict.the-variants.{Accepted, Refused}
 use Rattle.accepted.specs.Plan.{_∈_}
-use Rattle.accepted.proofs.Accepted.{sound, stops-at-end}
-use Rattle.rewrite.specs.Rewrite.{planBytes, answerBy, bufferBy, Rewrote}
+use Rattle.accepted.proofs.Accepted.{every-plan}
+use Rattle.rewrite.specs.Rewrite.{planBytes, OwnBytes, answerBy, bufferBy, Rewrote}
 use Rattle.rewrite.specs.declared.Rewritten.the-variants.{Length, Refused as Denied}
 
--- "An accepted plan, taken apart into records and written, yields its own bytes"
-pub own-bytes : (s : List ℕ) → ((i : ℕ) → getD s i 0 < 256) → IsPlan s → planBytes s ≡ s
-own-bytes s g a = taken-whole s g (stops-at-end s a .stops)
+pub own-bytes : OwnBytes
+own-bytes s g a = taken-whole s g (every-plan s a .ended .stops)
 
 -- a record written into the part of a buffer from an offset on, with the part back in its place
 pub put-by : (r : Record) (b q : List ℕ) (i : ℕ) {w : Written} → inRange r ≡ true → i + sizeOf r ≤ length b → Wrote r (take (length b - i) (drop i b)) w q
@@ -59,7 +58,7 @@ pub record Going (s b₀ b : List ℕ) (i : ℕ) : Type 0 where
   pub stops : stopOf (walkFrom s i) ≡ length s
 
 pub begins : (s b : List ℕ) → Bytes s → IsPlan s → length s ≤ length b → Going s b b 0
-begins s b g a h = record { small = g; room = h; bytes = refl; ranges = sound s a .ranges; stops = stops-at-end s a .stops }
+begins s b g a h = record { small = g; room = h; bytes = refl; ranges = every-plan s a .sound .ranges; stops = every-plan s a .ended .stops }
 
 -- from what a caller of `read_at` is told: its answer x, and which case x is
 module _ (s b₀ b : List ℕ) (i : ℕ) {x : Read} where

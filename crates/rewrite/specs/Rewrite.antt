@@ -8,7 +8,8 @@ use lib.ListN.{length, drop}
 use lib.Dec.{ltb}
 use Rattle.records.specs.Bytes.{bytesOfAll}
 use Rattle.reader.specs.Walk.{recordsOf}
-use Rattle.rules.specs.Check.{verdictOf}
+use Rattle.roundtrip.specs.Fits.{Bytes}
+use Rattle.rules.specs.Check.{verdictOf, IsPlan}
 use Rattle.rules.specs.declared.Verdict.{Verdict}
 use Rattle.rules.specs.declared.Verdict.the-variants.{Accepted, Refused}
 use Rattle.rewrite.specs.declared.Rewritten.{Rewritten}
@@ -17,6 +18,10 @@ use Rattle.rewrite.specs.declared.Rewritten.the-variants.{Length, Refuse
 -- the plan's records as bytes, one after another
 abbrev pub planBytes : List ℕ → List ℕ
 planBytes s = bytesOfAll (recordsOf s)
+
+-- "An accepted plan, taken apart into records and written, yields its own bytes"
+abbrev pub OwnBytes : Type 0
+OwnBytes = (s : List ℕ) → Bytes s → IsPlan s → planBytes s ≡ s
 
 -- the check's own number and offset, or 15, or the length written
 unfoldable pub answerBy : Verdict → List ℕ → List ℕ → Rewritten

@@ -1,9 +1,7 @@
 -- Lists of records in which no record is faulty, the latest first as in the check.
-use Prim.Native.Nat.{ℕ, suc}
-use mathlib.Core.Path.{_≡_, refl}
+use mathlib.Core.Path.{_≡_}
 use mathlib.Core.List.{List, [], _∷_}
-use mathlib.Core.Bool.{Bool, true, false, cond}
-use native.Mathlib.Omega.{arith}
+use mathlib.Core.Bool.{true}
 use Rattle.records.specs.Range.{inRange}
 use Rattle.records.specs.declared.Record.{Record}
 use Rattle.rules.specs.Rules.{inOrder, namesDeclared, keepsRules, allDeclared}
@@ -21,18 +19,3 @@ pub record Passes (rs : List Record) (r : Record) : Type 0 where
   pub names : namesDeclared rs r ≡ true
   pub rules : keepsRules rs r ≡ true
   pub whole : allDeclared rs r ≡ true
-
--- a chain of tests that gives 0 has gone past its first one
-past : (b : Bool) (x n : ℕ) → cond b x (suc n) ≡ 0 → (b ≡ true) × (x ≡ 0)
-past true x n e = (refl, e)
-past false x n e = absurd (omega arith)
-
-pub passes : (rs : List Record) (r : Record) → faultOf rs r ≡ 0 → Passes rs r
-unfolding faultOf
-passes rs r e =
-    let p4 = past (inOrder rs r) _ _ e in
-    let p5 = past (inRange r) _ _ (p4 .1) in
-    let p6 = past (namesDeclared rs r) _ _ (p5 .1) in
-    let p7 = past (keepsRules rs r) _ _ (p6 .1) in
-    let p8 = past (allDeclared rs r) _ _ (p7 .1) in
-    record { order = p4 .0; range = p5 .0; names = p6 .0; rules = p7 .0; whole = p8 .0 }
