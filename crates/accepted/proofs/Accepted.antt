@@ -8,7 +8,7 @@ use lib.Dec.{T, ltb, leb→le}
 use Rattle.bits.specs.Bit.{allBelow}
 use Rattle.bits.proofs.Laws.{all-at, holds}
 use Rattle.records.specs.Kinds.{kindOf}
-use Rattle.records.specs.Key.{keyBy, keyOf}
+use Rattle.records.specs.Key.{keyBy, headKey, keyOf}
 use Rattle.records.specs.Range.{inRange}
 use Rattle.records.specs.declared.Record.{Record}
 use Rattle.records.specs.declared.Record.the-variants.{Head, Event, Module, Supervisor, Step, End}
@@ -23,7 +23,7 @@ use Rattle.rules.specs.Check.{IsPlan}
 use Rattle.rules.specs.Valid.{Valid}
 use Rattle.accepted.specs.Plan.{_∈_, Unique, LawOf, TheEvent, TheModule, TheSupervisor, TheStep, Sound, Ended, EveryPlan}
 use Rattle.accepted.proofs.Order.{unique}
-use Rattle.accepted.proofs.Look.{both, head, finds, some-found, found-more}
+use Rattle.accepted.proofs.Look.{both, finds, some-found, found-more}
 use Rattle.accepted.proofs.Shape.{remade, shape}
 use Rattle.accepted.proofs.Walked.{short, walked-plan}
 use Rattle.accepted.proofs.Law.{law}
@@ -71,15 +71,15 @@ module _ (latest all : List Record) (v : Valid latest) (ended : End ∈ latest) 
   first : Record
   first = Head (start .modules) (start .supervisors) (start .events)
 
-  head-found : findIn head (last .before) ≡ It first
+  head-found : findIn headKey (last .before) ≡ It first
   unfolding keyOf first
   head-found = finds (last .before) (unique (last .before) (last .valid)) first (start .listed)
 
-  head-same : findIn head (last .before) ≡ findIn head all
+  head-same : findIn headKey (last .before) ≡ findIn headKey all
   unfolding found
-  head-same = same last head (subst (λ (f : Found). T (found f)) (sym head-found) tt)
+  head-same = same last headKey (subst (λ (f : Found). T (found f)) (sym head-found) tt)
 
-  counts : Counts (findIn head all)
+  counts : Counts (findIn headKey all)
   unfolding first fieldOf field1 field2 field3 inRange
   counts =
       let t : T (inRange first) = holds (ranges first (last .within first (start .listed))) in
@@ -91,11 +91,11 @@ module _ (latest all : List Record) (v : Valid latest) (ended : End ∈ latest) 
       })
 
   -- the record of kind k of each number below the count that the head's field f gives
-  declared : (k : ℕ) (f : Record → ℕ) → let n = fieldOf f (findIn head (last .before)) in
+  declared : (k : ℕ) (f : Record → ℕ) → let n = fieldOf f (findIn headKey (last .before)) in
       T (allBelow (λ i. ltb i n && found (findIn (keyBy k i 0 0) (last .before))) n)
-      → (i : ℕ) → i < fieldOf f (findIn head all) → (r : Record) × (remade k i r ∈ all)
+      → (i : ℕ) → i < fieldOf f (findIn headKey all) → (r : Record) × (remade k i r ∈ all)
   declared k f t i h =
-      let n : ℕ = fieldOf f (findIn head (last .before)) in
+      let n : ℕ = fieldOf f (findIn headKey (last .before)) in
       let d : T (ltb i n && found (findIn (keyBy k i 0 0) (last .before))) = all-at _ n t i (subst (λ (l : Found). i < fieldOf f l) (sym head-same) h) in
       let s = some-found (keyBy k i 0 0) (last .before) (search both) in
       (s .0, Memᴰ·cast (sym (shape k i (s .0) (ap (λ (p : RecordKey). p .kind) (s .2)) (ap (λ (p : RecordKey). p .first) (s .2)))) (last .within (s .0) (s .1)))

@@ -7,7 +7,7 @@ use lib.Dec.{T, eqb, ltb, ltb→lt, leb→le, eqb→eq}
 use borrow.Author.Tests.{eq-eqb, not-true}
 use Rattle.bits.specs.Bit.{bit, everyEvent}
 use Rattle.bits.proofs.Laws.{all-at, holds, is-true}
-use Rattle.records.specs.Key.{keyBy}
+use Rattle.records.specs.Key.{keyBy, headKey}
 use Rattle.records.specs.Range.{inRange, operandInRange}
 use Rattle.records.specs.declared.Record.{Record}
 use Rattle.records.specs.declared.Record.the-variants.{Head, Event, Module, ModuleMove, Supervisor, SupervisorMove, Disabling, Step, End}
@@ -18,7 +18,7 @@ use Rattle.rules.specs.LookUp.{field1, field2, field3, wordField, found, fieldO
 use Rattle.rules.specs.Rules.{namesDeclared, keepsRules}
 use Rattle.rules.specs.Valid.{Passes}
 use Rattle.accepted.specs.Plan.{EachOf, LawOf}
-use Rattle.accepted.proofs.Look.{both, head, found-field}
+use Rattle.accepted.proofs.Look.{both, found-field}
 
 -- a test that must hold only under another one
 under : (a b : Bool) → a ≡ true → T (not a || b) → T b
@@ -35,7 +35,7 @@ module _ (some all : List Record) (same : (p : RecordKey) → T (found (findIn p
       subst (λ (l : Found). x < fieldOf f l) (same p (found-field f x (findIn p some) h)) h
 
   event-below : (e : ℕ) → T (eventDeclared some e) → e < eventsOf all
-  event-below e t = below field3 head e (search both)
+  event-below e t = below field3 headKey e (search both)
 
   event-same : (e : ℕ) → T (eventDeclared some e) → eventIn some e ≡ eventIn all e
   event-same e t = same (keyBy 0x11 e 0 0) (search both)
@@ -54,14 +54,14 @@ module _ (some all : List Record) (same : (p : RecordKey) → T (found (findIn p
   law (Head m v e) p = tt
   law (Event n o c) p =
       let named : T (namesDeclared some (Event n o c)) = holds (p .names) in
-      record { number = below field3 head n (search both); owner = below field1 head o (search both) }
+      record { number = below field3 headKey n (search both); owner = below field1 headKey o (search both) }
   law (Module n st i) p =
       let named : T (namesDeclared some (Module n st i)) = holds (p .names) in
-      record { number = below field1 head n (search both); initial = ltb→lt i st (search both) }
+      record { number = below field1 headKey n (search both); initial = ltb→lt i st (search both) }
   law (ModuleMove m f e t) p =
       let named : T (namesDeclared some (ModuleMove m f e t)) = holds (p .names) in
       record {
-        owner = below field1 head m (search both);
+        owner = below field1 headKey m (search both);
         from = below field2 (keyBy 0x12 m 0 0) f (search both);
         event = event-below e (search both);
         to = below field2 (keyBy 0x12 m 0 0) t (search both);
@@ -70,14 +70,14 @@ module _ (some all : List Record) (same : (p : RecordKey) → T (found (findIn p
   law (Supervisor n st i a) p =
       let named : T (namesDeclared some (Supervisor n st i a)) = holds (p .names) in
       record {
-        number = below field2 head n (search both);
+        number = below field2 headKey n (search both);
         initial = ltb→lt i st (search both);
         alphabet = λ e h b. event-below e (each a (eventDeclared some) (search both) e h b);
       }
   law (SupervisorMove v f e t) p =
       let named : T (namesDeclared some (SupervisorMove v f e t)) = holds (p .names) in
       record {
-        supervisor = below field2 head v (search both);
+        supervisor = below field2 headKey v (search both);
         from = below field2 (keyBy 0x14 v 0 0) f (search both);
         event = event-below e (search both);
         to = below field2 (keyBy 0x14 v 0 0) t (search both);
@@ -86,7 +86,7 @@ module _ (some all : List Record) (same : (p : RecordKey) → T (found (findIn p
   law (Disabling v st m) p =
       let named : T (namesDeclared some (Disabling v st m)) = holds (p .names) in
       record {
-        supervisor = below field2 head v (search both);
+        supervisor = below field2 headKey v (search both);
         state = below field2 (keyBy 0x14 v 0 0) st (search both);
         mask = λ e h b.
             let declared : T (eventDeclared some e) = each m (eventDeclared some) (search both) e h b in

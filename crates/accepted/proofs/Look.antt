@@ -8,7 +8,7 @@ use mathlib.Core.Bool.{Bool, true, false, cond}
 use lib.Dec.{T, eqb→eq, eqb-refl}
 use lib.Ieee.Fits.{and-l, and-r, and-i}
 use Rattle.bits.proofs.Laws.{holds}
-use Rattle.records.specs.Key.{keyBy, keyOf, sameKey}
+use Rattle.records.specs.Key.{keyOf, sameKey}
 use Rattle.records.specs.declared.Record.{Record}
 use Rattle.records.specs.declared.RecordKey.{RecordKey}
 use Rattle.reader.specs.Find.{findIn}
@@ -19,10 +19,6 @@ use Rattle.accepted.specs.Plan.{_∈_, Unique}
 
 -- the parts of a test joined by &&
 pub ruleset both = (and-l, and-r)
-
--- the kind and key of the head
-abbrev pub head : RecordKey
-head = keyBy 0x10 0 0 0
 
 same-is : (p q : RecordKey) → T (sameKey p q) → p ≡ q
 unfolding sameKey

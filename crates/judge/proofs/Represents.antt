@@ -15,7 +15,7 @@ use Rattle.bits.specs.Bit.{bit, allBelow, everyEvent}
 use Rattle.bits.proofs.Laws.{bit-and, all-same}
 use Rattle.records.specs.Kinds.{kindOf}
 use Rattle.records.specs.Range.{inRange, between, operandInRange}
-use Rattle.records.specs.Key.{keyBy, keyOf, sameKey, precedes}
+use Rattle.records.specs.Key.{headKey, keyOf, sameKey, precedes}
 use Rattle.records.specs.declared.Record.{Record}
 use Rattle.records.specs.declared.Record.the-variants.{Head, Event, Module, ModuleMove, Supervisor, SupervisorMove, Disabling, Step, End}
 use Rattle.reader.specs.declared.Found.the-variants.{It, Missing}
@@ -60,7 +60,7 @@ pub record Bounded (rs : List Record) : Type 0 where
 
 -- the facts stay where neither a count nor a look-up changed
 unmoved : {rs : List Record} (r : Record)
-    → findIn (keyBy 0x10 0 0 0) (r ∷ rs) ≡ findIn (keyBy 0x10 0 0 0) rs
+    → findIn headKey (r ∷ rs) ≡ findIn headKey rs
     → ((e : ℕ) → found (eventIn (r ∷ rs) e) ≡ true → e < eventsOf rs)
     → ((e : ℕ) → eventsOf rs ≤ e → stepsOf (r ∷ rs) e ≡ 0)
     → Bounded rs → Bounded (r ∷ rs)

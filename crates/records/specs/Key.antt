@@ -11,9 +11,13 @@ use Rattle.records.specs.declared.RecordKey.{RecordKey}
 abbrev pub keyBy : ℕ → ℕ → ℕ → ℕ → RecordKey
 keyBy k a b c = record { kind = k; first = a; second = b; third = c }
 
+-- the head has no key
+abbrev pub headKey : RecordKey
+headKey = keyBy 0x10 0 0 0
+
 -- the kind and the key; what a key lacks counts as 0
 unfoldable pub keyOf : Record → RecordKey
-keyOf (Head m v e) = keyBy 0x10 0 0 0
+keyOf (Head m v e) = headKey
 keyOf (Event n o c) = keyBy 0x11 n 0 0
 keyOf (Module n st i) = keyBy 0x12 n 0 0
 keyOf (ModuleMove m f e t) = keyBy 0x13 m f e

@@ -4,7 +4,7 @@ use mathlib.Core.List.{List, [], _∷_}
 use mathlib.Core.Bool.{Bool, true, false, cond, not, _&&_, _||_}
 use lib.Dec.{eqb, ltb}
 use Rattle.bits.specs.Bit.{bit, everyEvent}
-use Rattle.records.specs.Key.{keyBy, keyOf}
+use Rattle.records.specs.Key.{keyBy, headKey, keyOf}
 use Rattle.records.specs.declared.Record.{Record}
 use Rattle.records.specs.declared.Record.the-variants.{Head, Event, Module, ModuleMove, Supervisor, SupervisorMove, Disabling, Step, End}
 use Rattle.reader.specs.declared.Found.{Found}
@@ -69,13 +69,13 @@ fieldOf f Missing = 0
 
 -- the head's counts
 abbrev pub modulesOf : List Record → ℕ
-modulesOf rs = fieldOf field1 (findIn (keyBy 0x10 0 0 0) rs)
+modulesOf rs = fieldOf field1 (findIn headKey rs)
 
 abbrev pub supervisorsOf : List Record → ℕ
-supervisorsOf rs = fieldOf field2 (findIn (keyBy 0x10 0 0 0) rs)
+supervisorsOf rs = fieldOf field2 (findIn headKey rs)
 
 abbrev pub eventsOf : List Record → ℕ
-eventsOf rs = fieldOf field3 (findIn (keyBy 0x10 0 0 0) rs)
+eventsOf rs = fieldOf field3 (findIn headKey rs)
 
 -- the records of an event, a module and a supervisor
 abbrev pub eventIn : List Record → ℕ → Found
