@@ -6,7 +6,8 @@ use mathlib.Core.List.{List, [], _∷_, reverseAux, reverse, reverse-reverse, Li
 use mathlib.Core.Bool.{true, _&&_}
 use lib.Dec.{T, ltb, leb→le}
 use Rattle.bits.specs.Bit.{allBelow}
-use Rattle.bits.proofs.Laws.{all-at, holds}
+use denote.Floats.{passes as holds}
+use Rattle.bits.proofs.Laws.{all-at}
 use Rattle.records.specs.Kinds.{kindOf}
 use Rattle.records.specs.Key.{keyBy, headKey, keyOf}
 use Rattle.records.specs.Range.{inRange}
@@ -66,7 +67,7 @@ module _ (latest all : List Record) (v : Valid latest) (ended : End ∈ latest) 
 
   start : TheHead (last .before)
   unfolding inOrder kindOf
-  start = the-head (last .before) (last .valid) (λ e. holds (subst (λ (l : List Record). inOrder l End ≡ true) e (last .passed .order)))
+  start = the-head (last .before) (last .valid) (λ e. holds _ (subst (λ (l : List Record). inOrder l End ≡ true) e (last .passed .order)))
 
   first : Record
   first = Head (start .modules) (start .supervisors) (start .events)
@@ -82,7 +83,7 @@ module _ (latest all : List Record) (v : Valid latest) (ended : End ∈ latest) 
   counts : Counts (findIn headKey all)
   unfolding first fieldOf field1 field2 field3 inRange
   counts =
-      let t : T (inRange first) = holds (ranges first (last .within first (start .listed))) in
+      let t : T (inRange first) = holds _ (ranges first (last .within first (start .listed))) in
       subst Counts (sym head-found ∙ head-same)
       (record {
         modules = (leb→le 1 (start .modules) (search both), leb→le (start .modules) 16 (search both));
@@ -103,7 +104,7 @@ module _ (latest all : List Record) (v : Valid latest) (ended : End ∈ latest) 
   the-event : (e : ℕ) → e < eventsOf all → TheEvent all e
   unfolding allDeclared inRange
   the-event e h =
-      let t : T (allDeclared (last .before) End) = holds (last .passed .whole) in
+      let t : T (allDeclared (last .before) End) = holds _ (last .passed .whole) in
       let k = declared 0x11 field3 (search both) e h in
       let r : Record = Event e (field2 (k .0)) (field3 (k .0)) in
       record {
@@ -111,16 +112,16 @@ module _ (latest all : List Record) (v : Valid latest) (ended : End ∈ latest) 
         class = field3 (k .0);
         listed = k .1;
         owner-below = laws r (k .1) .owner;
-        class-most = leb→le (field3 (k .0)) 1 (holds (ranges r (k .1)));
+        class-most = leb→le (field3 (k .0)) 1 (holds _ (ranges r (k .1)));
       }
 
   the-module : (m : ℕ) → m < modulesOf all → TheModule all m
   unfolding allDeclared inRange
   the-module m h =
-      let t : T (allDeclared (last .before) End) = holds (last .passed .whole) in
+      let t : T (allDeclared (last .before) End) = holds _ (last .passed .whole) in
       let k = declared 0x12 field1 (search both) m h in
       let r : Record = Module m (field2 (k .0)) (field3 (k .0)) in
-      let s : T (inRange r) = holds (ranges r (k .1)) in
+      let s : T (inRange r) = holds _ (ranges r (k .1)) in
       record {
         states = field2 (k .0);
         initial = field3 (k .0);
@@ -133,10 +134,10 @@ module _ (latest all : List Record) (v : Valid latest) (ended : End ∈ latest) 
   the-supervisor : (v : ℕ) → v < supervisorsOf all → TheSupervisor all v
   unfolding allDeclared inRange
   the-supervisor v h =
-      let t : T (allDeclared (last .before) End) = holds (last .passed .whole) in
+      let t : T (allDeclared (last .before) End) = holds _ (last .passed .whole) in
       let k = declared 0x14 field2 (search both) v h in
       let r : Record = Supervisor v (field2 (k .0)) (field3 (k .0)) (wordField (k .0)) in
-      let s : T (inRange r) = holds (ranges r (k .1)) in
+      let s : T (inRange r) = holds _ (ranges r (k .1)) in
       record {
         states = field2 (k .0);
         initial = field3 (k .0);

@@ -8,7 +8,7 @@ use mathlib.Core.List.{List, [], _∷_, List·Memᴰ·head, List·Memᴰ·tail, 
 use mathlib.Core.Bool.{Bool, true, false, cond, _&&_}
 use lib.Dec.{T, eqb, eqb→eq}
 use borrow.Author.Tests.{eqb-true}
-use Rattle.bits.proofs.Laws.{holds}
+use denote.Floats.{passes as holds}
 use Rattle.records.specs.Kinds.{kindOf}
 use Rattle.records.specs.Key.{keyOf}
 use Rattle.records.specs.declared.Record.{Record}
@@ -65,8 +65,8 @@ the-head (r ∷ x ∷ rs) v full =
 
 pub index-is : (rs : List Record) (e i o x : ℕ) → inOrder rs (Step e i o x) ≡ true → i ≡ stepsOf rs e
 unfolding inOrder indexRuns kindOf
-index-is [] e i o x h = absurd (holds h)
-index-is (p ∷ rs) e i o x h = let t : T (inOrder (p ∷ rs) (Step e i o x)) = holds h in eqb→eq i (stepsOf (p ∷ rs) e) (search both)
+index-is [] e i o x h = absurd (holds _ h)
+index-is (p ∷ rs) e i o x h = let t : T (inOrder (p ∷ rs) (Step e i o x)) = holds _ h in eqb→eq i (stepsOf (p ∷ rs) e) (search both)
 
 pub steps-listed : (rs : List Record) → Valid rs → (e j : ℕ) → j < stepsOf rs e → TheStep rs e j
 unfolding Valid stepsOf
@@ -83,7 +83,7 @@ steps-listed (r ∷ rs) v e j h = go (eqb (keyOf r .kind) 0x17 && eqb (keyOf r .
       where
         is : r ≡ Step e (field2 r) (field3 r) (wordField r)
         is =
-            let t : T (eqb (keyOf r .kind) 0x17 && eqb (keyOf r .first) e) = holds q in
+            let t : T (eqb (keyOf r .kind) 0x17 && eqb (keyOf r .first) e) = holds _ q in
             shape 0x17 e r (eqb→eq (keyOf r .kind) 0x17 (search both)) (eqb→eq (keyOf r .first) e (search both))
 
         index : field2 r ≡ stepsOf rs e

@@ -6,7 +6,8 @@ use mathlib.Core.Bool.{Bool, true, not, _&&_, _||_}
 use lib.Dec.{T, eqb, ltb, ltb→lt, leb→le, eqb→eq}
 use borrow.Author.Tests.{eq-eqb, not-true}
 use Rattle.bits.specs.Bit.{bit, everyEvent}
-use Rattle.bits.proofs.Laws.{all-at, holds, is-true}
+use denote.Floats.{passes as holds, is-true}
+use Rattle.bits.proofs.Laws.{all-at}
 use Rattle.records.specs.Key.{keyBy, headKey}
 use Rattle.records.specs.Range.{inRange, operandInRange}
 use Rattle.records.specs.declared.Record.{Record}
@@ -53,29 +54,29 @@ module _ (some all : List Record) (same : (p : RecordKey) → T (found (findIn p
   unfolding namesDeclared keepsRules inRange
   law (Head m v e) p = tt
   law (Event n o c) p =
-      let named : T (namesDeclared some (Event n o c)) = holds (p .names) in
+      let named : T (namesDeclared some (Event n o c)) = holds _ (p .names) in
       record { number = below field3 headKey n (search both); owner = below field1 headKey o (search both) }
   law (Module n st i) p =
-      let named : T (namesDeclared some (Module n st i)) = holds (p .names) in
+      let named : T (namesDeclared some (Module n st i)) = holds _ (p .names) in
       record { number = below field1 headKey n (search both); initial = ltb→lt i st (search both) }
   law (ModuleMove m f e t) p =
-      let named : T (namesDeclared some (ModuleMove m f e t)) = holds (p .names) in
+      let named : T (namesDeclared some (ModuleMove m f e t)) = holds _ (p .names) in
       record {
         owner = below field1 headKey m (search both);
         from = below field2 (keyBy 0x12 m 0 0) f (search both);
         event = event-below e (search both);
         to = below field2 (keyBy 0x12 m 0 0) t (search both);
-        own-event = sym (owner-same e (search both)) ∙ eqb→eq (ownerOf some e) m (holds (p .rules));
+        own-event = sym (owner-same e (search both)) ∙ eqb→eq (ownerOf some e) m (holds _ (p .rules));
       }
   law (Supervisor n st i a) p =
-      let named : T (namesDeclared some (Supervisor n st i a)) = holds (p .names) in
+      let named : T (namesDeclared some (Supervisor n st i a)) = holds _ (p .names) in
       record {
         number = below field2 headKey n (search both);
         initial = ltb→lt i st (search both);
         alphabet = λ e h b. event-below e (each a (eventDeclared some) (search both) e h b);
       }
   law (SupervisorMove v f e t) p =
-      let named : T (namesDeclared some (SupervisorMove v f e t)) = holds (p .names) in
+      let named : T (namesDeclared some (SupervisorMove v f e t)) = holds _ (p .names) in
       record {
         supervisor = below field2 headKey v (search both);
         from = below field2 (keyBy 0x14 v 0 0) f (search both);
@@ -84,13 +85,13 @@ module _ (some all : List Record) (same : (p : RecordKey) → T (found (findIn p
         in-alphabet = ap (λ (a : ℕ). bit a e) (sym (alphabet-same v (search both))) ∙ p .rules;
       }
   law (Disabling v st m) p =
-      let named : T (namesDeclared some (Disabling v st m)) = holds (p .names) in
+      let named : T (namesDeclared some (Disabling v st m)) = holds _ (p .names) in
       record {
         supervisor = below field2 headKey v (search both);
         state = below field2 (keyBy 0x14 v 0 0) st (search both);
         mask = λ e h b.
             let declared : T (eventDeclared some e) = each m (eventDeclared some) (search both) e h b in
-            let allowed : T (controllable some e && bit (alphabetOf some v) e) = each m _ (holds (p .rules)) e h b in
+            let allowed : T (controllable some e && bit (alphabetOf some v) e) = each m _ (holds _ (p .rules)) e h b in
             record {
               event = event-below e declared;
               class = sym (class-same e declared) ∙ is-true (controllable some e) (search both);
@@ -98,9 +99,9 @@ module _ (some all : List Record) (same : (p : RecordKey) → T (found (findIn p
             };
       }
   law (Step e i o x) p =
-      let named : T (namesDeclared some (Step e i o x)) = holds (p .names) in
-      let allowed : T (keepsRules some (Step e i o x)) = holds (p .rules) in
-      let ranged : T (inRange (Step e i o x)) = holds (p .range) in
+      let named : T (namesDeclared some (Step e i o x)) = holds _ (p .names) in
+      let allowed : T (keepsRules some (Step e i o x)) = holds _ (p .rules) in
+      let ranged : T (inRange (Step e i o x)) = holds _ (p .range) in
       record {
         event = event-below e (search both);
         class = sym (class-same e (search both)) ∙ is-true (controllable some e) (search both);

@@ -7,7 +7,7 @@ use mathlib.Core.List.{List, [], _∷_, List·Memᴰ·head, List·Memᴰ·tail, 
 use mathlib.Core.Bool.{Bool, true, false, cond}
 use lib.Dec.{T, eqb→eq, eqb-refl}
 use lib.Ieee.Fits.{and-l, and-r, and-i}
-use Rattle.bits.proofs.Laws.{holds}
+use denote.Floats.{passes as holds}
 use Rattle.records.specs.Key.{keyOf, sameKey}
 use Rattle.records.specs.declared.Record.{Record}
 use Rattle.records.specs.declared.RecordKey.{RecordKey}
@@ -40,7 +40,7 @@ found-at p [] r e = let z : _≡_ {A = ℕ} 0 1 = cc in absurd (omega arith)
 found-at p (x ∷ rs) r e = go (sameKey (keyOf x) p) refl e (found-at p rs r)
   where
     go : (b : Bool) → sameKey (keyOf x) p ≡ b → cond b (It x) (findIn p rs) ≡ It r → (findIn p rs ≡ It r → (r ∈ rs) × (keyOf r ≡ p)) → (r ∈ (x ∷ rs)) × (keyOf r ≡ p)
-    go true s e f = let q : r ≡ x = cc in (List·Memᴰ·head q, ap keyOf q ∙ same-is (keyOf x) p (holds s))
+    go true s e f = let q : r ≡ x = cc in (List·Memᴰ·head q, ap keyOf q ∙ same-is (keyOf x) p (holds _ s))
     go false s e f = (List·Memᴰ·tail (f e .0), f e .1)
 
 pub some-found : (p : RecordKey) (rs : List Record) → T (found (findIn p rs)) → (r : Record) × (r ∈ rs) × (keyOf r ≡ p)

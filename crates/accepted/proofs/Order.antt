@@ -8,7 +8,7 @@ use mathlib.Core.Bool.{Bool, true, false, _&&_, _||_}
 use lib.Dec.{T, ltb, eqb, ltb→lt}
 use lib.Ieee.Fits.{and-l}
 use borrow.Author.Tests.{ltb-true, eqb-true}
-use Rattle.bits.proofs.Laws.{holds}
+use denote.Floats.{passes as holds}
 use Rattle.records.specs.Key.{keyOf, precedes}
 use Rattle.records.specs.declared.Record.{Record}
 use Rattle.records.specs.declared.RecordKey.{RecordKey}
@@ -75,7 +75,7 @@ after [] r t v m = absurd (List·Memᴰ·not-nil m)
 after (x ∷ rs) r t v m = go (List·Memᴰ·cases-cons m) (λ n. after rs x t (v .1) n)
   where
     next : Precedes (keyOf x) (keyOf r)
-    next = precedes-is (keyOf x) (keyOf r) (and-l (precedes (keyOf x) (keyOf r)) (indexRuns (x ∷ rs) r) (holds (passes (x ∷ rs) r (v .0) .order)))
+    next = precedes-is (keyOf x) (keyOf r) (and-l (precedes (keyOf x) (keyOf r)) (indexRuns (x ∷ rs) r) (holds _ (passes (x ∷ rs) r (v .0) .order)))
 
     go : (t ≡ x) ⊎ (t ∈ rs) → (t ∈ rs → Precedes (keyOf t) (keyOf x)) → Precedes (keyOf t) (keyOf r)
     go (inl e) f = subst (λ (y : Record). Precedes (keyOf y) (keyOf r)) (sym e) next

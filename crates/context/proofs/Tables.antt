@@ -39,8 +39,8 @@ with-bit-fits k m i on h = go (ltb i k)
     go true = put-fits m i on h
     go false = h
 
-same-test : (i j : ℕ) → eqb j i ≡ eqb i j
-same-test i j = go (eqb i j) refl
+eqb-swap : (i j : ℕ) → eqb j i ≡ eqb i j
+eqb-swap i j = go (eqb i j) refl
   where
     go : (d : Bool) → eqb i j ≡ d → eqb j i ≡ d
     go true q = eq-eqb j i (sym (eqb-true i j q))
@@ -54,6 +54,6 @@ with-bit-at k m i on j w h l = go (ltb i k) refl (eqb i j) refl
     go : (b : Bool) → ltb i k ≡ b → (d : Bool) → eqb i j ≡ d → bit (cond b (putBit m i on) m) j ≡ cond d on (bit m j)
     go true p d q =
         let g : i < k = ltb-true i k p in
-        put-bits m i on j h (omega arith) (omega arith) ∙ ap (λ (t : Bool). cond t on (bit m j)) (same-test i j ∙ q)
+        put-bits m i on j h (omega arith) (omega arith) ∙ ap (λ (t : Bool). cond t on (bit m j)) (eqb-swap i j ∙ q)
     go false p true q = let e : i ≡ j = eqb-true i j q in let g : k ≤ i = ltb-false i k p in absurd (omega arith)
     go false p false q = refl

@@ -16,6 +16,7 @@ use lib.Ieee.Order.{transfer, le-of-values}
 use lib.Ieee.Bits.{is-true, is-false, ofBits-toBits, toBits-lt, ofBits-fits, toBits-ofBits, nanBits-is, nanBits-above}
 use denote.Floats.{passes}
 use lib.Ieee.Fits.{neg-fits}
+use Rattle.bits.proofs.Laws.{same-test}
 use Rattle.litres.specs.Eighths.{eighths, isEighths, count, litresOk, targetOk}
 
 -- ---- the value of `eighths n`
@@ -57,12 +58,6 @@ unique (fin t m e) (fin u n d) s a c C p q v w =
     ∙ ofBits-toBits binary64 (fin u n d) q
 
 -- ---- tests
-
-pub same-test : (a b : Bool) → (T a → T b) → (T b → T a) → a ≡ b
-same-test true true p q = refl
-same-test true false p q = absurd (p tt)
-same-test false true p q = absurd (q tt)
-same-test false false p q = refl
 
 and-or : (a b : Bool) → (a && (b || a)) ≡ a
 and-or true true = refl

@@ -7,7 +7,8 @@ use lib.Dec.{eqb, eqb→eq, leb, ltb}
 use lib.ListN.{getD}
 use borrow.Author.Tests.{le-leb, lt-leb, lt-ltb, le-ltb}
 use Rattle.records.specs.Kinds.{bodyLen}
-use Rattle.records.proofs.Table.{below}
+use Rattle.bits.specs.Bit.{allBelow}
+use Rattle.bits.proofs.Laws.{all-at}
 use borrow.Author.Needs.{needs}
 use Rattle.records.proofs.body_len.Statement.{statement}
 use Rattle.records.proofs.body_len.Tie as tie
@@ -29,8 +30,8 @@ right : ℕ → Bool
 right k = eqb (given k) (bodyLen k)
 
 rule : (k : ℕ) → k < 256 → given k ≡ bodyLen k
-unfolding lens given right bodyLen
-rule k h = eqb→eq (given k) (bodyLen k) (below right 256 tt k h)
+unfolding lens given right bodyLen allBelow
+rule k h = eqb→eq (given k) (bodyLen k) (all-at right 256 tt k h)
 
 returns : tie.Need-returns
 unfolding lens given
