@@ -1,39 +1,34 @@
 -- The laws of an accepted plan.
-use Prim.Native.Nat.{ℕ, _≤_, _<_}
-use mathlib.Core.Path.{_≡_, refl, sym, ap, _∙_, subst}
+use Prim.Native.Nat.{ℕ, _<_}
+use mathlib.Core.Path.{_≡_, refl, sym, ap, subst}
 use mathlib.Core.Logic.{_⊎_, inl, inr, ⊎-elim}
 use mathlib.Core.List.{List, [], _∷_, reverseAux, reverse, reverse-reverse, List·Memᴰ·head, List·Memᴰ·tail, List·Memᴰ·not-nil, List·Memᴰ·cases-cons, Memᴰ·cast, Memᴰ·append-right}
-use mathlib.Core.Bool.{true, _&&_}
+use mathlib.Core.Bool.{true, _&&_, false≢true}
 use lib.Dec.{T, ltb, leb→le}
 use Rattle.bits.specs.Bit.{allBelow}
 use denote.Floats.{passes as holds}
 use Rattle.bits.proofs.Laws.{all-at}
 use Rattle.records.specs.Kinds.{kindOf}
-use Rattle.records.specs.Key.{keyBy, headKey, keyOf}
+use Rattle.records.specs.Key.{keyBy, headKey}
 use Rattle.records.specs.Range.{inRange}
 use Rattle.records.specs.declared.Record.{Record}
-use Rattle.records.specs.declared.Record.the-variants.{Head, Event, Module, Supervisor, Step, End}
+use Rattle.records.specs.declared.Record.the-variants.{Event, Module, Supervisor, Step, End}
 use Rattle.records.specs.declared.RecordKey.{RecordKey}
 use Rattle.reader.specs.Find.{findIn}
 use Rattle.reader.specs.Walk.{recordsOf}
 use Rattle.reader.specs.declared.Found.{Found}
-use Rattle.reader.specs.declared.Found.the-variants.{It}
 use Rattle.rules.specs.LookUp.{field1, field2, field3, wordField, found, fieldOf, modulesOf, supervisorsOf, eventsOf}
 use Rattle.rules.specs.Rules.{inOrder, allDeclared}
 use Rattle.rules.specs.Check.{IsPlan}
 use Rattle.rules.specs.Valid.{Valid}
+use Rattle.rules.proofs.Valid.{both, index-is, Headed, headed, Counted, counted}
 use Rattle.accepted.specs.Plan.{_∈_, Unique, LawOf, TheEvent, TheModule, TheSupervisor, TheStep, Sound, Ended, EveryPlan}
 use Rattle.accepted.proofs.Order.{unique}
-use Rattle.accepted.proofs.Look.{both, finds, some-found, found-more}
+use Rattle.accepted.proofs.Look.{finds, some-found, found-more}
 use Rattle.accepted.proofs.Shape.{remade, shape}
 use Rattle.accepted.proofs.Walked.{short, walked-plan}
 use Rattle.accepted.proofs.Law.{law}
-use Rattle.accepted.proofs.Before.{At, at, TheHead, the-head, index-is, steps-listed}
-
-record Counts (f : Found) : Type 0 where
-  pub modules : (1 ≤ fieldOf field1 f) × (fieldOf field1 f ≤ 16)
-  pub supervisors : fieldOf field2 f ≤ 32
-  pub events : (1 ≤ fieldOf field3 f) × (fieldOf field3 f ≤ 64)
+use Rattle.accepted.proofs.Before.{At, at, steps-listed}
 
 -- ---- the records of a plan in their order, from the same records, latest first
 
@@ -65,31 +60,20 @@ module _ (latest all : List Record) (v : Valid latest) (ended : End ∈ latest) 
   last : At all End
   last = stands End (to End ended)
 
-  start : TheHead (last .before)
+  start : Headed (last .before)
   unfolding inOrder kindOf
-  start = the-head (last .before) (last .valid) (λ e. holds _ (subst (λ (l : List Record). inOrder l End ≡ true) e (last .passed .order)))
-
-  first : Record
-  first = Head (start .modules) (start .supervisors) (start .events)
-
-  head-found : findIn headKey (last .before) ≡ It first
-  unfolding keyOf first
-  head-found = finds (last .before) (unique (last .before) (last .valid)) first (start .listed)
+  start = go (last .before) (last .valid) (last .passed .order)
+    where
+      go : (rs : List Record) → Valid rs → inOrder rs End ≡ true → Headed rs
+      go [] v h = absurd (false≢true h)
+      go (r ∷ rs) v h = headed r rs v
 
   head-same : findIn headKey (last .before) ≡ findIn headKey all
   unfolding found
-  head-same = same last headKey (subst (λ (f : Found). T (found f)) (sym head-found) tt)
+  head-same = same last headKey (subst (λ (f : Found). T (found f)) (sym (start .finds)) tt)
 
-  counts : Counts (findIn headKey all)
-  unfolding first fieldOf field1 field2 field3 inRange
-  counts =
-      let t : T (inRange first) = holds _ (ranges first (last .within first (start .listed))) in
-      subst Counts (sym head-found ∙ head-same)
-      (record {
-        modules = (leb→le 1 (start .modules) (search both), leb→le (start .modules) 16 (search both));
-        supervisors = leb→le (start .supervisors) 32 (search both);
-        events = (leb→le 1 (start .events) (search both), leb→le (start .events) 64 (search both));
-      })
+  counts : Counted (findIn headKey all)
+  counts = subst Counted head-same (counted (last .before) start)
 
   -- the record of kind k of each number below the count that the head's field f gives
   declared : (k : ℕ) (f : Record → ℕ) → let n = fieldOf f (findIn headKey (last .before)) in

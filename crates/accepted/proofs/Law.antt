@@ -18,8 +18,9 @@ use Rattle.reader.specs.declared.Found.{Found}
 use Rattle.rules.specs.LookUp.{field1, field2, field3, wordField, found, fieldOf, eventsOf, eventIn, eventDeclared, supervisorDeclared, ownerOf, controllable, alphabetOf}
 use Rattle.rules.specs.Rules.{namesDeclared, keepsRules}
 use Rattle.rules.specs.Valid.{Passes}
+use Rattle.rules.proofs.Valid.{both}
 use Rattle.accepted.specs.Plan.{EachOf, LawOf}
-use Rattle.accepted.proofs.Look.{both, found-field}
+use Rattle.accepted.proofs.Look.{found-field}
 
 -- a test that must hold only under another one
 under : (a b : Bool) → a ≡ true → T (not a || b) → T b

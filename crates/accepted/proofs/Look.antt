@@ -6,7 +6,7 @@ use mathlib.Core.Logic.{_⊎_, inl, inr}
 use mathlib.Core.List.{List, [], _∷_, List·Memᴰ·head, List·Memᴰ·tail, List·Memᴰ·not-nil, List·Memᴰ·cases-cons}
 use mathlib.Core.Bool.{Bool, true, false, cond}
 use lib.Dec.{T, eqb→eq, eqb-refl}
-use lib.Ieee.Fits.{and-l, and-r, and-i}
+use lib.Ieee.Fits.{and-i}
 use denote.Floats.{passes as holds}
 use Rattle.records.specs.Key.{keyOf, sameKey}
 use Rattle.records.specs.declared.Record.{Record}
@@ -15,10 +15,8 @@ use Rattle.reader.specs.Find.{findIn}
 use Rattle.reader.specs.declared.Found.{Found}
 use Rattle.reader.specs.declared.Found.the-variants.{It, Missing}
 use Rattle.rules.specs.LookUp.{found, fieldOf}
+use Rattle.rules.proofs.Valid.{both}
 use Rattle.accepted.specs.Plan.{_∈_, Unique}
-
--- the parts of a test joined by &&
-pub ruleset both = (and-l, and-r)
 
 same-is : (p q : RecordKey) → T (sameKey p q) → p ≡ q
 unfolding sameKey

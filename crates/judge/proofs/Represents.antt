@@ -1,93 +1,59 @@
 -- Over records of which none is faulty, a record is judged from the context as it is from the records.
 use mathlib.Core.Path.{_≡_, refl, sym, ap, ap₂, _∙_, subst}
 use mathlib.Core.List.{List, [], _∷_}
-use mathlib.Core.Bool.{Bool, true, false, cond, not, _&&_, _||_, and-false}
-use mathlib.Core.Logic.{⊎-elim}
-use Prim.Native.Nat.{ℕ, zero, suc, _+_, _%_, _≤_, _<_, _^_}
+use mathlib.Core.Bool.{Bool, true, false, cond, not, _&&_, _||_, and-false, false≢true}
+use Prim.Native.Nat.{ℕ, suc, _+_, _%_, _≤_, _<_}
 use native.Mathlib.Nat.{mod-eq-of-lt}
 use native.Mathlib.Numerals.{add-one}
 use native.Mathlib.Omega.{arith}
-use lib.ListN.{length, getD, getD-replicate}
-use lib.Bits.{bitAnd}
-use lib.Dec.{eqb, leb, ltb, lit<, lit≤}
-use borrow.Author.Tests.{ltb-true, ltb-false, lt-ltb, le-ltb, leb-true, eqb-true, eqb-false}
+use lib.ListN.{getD, getD-replicate}
+use lib.Dec.{eqb, leb, ltb, lit≤}
+use borrow.Author.Tests.{ltb-true, ltb-false, lt-ltb, le-ltb, leb-true, eqb-true}
 use Rattle.bits.specs.Bit.{bit, allBelow, everyEvent}
 use Rattle.bits.proofs.Laws.{bit-and, all-same}
-use Rattle.records.specs.Kinds.{kindOf}
-use Rattle.records.specs.Range.{inRange, between, operandInRange}
+use Rattle.records.specs.Range.{inRange, operandInRange}
 use Rattle.records.specs.Key.{headKey, keyOf, sameKey, precedes}
 use Rattle.records.specs.declared.Record.{Record}
 use Rattle.records.specs.declared.Record.the-variants.{Head, Event, Module, ModuleMove, Supervisor, SupervisorMove, Disabling, Step, End}
-use Rattle.reader.specs.declared.Found.the-variants.{It, Missing}
+use Rattle.reader.specs.declared.Found.the-variants.{It}
 use Rattle.reader.specs.Find.{findIn}
 use Rattle.rules.specs.LookUp.{field1, field2, field3, found, fieldOf, modulesOf, supervisorsOf, eventsOf, eventIn, moduleIn, supervisorIn, eventDeclared, moduleDeclared, supervisorDeclared, moduleState, supervisorState, ownerOf, controllable, alphabetOf, stepsOf}
 use Rattle.rules.specs.Rules.{indexRuns, inOrder, namesDeclared, keepsRules, allDeclared}
 use Rattle.rules.specs.Check.{faultOf}
 use Rattle.rules.specs.Valid.{Valid, Passes}
-use Rattle.rules.proofs.Valid.{passes}
+use Rattle.rules.proofs.Valid.{passes, declared-below, index-is, first-head, head-kept, headed, counted}
 use Rattle.context.specs.declared.Context.{Context}
-use Rattle.context.specs.Context.{withEntry, eventsAfter, contextOf, entry, ownerAt, stepsAt, moduleStatesAt, supervisorStatesAt, alphabetAt}
+use Rattle.context.specs.Context.{eventsAfter, contextOf, entry, ownerAt, alphabetAt}
 use Rattle.context.proofs.Tables.{with-entry-at}
 use Rattle.judge.specs.Judge.{eventKnown, operandKnown, moduleKnown, supervisorKnown, moduleStateBy, supervisorStateBy, indexBy, orderBy, namesBy, respondBy, rulesBy, allBy, judgeBy}
-use Rattle.judge.proofs.Remembers.{counts-told, events-fit, EventTold, event-told, module-told, supervisor-told, same-number}
+use Rattle.judge.proofs.Remembers.{counts-told, events-fit, event-told, module-told, supervisor-told, same-number}
 
 -- ---- what holds of records of which none is faulty
 
 both : (a b : Bool) → (a && b) ≡ true → (a ≡ true) × (b ≡ true)
 both true b e = (refl, e)
-both false b e = let z : _≡_ {A = ℕ} 0 1 = cc in absurd (omega arith)
+both false b e = absurd (false≢true e)
 
--- no head comes after another record
-no-head : (p : Record) (m v e : ℕ) → precedes (keyOf p) (keyOf (Head m v e)) ≡ true → ⊥
-unfolding precedes keyOf
-no-head (Head a b c) m v e h = let z : _≡_ {A = ℕ} 0 1 = cc in omega arith
-no-head (Event a b c) m v e h = let z : _≡_ {A = ℕ} 0 1 = cc in omega arith
-no-head (Module a b c) m v e h = let z : _≡_ {A = ℕ} 0 1 = cc in omega arith
-no-head (ModuleMove a b c d) m v e h = let z : _≡_ {A = ℕ} 0 1 = cc in omega arith
-no-head (Supervisor a b c d) m v e h = let z : _≡_ {A = ℕ} 0 1 = cc in omega arith
-no-head (SupervisorMove a b c d) m v e h = let z : _≡_ {A = ℕ} 0 1 = cc in omega arith
-no-head (Disabling a b c) m v e h = let z : _≡_ {A = ℕ} 0 1 = cc in omega arith
-no-head (Step a b c d) m v e h = let z : _≡_ {A = ℕ} 0 1 = cc in omega arith
-no-head End m v e h = let z : _≡_ {A = ℕ} 0 1 = cc in omega arith
-
--- the head's counts are in range, and a record's number is below its count
-pub record Bounded (rs : List Record) : Type 0 where
-  pub modules : modulesOf rs ≤ 16
-  pub supervisors : supervisorsOf rs ≤ 32
-  pub events : eventsOf rs ≤ 64
+-- an event's number is below its count
+record Bounded (rs : List Record) : Type 0 where
   pub event : (e : ℕ) → found (eventIn rs e) ≡ true → e < eventsOf rs
   pub steps : (e : ℕ) → eventsOf rs ≤ e → stepsOf rs e ≡ 0
 
--- the facts stay where neither a count nor a look-up changed
+-- the facts stay where neither the head nor a look-up changed
 unmoved : {rs : List Record} (r : Record)
     → findIn headKey (r ∷ rs) ≡ findIn headKey rs
     → ((e : ℕ) → found (eventIn (r ∷ rs) e) ≡ true → e < eventsOf rs)
     → ((e : ℕ) → eventsOf rs ≤ e → stepsOf (r ∷ rs) e ≡ 0)
-    → Bounded rs → Bounded (r ∷ rs)
-unmoved {rs} r h a b k =
+    → Bounded (r ∷ rs)
+unmoved {rs} r h a b =
     record {
-      modules = subst (λ f. fieldOf field1 f ≤ 16) (sym h) (k .modules);
-      supervisors = subst (λ f. fieldOf field2 f ≤ 32) (sym h) (k .supervisors);
-      events = subst (λ f. fieldOf field3 f ≤ 64) (sym h) (k .events);
       event = λ e t. subst (λ f. e < fieldOf field3 f) (sym h) (a e t);
       steps = λ e l. b e (subst (λ f. fieldOf field3 f ≤ e) h l);
     }
 
-none-found : (b : Bool) → b ≡ true → b ≡ false → ⊥
-none-found b p q = let z : _≡_ {A = ℕ} 0 1 = cc in omega arith
-
-bounded-head : (m v e : ℕ) → Passes [] (Head m v e) → Bounded (Head m v e ∷ [])
-unfolding inRange findIn keyOf sameKey fieldOf field1 field2 field3 found stepsOf
-bounded-head m v e p =
-    let q = both (leb 1 m && leb m 16 && leb v 32) (leb 1 e && leb e 64) (p .range) in
-    let r = both (leb 1 m && leb m 16) (leb v 32) (q .0) in
-    record {
-      modules = leb-true m 16 (both (leb 1 m) (leb m 16) (r .0) .1);
-      supervisors = leb-true v 32 (r .1);
-      events = leb-true e 64 (both (leb 1 e) (leb e 64) (q .1) .1);
-      event = λ x t. let z : _≡_ {A = ℕ} 0 1 = cc in absurd (omega arith);
-      steps = λ x l. refl;
-    }
+bounded-head : (m v e : ℕ) → Bounded (Head m v e ∷ [])
+unfolding findIn keyOf sameKey found stepsOf
+bounded-head m v e = record { event = λ x t. absurd (false≢true t); steps = λ x l. refl }
 
 -- a number that is found after an event's record is that event's, or was found before
 event-found : (rs : List Record) (n o c e : ℕ) → n < eventsOf rs → ((x : ℕ) → found (eventIn rs x) ≡ true → x < eventsOf rs) → found (eventIn (Event n o c ∷ rs) e) ≡ true → e < eventsOf rs
@@ -106,53 +72,39 @@ step-none rs x i o y e h l k = go (eqb x e) refl
     go true q = let d : x ≡ e = eqb-true x e q in absurd (omega arith)
     go false q = ap (λ (d : Bool). cond (true && d) (suc (stepsOf rs e)) (stepsOf rs e)) q ∙ k
 
-declared-below : (rs : List Record) (e : ℕ) → eventDeclared rs e ≡ true → e < eventsOf rs
-declared-below rs e h = ltb-true e (eventsOf rs) (both (ltb e (eventsOf rs)) (found (eventIn rs e)) h .0)
-
 bounded-after : (p : Record) (ps : List Record) (r : Record) → Passes (p ∷ ps) r → Bounded (p ∷ ps) → Bounded (r ∷ p ∷ ps)
-unfolding inOrder namesDeclared findIn keyOf sameKey stepsOf
-bounded-after p ps (Head m v e) t k = absurd (no-head p m v e (both (precedes (keyOf p) (keyOf (Head m v e))) (indexRuns (p ∷ ps) (Head m v e)) (t .order) .0))
+unfolding namesDeclared findIn keyOf sameKey stepsOf
+bounded-after p ps (Head m v e) t k = unmoved (Head m v e) (head-kept p ps (Head m v e) t) (k .event) (k .steps)
 bounded-after p ps (Event n o c) t k =
-    unmoved (Event n o c) refl (λ e. event-found (p ∷ ps) n o c e (ltb-true n (eventsOf (p ∷ ps)) (both (ltb n (eventsOf (p ∷ ps))) (ltb o (modulesOf (p ∷ ps))) (t .names) .0)) (k .event)) (k .steps) k
-bounded-after p ps (Module n st i) t k = unmoved (Module n st i) refl (k .event) (k .steps) k
-bounded-after p ps (ModuleMove m f e g) t k = unmoved (ModuleMove m f e g) refl (k .event) (k .steps) k
-bounded-after p ps (Supervisor n st i a) t k = unmoved (Supervisor n st i a) refl (k .event) (k .steps) k
-bounded-after p ps (SupervisorMove v f e g) t k = unmoved (SupervisorMove v f e g) refl (k .event) (k .steps) k
-bounded-after p ps (Disabling v st m) t k = unmoved (Disabling v st m) refl (k .event) (k .steps) k
+    unmoved (Event n o c) refl (λ e. event-found (p ∷ ps) n o c e (declared-below n (eventsOf (p ∷ ps)) (ltb o (modulesOf (p ∷ ps))) (t .names)) (k .event)) (k .steps)
+bounded-after p ps (Module n st i) t k = unmoved (Module n st i) refl (k .event) (k .steps)
+bounded-after p ps (ModuleMove m f e g) t k = unmoved (ModuleMove m f e g) refl (k .event) (k .steps)
+bounded-after p ps (Supervisor n st i a) t k = unmoved (Supervisor n st i a) refl (k .event) (k .steps)
+bounded-after p ps (SupervisorMove v f e g) t k = unmoved (SupervisorMove v f e g) refl (k .event) (k .steps)
+bounded-after p ps (Disabling v st m) t k = unmoved (Disabling v st m) refl (k .event) (k .steps)
 bounded-after p ps (Step x i o y) t k =
-    unmoved (Step x i o y) refl (k .event)
-    (λ e l. step-none (p ∷ ps) x i o y e (declared-below (p ∷ ps) x (both (eventDeclared (p ∷ ps) x) (not (eqb o 5) || eventDeclared (p ∷ ps) y) (t .names) .0)) l (k .steps e l)) k
-bounded-after p ps End t k = unmoved End refl (k .event) (k .steps) k
+    let l : eventDeclared (p ∷ ps) x ≡ true = both (eventDeclared (p ∷ ps) x) (not (eqb o 5) || eventDeclared (p ∷ ps) y) (t .names) .0 in
+    unmoved (Step x i o y) refl (k .event) (λ e h. step-none (p ∷ ps) x i o y e (declared-below x (eventsOf (p ∷ ps)) (found (eventIn (p ∷ ps) x)) l) h (k .steps e h))
+bounded-after p ps End t k = unmoved End refl (k .event) (k .steps)
 
-none : Bounded []
-unfolding findIn fieldOf found stepsOf
-none = record { modules = lit≤ tt; supervisors = lit≤ tt; events = lit≤ tt; event = λ e t. let z : _≡_ {A = ℕ} 0 1 = cc in absurd (omega arith); steps = λ e l. refl }
-
-first : (r : Record) → Passes [] r → Bounded (r ∷ [])
-unfolding inOrder kindOf
-first (Head m v e) t = bounded-head m v e t
-first (Event n o c) t = let z : _≡_ {A = ℕ} 0 1 = cc (t .order) in absurd (omega arith)
-first (Module n st i) t = let z : _≡_ {A = ℕ} 0 1 = cc (t .order) in absurd (omega arith)
-first (ModuleMove m f e g) t = let z : _≡_ {A = ℕ} 0 1 = cc (t .order) in absurd (omega arith)
-first (Supervisor n st i a) t = let z : _≡_ {A = ℕ} 0 1 = cc (t .order) in absurd (omega arith)
-first (SupervisorMove v f e g) t = let z : _≡_ {A = ℕ} 0 1 = cc (t .order) in absurd (omega arith)
-first (Disabling v st m) t = let z : _≡_ {A = ℕ} 0 1 = cc (t .order) in absurd (omega arith)
-first (Step x i o y) t = let z : _≡_ {A = ℕ} 0 1 = cc (t .order) in absurd (omega arith)
-first End t = let z : _≡_ {A = ℕ} 0 1 = cc (t .order) in absurd (omega arith)
-
-pub bounded : (rs : List Record) → Valid rs → Bounded rs
-unfolding Valid
-bounded [] v = none
-bounded (r ∷ []) v = first r (passes [] r (v .0))
+bounded : (rs : List Record) → Valid rs → Bounded rs
+unfolding Valid findIn found stepsOf
+bounded [] v = record { event = λ e t. absurd (false≢true t); steps = λ e l. refl }
+bounded (r ∷ []) v = subst (λ (x : Record). Bounded (x ∷ [])) (sym (first-head r (passes [] r (v .0)))) (bounded-head (field1 r) (field2 r) (field3 r))
 bounded (r ∷ p ∷ ps) v = bounded-after p ps r (passes (p ∷ ps) r (v .0)) (bounded (p ∷ ps) (v .1))
 
--- ---- how many steps an event has
+-- no count is above its table
+record Most (rs : List Record) : Type 0 where
+  pub modules : modulesOf rs ≤ 16
+  pub supervisors : supervisorsOf rs ≤ 32
+  pub events : eventsOf rs ≤ 64
 
--- a step that passes has the index that its event's steps have come to
-index-is : (rs : List Record) (x i o y : ℕ) → Passes rs (Step x i o y) → i ≡ stepsOf rs x
-unfolding inOrder kindOf indexRuns
-index-is [] x i o y t = let z : _≡_ {A = ℕ} 0 1 = cc (t .order) in absurd (omega arith)
-index-is (p ∷ ps) x i o y t = eqb-true i (stepsOf (p ∷ ps) x) (both (precedes (keyOf p) (keyOf (Step x i o y))) (eqb i (stepsOf (p ∷ ps) x)) (t .order) .1)
+most : (rs : List Record) → Valid rs → Most rs
+unfolding findIn fieldOf
+most [] v = record { modules = lit≤ tt; supervisors = lit≤ tt; events = lit≤ tt }
+most (r ∷ rs) v = let k = counted (r ∷ rs) (headed r rs v) in record { modules = k .modules .1; supervisors = k .supervisors; events = k .events .1 }
+
+-- ---- how many steps an event has
 
 index-small : (rs : List Record) (x i o y : ℕ) → Passes rs (Step x i o y) → i ≤ 63
 unfolding inRange
@@ -172,7 +124,7 @@ steps-after rs (Step x i o y) e l t k =
   where
     go : (b : Bool) → eqb x e ≡ b → cond b ((i + 1) % 256) (getD (contextOf rs .events .steps) e 0) ≡ cond (true && b) (suc (stepsOf rs e)) (stepsOf rs e)
     go true q =
-        let d : i ≡ stepsOf rs e = index-is rs x i o y t ∙ ap (stepsOf rs) (eqb-true x e q) in
+        let d : i ≡ stepsOf rs e = index-is rs x i o y (t .order) ∙ ap (stepsOf rs) (eqb-true x e q) in
         let s : i ≤ 63 = index-small rs x i o y t in
         mod-eq-of-lt (omega arith) ∙ add-one i ∙ ap suc d
     go false q = k
@@ -204,7 +156,7 @@ module _ (rs : List Record) (valid : Valid rs) where
       go true q = steps-told rs valid e (ltb-true e 64 q)
       go false q =
           let l : 64 ≤ e = ltb-false e 64 q in
-          let k : eventsOf rs ≤ 64 = bounded rs valid .events in
+          let k : eventsOf rs ≤ 64 = most rs valid .events in
           sym (bounded rs valid .steps e (omega arith))
   index-same End = refl
 
@@ -219,17 +171,17 @@ module _ (rs : List Record) (valid : Valid rs) where
   event-same : (e : ℕ) → eventKnown c e ≡ eventDeclared rs e
   event-same e =
       known-same e (c .counts .events) (eventsOf rs) (bit (c .events .known) e) (found (eventIn rs e)) (counts-told rs .2)
-      (λ l. let k : eventsOf rs ≤ 64 = bounded rs valid .events in event-told rs e (omega arith) .known)
+      (λ l. let k : eventsOf rs ≤ 64 = most rs valid .events in event-told rs e (omega arith) .known)
 
   module-same : (m : ℕ) → moduleKnown c m ≡ moduleDeclared rs m
   module-same m =
       known-same m (c .counts .modules) (modulesOf rs) (bit (c .modules .known) m) (found (moduleIn rs m)) (counts-told rs .0)
-      (λ l. let k : modulesOf rs ≤ 16 = bounded rs valid .modules in module-told rs m (omega arith) .known)
+      (λ l. let k : modulesOf rs ≤ 16 = most rs valid .modules in module-told rs m (omega arith) .known)
 
   supervisor-same : (v : ℕ) → supervisorKnown c v ≡ supervisorDeclared rs v
   supervisor-same v =
       known-same v (c .counts .supervisors) (supervisorsOf rs) (bit (c .supervisors .known) v) (found (supervisorIn rs v)) (counts-told rs .1)
-      (λ l. let k : supervisorsOf rs ≤ 32 = bounded rs valid .supervisors in supervisor-told rs v (omega arith) .known)
+      (λ l. let k : supervisorsOf rs ≤ 32 = most rs valid .supervisors in supervisor-told rs v (omega arith) .known)
 
   operand-same : (x : ℕ) → operandKnown c x ≡ eventDeclared rs x
   operand-same x = go (ltb x 64) refl
@@ -238,23 +190,23 @@ module _ (rs : List Record) (valid : Valid rs) where
       go true q = event-same x
       go false q =
           let l : 64 ≤ x = ltb-false x 64 q in
-          let k : eventsOf rs ≤ 64 = bounded rs valid .events in
+          let k : eventsOf rs ≤ 64 = most rs valid .events in
           sym (ap (λ (t : Bool). t && found (eventIn rs x)) (le-ltb x (eventsOf rs) (omega arith)))
 
   -- what is declared is below the tables' sizes
   event-small : (e : ℕ) → eventDeclared rs e ≡ true → e < 64
-  event-small e h = let l : e < eventsOf rs = declared-below rs e h in let k : eventsOf rs ≤ 64 = bounded rs valid .events in omega arith
+  event-small e h = let l : e < eventsOf rs = declared-below e (eventsOf rs) (found (eventIn rs e)) h in let k : eventsOf rs ≤ 64 = most rs valid .events in omega arith
 
   module-small : (m : ℕ) → moduleDeclared rs m ≡ true → m < 16
   module-small m h =
-      let l : m < modulesOf rs = ltb-true m (modulesOf rs) (both (ltb m (modulesOf rs)) (found (moduleIn rs m)) h .0) in
-      let k : modulesOf rs ≤ 16 = bounded rs valid .modules in
+      let l : m < modulesOf rs = declared-below m (modulesOf rs) (found (moduleIn rs m)) h in
+      let k : modulesOf rs ≤ 16 = most rs valid .modules in
       omega arith
 
   supervisor-small : (v : ℕ) → supervisorDeclared rs v ≡ true → v < 32
   supervisor-small v h =
-      let l : v < supervisorsOf rs = ltb-true v (supervisorsOf rs) (both (ltb v (supervisorsOf rs)) (found (supervisorIn rs v)) h .0) in
-      let k : supervisorsOf rs ≤ 32 = bounded rs valid .supervisors in
+      let l : v < supervisorsOf rs = declared-below v (supervisorsOf rs) (found (supervisorIn rs v)) h in
+      let k : supervisorsOf rs ≤ 32 = most rs valid .supervisors in
       omega arith
 
   -- an entry of a table of k, at a number below k
@@ -363,9 +315,9 @@ module _ (rs : List Record) (valid : Valid rs) where
   all-declared-same End =
       ap₂ _&&_
       (ap₂ _&&_
-      (all-known (c .counts .modules) (modulesOf rs) (c .modules .known) (λ m. found (moduleIn rs m)) (counts-told rs .0) (λ m l. let k : modulesOf rs ≤ 16 = bounded rs valid .modules in module-told rs m (omega arith) .known))
-      (all-known (c .counts .supervisors) (supervisorsOf rs) (c .supervisors .known) (λ v. found (supervisorIn rs v)) (counts-told rs .1) (λ v l. let k : supervisorsOf rs ≤ 32 = bounded rs valid .supervisors in supervisor-told rs v (omega arith) .known)))
-      (all-known (c .counts .events) (eventsOf rs) (c .events .known) (λ e. found (eventIn rs e)) (counts-told rs .2) (λ e l. let k : eventsOf rs ≤ 64 = bounded rs valid .events in event-told rs e (omega arith) .known))
+      (all-known (c .counts .modules) (modulesOf rs) (c .modules .known) (λ m. found (moduleIn rs m)) (counts-told rs .0) (λ m l. let k : modulesOf rs ≤ 16 = most rs valid .modules in module-told rs m (omega arith) .known))
+      (all-known (c .counts .supervisors) (supervisorsOf rs) (c .supervisors .known) (λ v. found (supervisorIn rs v)) (counts-told rs .1) (λ v l. let k : supervisorsOf rs ≤ 32 = most rs valid .supervisors in supervisor-told rs v (omega arith) .known)))
+      (all-known (c .counts .events) (eventsOf rs) (c .events .known) (λ e. found (eventIn rs e)) (counts-told rs .2) (λ e l. let k : eventsOf rs ≤ 64 = most rs valid .events in event-told rs e (omega arith) .known))
 
 order-same : (rs : List Record) → Valid rs → (r : Record) → orderBy (contextOf rs) r ≡ inOrder rs r
 unfolding orderBy inOrder contextOf

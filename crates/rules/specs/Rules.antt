@@ -1,8 +1,7 @@
 -- Document 01, "Numbers for what is turned down", 4 to 8: what each number asks of a record r, over the records rs before it, the latest
 -- first. Number 5, the ranges, is `inRange` of the crate records. The "bytes after end" of number 4 are `endAt` of `Check.antt`.
-use Prim.Native.Nat.{ℕ}
 use mathlib.Core.List.{List, [], _∷_}
-use mathlib.Core.Bool.{Bool, true, false, not, _&&_, _||_}
+use mathlib.Core.Bool.{Bool, true, not, _&&_, _||_}
 use lib.Dec.{eqb, ltb}
 use Rattle.bits.specs.Bit.{bit, allBelow, everyEvent}
 use Rattle.records.specs.Kinds.{kindOf}

@@ -1,7 +1,7 @@
 -- The table's rule, once: a test that is computed at each of the 256 kinds.
 use mathlib.Core.List.{List, [], _∷_}
 use mathlib.Core.Path.{_≡_}
-use mathlib.Core.Bool.{Bool, cond, _&&_}
+use mathlib.Core.Bool.{Bool, cond}
 use Prim.Native.Nat.{ℕ, _-_, _<_}
 use lib.Dec.{eqb, eqb→eq, leb, ltb}
 use lib.ListN.{getD}
