@@ -12,8 +12,8 @@ use Rattle.records.specs.declared.Record.{Record}
 use Rattle.reader.specs.Read.{readAt}
 use Rattle.reader.specs.Walk.{Walk, more, stop, walkFrom}
 use Rattle.reader.specs.declared.Read.{Read}
-use Rattle.reader.specs.declared.Read.the-variants.{Whole, Unknown, Cut, Nothing}
-use Rattle.reader.proofs.Reading.{walks-by}
+use Rattle.reader.specs.declared.Read.the-variants.{Whole}
+use Rattle.reader.proofs.Reading.{next, walks-by}
 use Rattle.rules.specs.Check.{faultOf, endAt, checkWalk, verdictOf, limit}
 use Rattle.rules.specs.Valid.{Valid}
 use Rattle.rules.specs.declared.Verdict.{Verdict}
@@ -53,17 +53,9 @@ too-long s h = sym (ap (λ (b : Bool). cond b (Refused 1 0) (checkWalk (length s
 
 -- each way on from an offset, with every fact as a premise
 module _ (s : List ℕ) (c : Context) (i : ℕ) where
-  pub nothing-by : {x : Read} {v : Verdict} → x ≡ readAt s i → x ≡ Nothing → checkBy (length s) c (walkFrom s i) ≡ v → Refused 3 i ≡ v
+  pub stopped-by : (k : ℕ) {x y : Read} {v : Verdict} → x ≡ readAt s i → x ≡ y → next s i y ≡ stop k i → checkBy (length s) c (walkFrom s i) ≡ v → Refused k i ≡ v
   unfolding checkBy
-  nothing-by e g h = sym (ap (checkBy (length s) c) (walks-by s i e g)) ∙ h
-
-  pub cut-by : {x : Read} {v : Verdict} → x ≡ readAt s i → x ≡ Cut → checkBy (length s) c (walkFrom s i) ≡ v → Refused 3 i ≡ v
-  unfolding checkBy
-  cut-by e g h = sym (ap (checkBy (length s) c) (walks-by s i e g)) ∙ h
-
-  pub unknown-by : {x : Read} {v : Verdict} → x ≡ readAt s i → x ≡ Unknown → checkBy (length s) c (walkFrom s i) ≡ v → Refused 2 i ≡ v
-  unfolding checkBy
-  unknown-by e g h = sym (ap (checkBy (length s) c) (walks-by s i e g)) ∙ h
+  stopped-by k e g w h = sym (ap (checkBy (length s) c) (walks-by s i e g ∙ w)) ∙ h
 
   pub refused-by : (num : ℕ) {x : Read} {r : Record} {n : ℕ} {v : Verdict} → x ≡ readAt s i → x ≡ Whole r n → num ≡ judgeBy c r → (num ≡ 0 → ⊥)
       → checkBy (length s) c (walkFrom s i) ≡ v → Refused num i ≡ v

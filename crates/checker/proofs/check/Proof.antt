@@ -1,12 +1,12 @@
 use borrow.Author.Needs.{needs}
 use native.Mathlib.Omega.{arith}
-use mathlib.Core.Path.{_≡_}
+use mathlib.Core.Path.{_≡_, refl}
 use Prim.Native.Nat.{_-_}
 use lib.ListN.{length}
 use Rattle.reader.specs.Walk.{walkFrom}
 use Rattle.reader.proofs.Reading.{inside-by, less-by}
 use Rattle.rules.specs.Check.{verdictOf}
-use Rattle.checker.proofs.Loop.{checkBy, begins, too-long, nothing-by, cut-by, unknown-by, refused-by, ended-by, goes-on-by}
+use Rattle.checker.proofs.Loop.{checkBy, begins, too-long, stopped-by, refused-by, ended-by, goes-on-by}
 use Rattle.checker.proofs.check.Statement.{statement}
 use Rattle.checker.proofs.check.Tie as tie
 
@@ -32,19 +32,19 @@ enum-told : tie.Need-enum-told Inv-loop μ-loop
 enum-told c = search needs
 
 returns-2 : tie.Need-returns-2 Inv-loop μ-loop
-returns-2 c = search nothing-by
+returns-2 c = search (stopped-by, refl)
 
 enum-told-2 : tie.Need-enum-told-2 Inv-loop μ-loop
 enum-told-2 c = search needs
 
 returns-3 : tie.Need-returns-3 Inv-loop μ-loop
-returns-3 c = search cut-by
+returns-3 c = search (stopped-by, refl)
 
 enum-told-3 : tie.Need-enum-told-3 Inv-loop μ-loop
 enum-told-3 c = search needs
 
 returns-4 : tie.Need-returns-4 Inv-loop μ-loop
-returns-4 c = search unknown-by
+returns-4 c = search (stopped-by, refl)
 
 enum-known-r : tie.Need-enum-known-r Inv-loop μ-loop
 enum-known-r c = search needs
