@@ -1,51 +1,133 @@
 -- What the context remembers of records is what their look-ups give.
-use mathlib.Core.Path.{_≡_, refl, sym, ap, _∙_}
+use mathlib.Core.Path.{_≡_, refl, sym, ap, _∙_, subst}
 use mathlib.Core.List.{List, [], _∷_}
-use mathlib.Core.Bool.{Bool, true, false, cond, _&&_}
-use Prim.Native.Nat.{ℕ, _<_, _^_}
-use lib.ListN.{length, getD, length-replicate, getD-replicate}
-use lib.Dec.{eqb, lit≤}
+use mathlib.Core.Bool.{Bool, true, false, cond, _&&_, _||_, true≢false, false≢true}
+use Prim.Native.Nat.{ℕ, _+_, _%_, _≤_, _<_, _^_}
+use lib.ListN.{length, getD, replicate, length-replicate, getD-replicate}
+use lib.Dec.{T, eqb, lit≤}
 use lib.Pow.{pow-pos}
+use borrow.Author.Tests.{eq-eqb, eqb-true}
 use Rattle.bits.specs.Bit.{bit}
 use Rattle.bits.proofs.Laws.{bit-none}
 use Rattle.records.specs.Key.{keyBy, keyOf, sameKey}
 use Rattle.records.specs.declared.Record.{Record}
 use Rattle.records.specs.declared.Record.the-variants.{Head, Event, Module, ModuleMove, Supervisor, SupervisorMove, Disabling, Step, End}
+use Rattle.records.specs.declared.RecordKey.{RecordKey}
 use Rattle.reader.specs.declared.Found.{Found}
-use Rattle.reader.specs.declared.Found.the-variants.{It}
+use Rattle.reader.specs.declared.Found.the-variants.{It, Missing}
 use Rattle.reader.specs.Find.{findIn}
 use Rattle.rules.specs.LookUp.{field1, field2, field3, wordField, found, fieldOf, modulesOf, supervisorsOf, eventsOf, eventIn, moduleIn, supervisorIn, ownerOf, controllable, alphabetOf}
 use Rattle.context.specs.declared.Counts.{Counts}
 use Rattle.context.specs.declared.Events.{Events}
 use Rattle.context.specs.declared.Modules.{Modules}
 use Rattle.context.specs.declared.Supervisors.{Supervisors}
-use Rattle.context.specs.Context.{countsAfter, eventsAfter, modulesAfter, supervisorsAfter, contextOf}
+use Rattle.context.specs.Context.{withEntry, withBit, withEvent, withStep, withModule, withSupervisor, countsAfter, eventsAfter, modulesAfter, supervisorsAfter, contextOf}
 use Rattle.context.proofs.Tables.{with-entry-length, with-entry-at, with-bit-fits, with-bit-at}
+
+-- ---- choices
+
+-- a part of what a choice gives
+part : {A B : Type 0} (f : A → B) (b : Bool) (x y : A) → f (cond b x y) ≡ cond b (f x) (f y)
+part f true x y = refl
+part f false x y = refl
+
+either : {A : Type 0} (P : A → Type 0) (b : Bool) (x y : A) → P x → P y → P (cond b x y)
+either P true x y p q = p
+either P false x y p q = q
 
 -- ---- a look-up by number in a list with one record more
 
--- two keys of one kind that are numbers
-pub same-number : (k n e : ℕ) → eqb k k ≡ true → sameKey (keyBy k n 0 0) (keyBy k e 0 0) ≡ eqb n e
-unfolding sameKey
-same-number k n e h = simp h (go (eqb n e))
+-- the kinds whose key is a number
+abbrev Numbered : ℕ → Type 0
+Numbered k = T (eqb k 0x11 || eqb k 0x12 || eqb k 0x14)
+
+number-key : (k : ℕ) → Numbered k → (r : Record) → keyOf r .kind ≡ k → keyOf r ≡ keyBy k (keyOf r .first) 0 0
+unfolding keyOf
+number-key k n (Head m v e) q = absurd (subst Numbered (sym q) n)
+number-key k n (Event x o c) q = ap (λ (y : ℕ). keyBy y x 0 0) q
+number-key k n (Module x st i) q = ap (λ (y : ℕ). keyBy y x 0 0) q
+number-key k n (ModuleMove m f e t) q = absurd (subst Numbered (sym q) n)
+number-key k n (Supervisor x st i a) q = ap (λ (y : ℕ). keyBy y x 0 0) q
+number-key k n (SupervisorMove v f e t) q = absurd (subst Numbered (sym q) n)
+number-key k n (Disabling v st m) q = absurd (subst Numbered (sym q) n)
+number-key k n (Step e i o x) q = absurd (subst Numbered (sym q) n)
+number-key k n End q = absurd (subst Numbered (sym q) n)
+
+all-four : (a b c d : Bool) → a ≡ true → c ≡ true → d ≡ true → (a && b && c && d) ≡ b
+all-four true true true true p q r = refl
+all-four true true true false p q r = absurd (false≢true r)
+all-four true true false d p q r = absurd (false≢true q)
+all-four true false c d p q r = refl
+all-four false b c d p q r = absurd (false≢true p)
+
+not-first : (a b c d : Bool) → a ≡ false → (a && b && c && d) ≡ false
+not-first true b c d p = absurd (true≢false p)
+not-first false b c d p = refl
+
+-- a record of kind k is found at its number, and a record of another kind changes nothing
+abbrev changed : {A : Type 0} → ℕ → ℕ → Record → A → A → A
+changed k e r x y = cond (eqb (keyOf r .kind) k) (cond (eqb (keyOf r .first) e) x y) y
+
+pub look : (k e : ℕ) → Numbered k → (r : Record) (rs : List Record) → findIn (keyBy k e 0 0) (r ∷ rs) ≡ changed k e r (It r) (findIn (keyBy k e 0 0) rs)
+unfolding findIn sameKey
+look k e n r rs = go (eqb (keyOf r .kind) k) refl
   where
-    go : (b : Bool) → (b && true && true) ≡ b
-    go true = refl
-    go false = refl
+    go : (b : Bool) → eqb (keyOf r .kind) k ≡ b → cond (sameKey (keyOf r) (keyBy k e 0 0)) (It r) (findIn (keyBy k e 0 0) rs) ≡ cond b (cond (eqb (keyOf r .first) e) (It r) (findIn (keyBy k e 0 0) rs)) (findIn (keyBy k e 0 0) rs)
+    go true q =
+        let key = number-key k n r (eqb-true (keyOf r .kind) k q) in
+        ap (λ (b : Bool). cond b (It r) (findIn (keyBy k e 0 0) rs))
+        (all-four (eqb (keyOf r .kind) k) (eqb (keyOf r .first) e) (eqb (keyOf r .second) 0) (eqb (keyOf r .third) 0) q
+        (eq-eqb (keyOf r .second) 0 (ap (λ (p : RecordKey). p .second) key)) (eq-eqb (keyOf r .third) 0 (ap (λ (p : RecordKey). p .third) key)))
+    go false q =
+        ap (λ (b : Bool). cond b (It r) (findIn (keyBy k e 0 0) rs))
+        (not-first (eqb (keyOf r .kind) k) (eqb (keyOf r .first) e) (eqb (keyOf r .second) 0) (eqb (keyOf r .third) 0) q)
 
-found-cond : (b : Bool) (r : Record) (x : Found) → found (cond b (It r) x) ≡ cond b true (found x)
-unfolding found
-found-cond true r x = refl
-found-cond false r x = refl
+-- a choice between what was found before and a record of that number, seen through h
+found-now : (k e : ℕ) → Numbered k → {A : Type 0} (h : Found → A) (r : Record) (rs : List Record)
+    → h (findIn (keyBy k e 0 0) (r ∷ rs)) ≡ changed k e r (h (It r)) (h (findIn (keyBy k e 0 0) rs))
+found-now k e n {A} h r rs =
+    let a = eqb (keyOf r .kind) k in
+    let b = eqb (keyOf r .first) e in
+    let rest = findIn (keyBy k e 0 0) rs in
+    ap h (look k e n r rs) ∙ part h a (cond b (It r) rest) rest ∙ ap (λ (x : A). cond a x (h rest)) (part h b (It r) rest)
 
-field-cond : (f : Record → ℕ) (b : Bool) (r : Record) (x : Found) → fieldOf f (cond b (It r) x) ≡ cond b (f r) (fieldOf f x)
-unfolding fieldOf
-field-cond f true r x = refl
-field-cond f false r x = refl
+-- ---- a table of n entries and a mask that take each record of kind k
 
-test-cond : (b : Bool) (x y : ℕ) → eqb (cond b x y) 1 ≡ cond b (eqb x 1) (eqb y 1)
-test-cond true x y = refl
-test-cond false x y = refl
+module _ (k n : ℕ) (f : Record → ℕ) (t : List Record → List ℕ) (begins : t [] ≡ replicate n 0)
+    (takes : (r : Record) (rs : List Record) → t (r ∷ rs) ≡ cond (eqb (keyOf r .kind) k) (withEntry n (t rs) (keyOf r .first) (f r)) (t rs)) where
+  pub table-length : (rs : List Record) → length (t rs) ≡ n
+  table-length [] = ap length begins ∙ length-replicate n 0
+  table-length (r ∷ rs) =
+      let l = table-length rs in
+      ap length (takes r rs) ∙ either (λ (x : List ℕ). length x ≡ n) (eqb (keyOf r .kind) k) (withEntry n (t rs) (keyOf r .first) (f r)) (t rs) (with-entry-length n (t rs) (keyOf r .first) (f r) l) l
+
+  table-told : Numbered k → (e : ℕ) → e < n → (rs : List Record) → getD (t rs) e 0 ≡ fieldOf f (findIn (keyBy k e 0 0) rs)
+  unfolding findIn fieldOf
+  table-told w e l [] = ap (λ (x : List ℕ). getD x e 0) begins ∙ getD-replicate n e 0 0 l
+  table-told w e l (r ∷ rs) =
+      let a = eqb (keyOf r .kind) k in
+      let v = getD (t rs) e 0 in
+      ap (λ (x : List ℕ). getD x e 0) (takes r rs) ∙ part (λ (x : List ℕ). getD x e 0) a (withEntry n (t rs) (keyOf r .first) (f r)) (t rs)
+      ∙ ap (λ (x : ℕ). cond a x v) (with-entry-at n (t rs) (keyOf r .first) (f r) e (table-length rs) l)
+      ∙ ap (changed k e r (f r)) (table-told w e l rs) ∙ sym (found-now k e w (fieldOf f) r rs)
+
+module _ (k n : ℕ) (small : n ≤ 64) (h : Found → Bool) (m : List Record → ℕ) (begins : m [] ≡ 0)
+    (takes : (r : Record) (rs : List Record) → m (r ∷ rs) ≡ cond (eqb (keyOf r .kind) k) (withBit n (m rs) (keyOf r .first) (h (It r))) (m rs)) where
+  mask-fits : (rs : List Record) → m rs < 2 ^ 64
+  mask-fits [] = subst (λ (x : ℕ). x < 2 ^ 64) (sym begins) (pow-pos 64)
+  mask-fits (r ∷ rs) =
+      let l = mask-fits rs in
+      subst (λ (x : ℕ). x < 2 ^ 64) (sym (takes r rs)) (either (λ (x : ℕ). x < 2 ^ 64) (eqb (keyOf r .kind) k) (withBit n (m rs) (keyOf r .first) (h (It r))) (m rs) (with-bit-fits n (m rs) (keyOf r .first) (h (It r)) l) l)
+
+  mask-told : Numbered k → h Missing ≡ false → (e : ℕ) → e < n → (rs : List Record) → bit (m rs) e ≡ h (findIn (keyBy k e 0 0) rs)
+  unfolding findIn
+  mask-told w z e l [] = ap (λ (x : ℕ). bit x e) begins ∙ bit-none e ∙ sym z
+  mask-told w z e l (r ∷ rs) =
+      let a = eqb (keyOf r .kind) k in
+      let v = bit (m rs) e in
+      ap (λ (x : ℕ). bit x e) (takes r rs) ∙ part (λ (x : ℕ). bit x e) a (withBit n (m rs) (keyOf r .first) (h (It r))) (m rs)
+      ∙ ap (λ (x : Bool). cond a x v) (with-bit-at n (m rs) (keyOf r .first) (h (It r)) e small (mask-fits rs) l)
+      ∙ ap (changed k e r (h (It r))) (mask-told w z e l rs) ∙ sym (found-now k e w h r rs)
 
 -- ---- the head's counts
 
@@ -71,176 +153,116 @@ counts-told (r ∷ rs) = counts-after (contextOf rs .counts) rs r (counts-told r
 
 -- ---- the events
 
-pub record EventsFit (ev : Events) : Type 0 where
-  pub known : ev .known < 2 ^ 64
-  pub controllable : ev .controllable < 2 ^ 64
-  pub owner : length (ev .owner) ≡ 64
-  pub steps : length (ev .steps) ≡ 64
+events-after : (ev : Events) (r : Record)
+    → eventsAfter ev r ≡ cond (eqb (keyOf r .kind) 0x11) (withEvent ev (keyOf r .first) (field2 r) (field3 r)) (cond (eqb (keyOf r .kind) 0x17) (withStep ev (keyOf r .first) (field2 r)) ev)
+unfolding eventsAfter keyOf field2 field3
+events-after ev (Head m v e) = refl
+events-after ev (Event n o c) = refl
+events-after ev (Module n st i) = refl
+events-after ev (ModuleMove m f e t) = refl
+events-after ev (Supervisor n st i a) = refl
+events-after ev (SupervisorMove v f e t) = refl
+events-after ev (Disabling v st m) = refl
+events-after ev (Step e i o x) = refl
+events-after ev End = refl
 
-events-fit-after : (ev : Events) (r : Record) → EventsFit ev → EventsFit (eventsAfter ev r)
-unfolding eventsAfter
-events-fit-after ev (Head m v e) f = f
-events-fit-after ev (Event n o c) f =
-    record { known = with-bit-fits 64 _ n true (f .known); controllable = with-bit-fits 64 _ n (eqb c 1) (f .controllable); owner = with-entry-length 64 _ n o (f .owner); steps = f .steps }
-events-fit-after ev (Module n st i) f = f
-events-fit-after ev (ModuleMove m f e t) g = g
-events-fit-after ev (Supervisor n st i a) f = f
-events-fit-after ev (SupervisorMove v f e t) g = g
-events-fit-after ev (Disabling v st m) f = f
-events-fit-after ev (Step e i o x) f = record { known = f .known; controllable = f .controllable; owner = f .owner; steps = with-entry-length 64 _ e _ (f .steps) }
-events-fit-after ev End f = f
+-- a part of the events that steps leave alone
+event-part : {A : Type 0} (g : Events → A) (ev : Events) (r : Record) → g (withStep ev (keyOf r .first) (field2 r)) ≡ g ev
+    → g (eventsAfter ev r) ≡ cond (eqb (keyOf r .kind) 0x11) (g (withEvent ev (keyOf r .first) (field2 r) (field3 r))) (g ev)
+event-part {A} g ev r s =
+    let a = eqb (keyOf r .kind) 0x11 in
+    let b = eqb (keyOf r .kind) 0x17 in
+    let with = withEvent ev (keyOf r .first) (field2 r) (field3 r) in
+    let stepped = withStep ev (keyOf r .first) (field2 r) in
+    ap g (events-after ev r) ∙ part g a with (cond b stepped ev) ∙ ap (cond a (g with)) (either (λ (x : Events). g x ≡ g ev) b stepped ev s refl)
 
-pub events-fit : (rs : List Record) → EventsFit (contextOf rs .events)
-unfolding contextOf
-events-fit [] = record { known = pow-pos 64; controllable = pow-pos 64; owner = length-replicate {A = ℕ} 64 0; steps = length-replicate {A = ℕ} 64 0 }
-events-fit (r ∷ rs) = events-fit-after (contextOf rs .events) r (events-fit rs)
+-- how many steps there are is a table that only steps change
+pub steps-length : (rs : List Record) → length (contextOf rs .events .steps) ≡ 64
+unfolding contextOf eventsAfter keyOf field2
+steps-length = table-length 0x17 64 (λ r. (field2 r + 1) % 256) (λ rs. contextOf rs .events .steps) refl takes
+  where
+    takes : (r : Record) (rs : List Record) → eventsAfter (contextOf rs .events) r .steps
+        ≡ cond (eqb (keyOf r .kind) 0x17) (withEntry 64 (contextOf rs .events .steps) (keyOf r .first) ((field2 r + 1) % 256)) (contextOf rs .events .steps)
+    takes (Head m v e) rs = refl
+    takes (Event n o c) rs = refl
+    takes (Module n st i) rs = refl
+    takes (ModuleMove m f e t) rs = refl
+    takes (Supervisor n st i a) rs = refl
+    takes (SupervisorMove v f e t) rs = refl
+    takes (Disabling v st m) rs = refl
+    takes (Step e i o x) rs = refl
+    takes End rs = refl
 
 pub record EventTold (ev : Events) (rs : List Record) (e : ℕ) : Type 0 where
   pub known : bit (ev .known) e ≡ found (eventIn rs e)
   pub controls : bit (ev .controllable) e ≡ controllable rs e
   pub owner : getD (ev .owner) e 0 ≡ ownerOf rs e
 
--- the same facts where neither the table's entry nor the look-up changed
-event-kept : {ev : Events} {rs : List Record} {e : ℕ} (r : Record) → eventIn (r ∷ rs) e ≡ eventIn rs e → EventTold ev rs e → EventTold ev (r ∷ rs) e
-event-kept r h t =
-    record { known = t .known ∙ ap found (sym h); controls = t .controls ∙ ap (λ (x : Found). eqb (fieldOf field3 x) 1) (sym h); owner = t .owner ∙ ap (fieldOf field2) (sym h) }
-
-event-after : (ev : Events) (rs : List Record) (r : Record) (e : ℕ) → e < 64 → EventsFit ev → EventTold ev rs e → EventTold (eventsAfter ev r) (r ∷ rs) e
-unfolding eventsAfter findIn keyOf sameKey field2 field3
-event-after ev rs (Head m v x) e l f t = event-kept (Head m v x) refl t
-event-after ev rs (Event n o c) e l f t =
-    let b = eqb n e in
-    let look : eventIn (Event n o c ∷ rs) e ≡ cond b (It (Event n o c)) (eventIn rs e) = ap (λ (d : Bool). cond d (It (Event n o c)) (eventIn rs e)) (same-number 0x11 n e refl) in
-    record {
-      known = with-bit-at 64 (ev .known) n true e (lit≤ tt) (f .known) l ∙ ap (cond b true) (t .known) ∙ sym (ap found look ∙ found-cond b (Event n o c) (eventIn rs e));
-      controls =
-          with-bit-at 64 (ev .controllable) n (eqb c 1) e (lit≤ tt) (f .controllable) l ∙ ap (cond b (eqb c 1)) (t .controls)
-          ∙ sym (ap (λ (x : Found). eqb (fieldOf field3 x) 1) look ∙ ap (λ (x : ℕ). eqb x 1) (field-cond field3 b (Event n o c) (eventIn rs e)) ∙ test-cond b c (fieldOf field3 (eventIn rs e)));
-      owner = with-entry-at 64 (ev .owner) n o e (f .owner) l ∙ ap (cond b o) (t .owner) ∙ sym (ap (fieldOf field2) look ∙ field-cond field2 b (Event n o c) (eventIn rs e));
-    }
-event-after ev rs (Module n st i) e l f t = event-kept (Module n st i) refl t
-event-after ev rs (ModuleMove m g x u) e l f t = event-kept (ModuleMove m g x u) refl t
-event-after ev rs (Supervisor n st i a) e l f t = event-kept (Supervisor n st i a) refl t
-event-after ev rs (SupervisorMove v g x u) e l f t = event-kept (SupervisorMove v g x u) refl t
-event-after ev rs (Disabling v st m) e l f t = event-kept (Disabling v st m) refl t
-event-after ev rs (Step x i o y) e l f t =
-    let u : EventTold ev (Step x i o y ∷ rs) e = event-kept (Step x i o y) refl t in
-    record { known = u .known; controls = u .controls; owner = u .owner }
-event-after ev rs End e l f t = event-kept End refl t
-
 pub event-told : (rs : List Record) (e : ℕ) → e < 64 → EventTold (contextOf rs .events) rs e
-unfolding contextOf findIn found fieldOf
-event-told [] e l = record { known = bit-none e; controls = bit-none e; owner = getD-replicate 64 e 0 0 l }
-event-told (r ∷ rs) e l = event-after (contextOf rs .events) rs r e l (events-fit rs) (event-told rs e l)
+unfolding contextOf found fieldOf
+event-told rs e l = record {
+  known = mask-told 0x11 64 (lit≤ tt) found (λ rs. contextOf rs .events .known) refl (λ r rs. event-part (λ ev. ev .known) (contextOf rs .events) r refl) tt refl e l rs;
+  controls =
+      mask-told 0x11 64 (lit≤ tt) (λ f. eqb (fieldOf field3 f) 1) (λ rs. contextOf rs .events .controllable) refl
+      (λ r rs. event-part (λ ev. ev .controllable) (contextOf rs .events) r refl) tt refl e l rs;
+  owner = table-told 0x11 64 field2 (λ rs. contextOf rs .events .owner) refl (λ r rs. event-part (λ ev. ev .owner) (contextOf rs .events) r refl) tt e l rs;
+}
 
 -- ---- the modules
 
-pub record ModulesFit (ms : Modules) : Type 0 where
-  pub known : ms .known < 2 ^ 64
-  pub states : length (ms .states) ≡ 16
+modules-after : (ms : Modules) (r : Record) → modulesAfter ms r ≡ cond (eqb (keyOf r .kind) 0x12) (withModule ms (keyOf r .first) (field2 r)) ms
+unfolding modulesAfter keyOf field2
+modules-after ms (Head m v e) = refl
+modules-after ms (Event n o c) = refl
+modules-after ms (Module n st i) = refl
+modules-after ms (ModuleMove m f e t) = refl
+modules-after ms (Supervisor n st i a) = refl
+modules-after ms (SupervisorMove v f e t) = refl
+modules-after ms (Disabling v st m) = refl
+modules-after ms (Step e i o x) = refl
+modules-after ms End = refl
 
-modules-fit-after : (ms : Modules) (r : Record) → ModulesFit ms → ModulesFit (modulesAfter ms r)
-unfolding modulesAfter
-modules-fit-after ms (Head m v e) f = f
-modules-fit-after ms (Event n o c) f = f
-modules-fit-after ms (Module n st i) f = record { known = with-bit-fits 16 _ n true (f .known); states = with-entry-length 16 _ n st (f .states) }
-modules-fit-after ms (ModuleMove m f e t) g = g
-modules-fit-after ms (Supervisor n st i a) f = f
-modules-fit-after ms (SupervisorMove v f e t) g = g
-modules-fit-after ms (Disabling v st m) f = f
-modules-fit-after ms (Step e i o x) f = f
-modules-fit-after ms End f = f
-
-modules-fit : (rs : List Record) → ModulesFit (contextOf rs .modules)
-unfolding contextOf
-modules-fit [] = record { known = pow-pos 64; states = length-replicate {A = ℕ} 16 0 }
-modules-fit (r ∷ rs) = modules-fit-after (contextOf rs .modules) r (modules-fit rs)
+module-part : {A : Type 0} (g : Modules → A) (ms : Modules) (r : Record) → g (modulesAfter ms r) ≡ cond (eqb (keyOf r .kind) 0x12) (g (withModule ms (keyOf r .first) (field2 r))) (g ms)
+module-part g ms r = ap g (modules-after ms r) ∙ part g (eqb (keyOf r .kind) 0x12) (withModule ms (keyOf r .first) (field2 r)) ms
 
 pub record ModuleTold (ms : Modules) (rs : List Record) (m : ℕ) : Type 0 where
   pub known : bit (ms .known) m ≡ found (moduleIn rs m)
   pub states : getD (ms .states) m 0 ≡ fieldOf field2 (moduleIn rs m)
 
-module-kept : {ms : Modules} {rs : List Record} {m : ℕ} (r : Record) → moduleIn (r ∷ rs) m ≡ moduleIn rs m → ModuleTold ms rs m → ModuleTold ms (r ∷ rs) m
-module-kept r h t = record { known = t .known ∙ ap found (sym h); states = t .states ∙ ap (fieldOf field2) (sym h) }
-
-module-after : (ms : Modules) (rs : List Record) (r : Record) (m : ℕ) → m < 16 → ModulesFit ms → ModuleTold ms rs m → ModuleTold (modulesAfter ms r) (r ∷ rs) m
-unfolding modulesAfter findIn keyOf sameKey field2
-module-after ms rs (Head n v x) m l f t = module-kept (Head n v x) refl t
-module-after ms rs (Event n o c) m l f t = module-kept (Event n o c) refl t
-module-after ms rs (Module n st i) m l f t =
-    let b = eqb n m in
-    let look : moduleIn (Module n st i ∷ rs) m ≡ cond b (It (Module n st i)) (moduleIn rs m) = ap (λ (d : Bool). cond d (It (Module n st i)) (moduleIn rs m)) (same-number 0x12 n m refl) in
-    record {
-      known = with-bit-at 16 (ms .known) n true m (lit≤ tt) (f .known) l ∙ ap (cond b true) (t .known) ∙ sym (ap found look ∙ found-cond b (Module n st i) (moduleIn rs m));
-      states = with-entry-at 16 (ms .states) n st m (f .states) l ∙ ap (cond b st) (t .states) ∙ sym (ap (fieldOf field2) look ∙ field-cond field2 b (Module n st i) (moduleIn rs m));
-    }
-module-after ms rs (ModuleMove n g x u) m l f t = module-kept (ModuleMove n g x u) refl t
-module-after ms rs (Supervisor n st i a) m l f t = module-kept (Supervisor n st i a) refl t
-module-after ms rs (SupervisorMove v g x u) m l f t = module-kept (SupervisorMove v g x u) refl t
-module-after ms rs (Disabling v st x) m l f t = module-kept (Disabling v st x) refl t
-module-after ms rs (Step x i o y) m l f t = module-kept (Step x i o y) refl t
-module-after ms rs End m l f t = module-kept End refl t
-
 pub module-told : (rs : List Record) (m : ℕ) → m < 16 → ModuleTold (contextOf rs .modules) rs m
-unfolding contextOf findIn found fieldOf
-module-told [] m l = record { known = bit-none m; states = getD-replicate 16 m 0 0 l }
-module-told (r ∷ rs) m l = module-after (contextOf rs .modules) rs r m l (modules-fit rs) (module-told rs m l)
+unfolding contextOf found
+module-told rs m l = record {
+  known = mask-told 0x12 16 (lit≤ tt) found (λ rs. contextOf rs .modules .known) refl (λ r rs. module-part (λ ms. ms .known) (contextOf rs .modules) r) tt refl m l rs;
+  states = table-told 0x12 16 field2 (λ rs. contextOf rs .modules .states) refl (λ r rs. module-part (λ ms. ms .states) (contextOf rs .modules) r) tt m l rs;
+}
 
 -- ---- the supervisors
 
-pub record SupervisorsFit (vs : Supervisors) : Type 0 where
-  pub known : vs .known < 2 ^ 64
-  pub states : length (vs .states) ≡ 32
-  pub alphabet : length (vs .alphabet) ≡ 32
+supervisors-after : (vs : Supervisors) (r : Record) → supervisorsAfter vs r ≡ cond (eqb (keyOf r .kind) 0x14) (withSupervisor vs (keyOf r .first) (field2 r) (wordField r)) vs
+unfolding supervisorsAfter keyOf field2 wordField
+supervisors-after vs (Head m v e) = refl
+supervisors-after vs (Event n o c) = refl
+supervisors-after vs (Module n st i) = refl
+supervisors-after vs (ModuleMove m f e t) = refl
+supervisors-after vs (Supervisor n st i a) = refl
+supervisors-after vs (SupervisorMove v f e t) = refl
+supervisors-after vs (Disabling v st m) = refl
+supervisors-after vs (Step e i o x) = refl
+supervisors-after vs End = refl
 
-supervisors-fit-after : (vs : Supervisors) (r : Record) → SupervisorsFit vs → SupervisorsFit (supervisorsAfter vs r)
-unfolding supervisorsAfter
-supervisors-fit-after vs (Head m v e) f = f
-supervisors-fit-after vs (Event n o c) f = f
-supervisors-fit-after vs (Module n st i) f = f
-supervisors-fit-after vs (ModuleMove m f e t) g = g
-supervisors-fit-after vs (Supervisor n st i a) f =
-    record { known = with-bit-fits 32 _ n true (f .known); states = with-entry-length 32 _ n st (f .states); alphabet = with-entry-length 32 _ n a (f .alphabet) }
-supervisors-fit-after vs (SupervisorMove v f e t) g = g
-supervisors-fit-after vs (Disabling v st m) f = f
-supervisors-fit-after vs (Step e i o x) f = f
-supervisors-fit-after vs End f = f
-
-supervisors-fit : (rs : List Record) → SupervisorsFit (contextOf rs .supervisors)
-unfolding contextOf
-supervisors-fit [] = record { known = pow-pos 64; states = length-replicate {A = ℕ} 32 0; alphabet = length-replicate {A = ℕ} 32 0 }
-supervisors-fit (r ∷ rs) = supervisors-fit-after (contextOf rs .supervisors) r (supervisors-fit rs)
+supervisor-part : {A : Type 0} (g : Supervisors → A) (vs : Supervisors) (r : Record)
+    → g (supervisorsAfter vs r) ≡ cond (eqb (keyOf r .kind) 0x14) (g (withSupervisor vs (keyOf r .first) (field2 r) (wordField r))) (g vs)
+supervisor-part g vs r = ap g (supervisors-after vs r) ∙ part g (eqb (keyOf r .kind) 0x14) (withSupervisor vs (keyOf r .first) (field2 r) (wordField r)) vs
 
 pub record SupervisorTold (vs : Supervisors) (rs : List Record) (v : ℕ) : Type 0 where
   pub known : bit (vs .known) v ≡ found (supervisorIn rs v)
   pub states : getD (vs .states) v 0 ≡ fieldOf field2 (supervisorIn rs v)
   pub alphabet : getD (vs .alphabet) v 0 ≡ alphabetOf rs v
 
-supervisor-kept : {vs : Supervisors} {rs : List Record} {v : ℕ} (r : Record) → supervisorIn (r ∷ rs) v ≡ supervisorIn rs v → SupervisorTold vs rs v → SupervisorTold vs (r ∷ rs) v
-supervisor-kept r h t =
-    record { known = t .known ∙ ap found (sym h); states = t .states ∙ ap (fieldOf field2) (sym h); alphabet = t .alphabet ∙ ap (fieldOf wordField) (sym h) }
-
-supervisor-after : (vs : Supervisors) (rs : List Record) (r : Record) (v : ℕ) → v < 32 → SupervisorsFit vs → SupervisorTold vs rs v → SupervisorTold (supervisorsAfter vs r) (r ∷ rs) v
-unfolding supervisorsAfter findIn keyOf sameKey field2 wordField
-supervisor-after vs rs (Head m n x) v l f t = supervisor-kept (Head m n x) refl t
-supervisor-after vs rs (Event n o c) v l f t = supervisor-kept (Event n o c) refl t
-supervisor-after vs rs (Module n st i) v l f t = supervisor-kept (Module n st i) refl t
-supervisor-after vs rs (ModuleMove m g x u) v l f t = supervisor-kept (ModuleMove m g x u) refl t
-supervisor-after vs rs (Supervisor n st i a) v l f t =
-    let b = eqb n v in
-    let r = Supervisor n st i a in
-    let look : supervisorIn (r ∷ rs) v ≡ cond b (It r) (supervisorIn rs v) = ap (λ (d : Bool). cond d (It r) (supervisorIn rs v)) (same-number 0x14 n v refl) in
-    record {
-      known = with-bit-at 32 (vs .known) n true v (lit≤ tt) (f .known) l ∙ ap (cond b true) (t .known) ∙ sym (ap found look ∙ found-cond b r (supervisorIn rs v));
-      states = with-entry-at 32 (vs .states) n st v (f .states) l ∙ ap (cond b st) (t .states) ∙ sym (ap (fieldOf field2) look ∙ field-cond field2 b r (supervisorIn rs v));
-      alphabet = with-entry-at 32 (vs .alphabet) n a v (f .alphabet) l ∙ ap (cond b a) (t .alphabet) ∙ sym (ap (fieldOf wordField) look ∙ field-cond wordField b r (supervisorIn rs v));
-    }
-supervisor-after vs rs (SupervisorMove n g x u) v l f t = supervisor-kept (SupervisorMove n g x u) refl t
-supervisor-after vs rs (Disabling n st x) v l f t = supervisor-kept (Disabling n st x) refl t
-supervisor-after vs rs (Step x i o y) v l f t = supervisor-kept (Step x i o y) refl t
-supervisor-after vs rs End v l f t = supervisor-kept End refl t
-
 pub supervisor-told : (rs : List Record) (v : ℕ) → v < 32 → SupervisorTold (contextOf rs .supervisors) rs v
-unfolding contextOf findIn found fieldOf
-supervisor-told [] v l = record { known = bit-none v; states = getD-replicate 32 v 0 0 l; alphabet = getD-replicate 32 v 0 0 l }
-supervisor-told (r ∷ rs) v l = supervisor-after (contextOf rs .supervisors) rs r v l (supervisors-fit rs) (supervisor-told rs v l)
+unfolding contextOf found
+supervisor-told rs v l = record {
+  known = mask-told 0x14 32 (lit≤ tt) found (λ rs. contextOf rs .supervisors .known) refl (λ r rs. supervisor-part (λ vs. vs .known) (contextOf rs .supervisors) r) tt refl v l rs;
+  states = table-told 0x14 32 field2 (λ rs. contextOf rs .supervisors .states) refl (λ r rs. supervisor-part (λ vs. vs .states) (contextOf rs .supervisors) r) tt v l rs;
+  alphabet = table-told 0x14 32 wordField (λ rs. contextOf rs .supervisors .alphabet) refl (λ r rs. supervisor-part (λ vs. vs .alphabet) (contextOf rs .supervisors) r) tt v l rs;
+}

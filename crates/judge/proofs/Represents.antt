@@ -26,7 +26,7 @@ use Rattle.context.specs.declared.Context.{Context}
 use Rattle.context.specs.Context.{eventsAfter, contextOf, entry, ownerAt, alphabetAt}
 use Rattle.context.proofs.Tables.{with-entry-at}
 use Rattle.judge.specs.Judge.{eventKnown, operandKnown, moduleKnown, supervisorKnown, moduleStateBy, supervisorStateBy, indexBy, orderBy, namesBy, respondBy, rulesBy, allBy, judgeBy}
-use Rattle.judge.proofs.Remembers.{counts-told, events-fit, event-told, module-told, supervisor-told, same-number}
+use Rattle.judge.proofs.Remembers.{counts-told, steps-length, event-told, module-told, supervisor-told, look}
 
 -- ---- what holds of records of which none is faulty
 
@@ -62,7 +62,7 @@ event-found rs n o c e h k t = go (eqb n e) refl
   where
     go : (b : Bool) → eqb n e ≡ b → e < eventsOf rs
     go true q = subst (λ (x : ℕ). x < eventsOf rs) (eqb-true n e q) h
-    go false q = k e (sym (ap (λ (d : Bool). found (cond d (It (Event n o c)) (eventIn rs e))) (same-number 0x11 n e refl ∙ q)) ∙ t)
+    go false q = k e (sym (ap found (look 0x11 e tt (Event n o c) rs) ∙ ap (λ (d : Bool). found (cond d (It (Event n o c)) (eventIn rs e))) q) ∙ t)
 
 step-none : (rs : List Record) (x i o y e : ℕ) → x < eventsOf rs → eventsOf rs ≤ e → stepsOf rs e ≡ 0 → stepsOf (Step x i o y ∷ rs) e ≡ 0
 unfolding stepsOf keyOf
@@ -120,7 +120,7 @@ steps-after rs (Supervisor n st i a) e l t k = k
 steps-after rs (SupervisorMove v f x g) e l t k = k
 steps-after rs (Disabling v st m) e l t k = k
 steps-after rs (Step x i o y) e l t k =
-    with-entry-at 64 (contextOf rs .events .steps) x ((i + 1) % 256) e (events-fit rs .steps) l ∙ go (eqb x e) refl
+    with-entry-at 64 (contextOf rs .events .steps) x ((i + 1) % 256) e (steps-length rs) l ∙ go (eqb x e) refl
   where
     go : (b : Bool) → eqb x e ≡ b → cond b ((i + 1) % 256) (getD (contextOf rs .events .steps) e 0) ≡ cond (true && b) (suc (stepsOf rs e)) (stepsOf rs e)
     go true q =
