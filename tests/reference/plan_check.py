@@ -1,4 +1,4 @@
-"""The plan check, the reader and the writer of one record, written from the paper alone.
+"""The plan check, the reader, the writer of one record and the copy of a plan, written from the paper alone.
 
     python3 tests/reference/plan_check.py < crates/vectors/stdin
 
@@ -10,6 +10,7 @@ A line is a word and its arguments, one space before each:
     check IMAGE               `accepted`, or `N at B`
     read IMAGE OFFSET         `record KIND FIELD.. next N`, `unknown`, `cut` or `nothing`
     write KIND FIELD.. into N `length L` or `refused N`, and the buffer of N bytes, which held AA throughout
+    copy IMAGE into N         `length L` or `refused N at B`, and the buffer of N bytes, which held AA throughout
 
 An IMAGE is `-`, the empty one, or pieces joined by `+`. A piece is hexadecimal digits; `HEX*N` is N copies of it, and `HEX^N` is
 N copies of a record whose third byte, an index or a state, is one more in each.
@@ -231,14 +232,32 @@ def verdict(image):
         at = after
 
 
+def bytes_of(kind, fields):
+    return bytes([kind]) + b"".join(f.to_bytes(size, "big") for f, size in zip(fields, FIELDS[kind]))
+
+
 def write(kind, fields, buffer):
     """('length', L) or ('refused', N), and the buffer afterwards."""
     if not in_range(kind, fields):
         return "refused", 5, buffer
-    record = bytes([kind]) + b"".join(f.to_bytes(size, "big") for f, size in zip(fields, FIELDS[kind]))
+    record = bytes_of(kind, fields)
     if len(buffer) < len(record):
         return "refused", 15, buffer
     return "length", len(record), record + buffer[len(record) :]
+
+
+def copy(image, buffer):
+    """The answer for a plan taken apart into records and written, and the buffer afterwards."""
+    found = verdict(image)
+    if found is not None:
+        return "refused %d at %d" % found, buffer
+    plan = b""
+    while len(plan) < len(image):
+        kind, fields, _ = read(image, len(plan))
+        plan += bytes_of(kind, fields)
+    if len(buffer) < len(plan):
+        return "refused 15 at 0", buffer
+    return "length %d" % len(plan), plan + buffer[len(plan) :]
 
 
 def image_of(text):
@@ -275,6 +294,9 @@ def answer(line):
         fields = list(map(int, arguments[1:-2]))
         what, number, buffer = write(int(arguments[0], 16), fields, b"\xaa" * int(arguments[-1]))
         return "%s %d %s" % (what, number, buffer.hex().upper() or "-")
+    if word == "copy":
+        what, buffer = copy(image_of(arguments[0]), b"\xaa" * int(arguments[-1]))
+        return "%s %s" % (what, buffer.hex().upper() or "-")
     raise ValueError(line)
 
 

@@ -1,10 +1,10 @@
-// Runs the plan check, the reader and the writer on the lines of standard input, and prints what
-// each gives.
+// Runs the plan check, the reader, the writer and the copy of a plan on the lines of standard input, and prints what each gives.
 // tests/reference/plan_check.py says what a line is, and prints the same.
 ghost use Prim.Native.Nat.{_≤_};
 ghost use lib.ListN.{length};
 use reader::Read;
 use records::Record;
+use rewrite::Rewritten;
 use rules::Verdict;
 use writer::Written;
 
@@ -54,7 +54,7 @@ fn number_in(s: &[u8], spaces: usize) -> u64 {
     x
 }
 
-// The spaces of a line, after the last of which a `write` has its buffer's length.
+// The spaces of a line, after the last of which a `write` or a `copy` has its buffer's length.
 fn spaces(s: &[u8]) -> usize {
     let mut n: usize = 0;
     let mut i = 0;
@@ -314,6 +314,21 @@ fn say_written(w: Written) {
     }
 }
 
+fn say_rewritten(r: Rewritten) {
+    match r {
+        Rewritten::Length(n) => {
+            say(b"length");
+            say_field(n as u64);
+        }
+        Rewritten::Refused(number, offset) => {
+            say(b"refused");
+            say_field(number as u64);
+            say(b" at");
+            say_field(offset as u64);
+        }
+    }
+}
+
 // The bytes in hexadecimal digits, or `-` for none.
 fn say_bytes(s: &[u8]) {
     if s.len() == 0 {
@@ -435,13 +450,41 @@ fn run_write(img: &mut [u8], s: &[u8]) {
     }
 }
 
+// Copies the plan into a buffer of AA, and prints the answer and the buffer.
+fn copy_into(image: &[u8], buf: &mut [u8]) {
+    fill(&mut *buf, 0xaa);
+    say_rewritten(rewrite::rewrite(image, &mut *buf));
+    say(b" ");
+    say_bytes(buf);
+    say(b"\n");
+}
+
+// The buffer has at most 128 bytes.
+fn run_copy(img: &mut [u8], s: &[u8]) {
+    let n = image_at(&mut *img, s, 5);
+    let m = number_in(s, spaces(s)) as usize;
+    let mut room = [0u8; 128];
+    let buf: &mut [u8] = &mut room;
+    if n <= img.len() {
+        if m <= buf.len() {
+            copy_into(&img[..n], &mut buf[..m]);
+        }
+    }
+}
+
 fn run_line(img: &mut [u8], s: &[u8]) {
     match words::byte_at(s, 0) {
         b'#' => {
             say(s);
             say(b"\n");
         }
-        b'c' => run_check(img, s),
+        b'c' => {
+            if words::byte_at(s, 1) == b'h' {
+                run_check(img, s)
+            } else {
+                run_copy(img, s)
+            }
+        }
         b'r' => run_read(img, s),
         b'w' => run_write(img, s),
         _ => say(b"?\n"),
