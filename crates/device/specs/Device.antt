@@ -19,12 +19,10 @@ use Rattle.modules.specs.declared.Own.{Own}
 use Rattle.modules.specs.declared.Turn.{Turn}
 use Rattle.modules.specs.declared.Turn.the-variants.{Event, Stray, Nothing}
 use Rattle.modules.specs.declared.Turned.{Turned}
-use Rattle.modules.specs.declared.Reply.{Reply}
-use Rattle.modules.specs.declared.Reply.the-variants.{Taken, Refused as Denied}
 use Rattle.modules.specs.declared.Replied.{Replied}
 use Rattle.modules.specs.declared.Called.{Called}
 use Rattle.modules.specs.declared.Called.the-variants.{Done, Refused as CallRefused}
-use Rattle.modules.specs.Procedure.{idle, tickOf, respondOf}
+use Rattle.modules.specs.Procedure.{idle, calledBy, tickOf, respondOf}
 use Rattle.modules.specs.Turn.{turnOf, startOwn}
 use Rattle.modules.specs.Fits.{ownFits, ownEmpty}
 use Rattle.device.specs.declared.Device.{Device}
@@ -99,12 +97,8 @@ turnCall image d m = turnBy (verdictOf image) (recordsOf image) d m
 abbrev pub callRefused : Device → ℕ → ℕ → DeviceCalled
 callRefused d n o = record { answer = CallRefused n o; device = d }
 
-unfoldable pub answerOf : Reply → Called
-answerOf Taken = Done
-answerOf (Denied n) = CallRefused n 0
-
 unfoldable pub replyIn : Device → ℕ → ℕ → Replied → DeviceCalled
-replyIn d m zero r = record { answer = answerOf (r .reply); device = withOwn d m (r .own) }
+replyIn d m zero r = record { answer = calledBy (r .reply); device = withOwn d m (r .own) }
 replyIn d m (suc n) r = callRefused d (suc n) 0
 
 unfoldable pub replyBy : Verdict → List Record → Device → ℕ → Replied → DeviceCalled

@@ -15,6 +15,8 @@ use Rattle.modules.specs.declared.Own.{Own}
 use Rattle.modules.specs.declared.Reply.{Reply}
 use Rattle.modules.specs.declared.Reply.the-variants.{Taken, Refused}
 use Rattle.modules.specs.declared.Replied.{Replied}
+use Rattle.modules.specs.declared.Called.{Called}
+use Rattle.modules.specs.declared.Called.the-variants.{Done, Refused as CallRefused}
 use Rattle.modules.specs.Queue.{full, queued}
 
 abbrev pub idle : Procedure
@@ -78,6 +80,11 @@ taken own = record { reply = Taken; own = own }
 
 abbrev pub refused : ℕ → Own → Replied
 refused n own = record { reply = Refused n; own = own }
+
+-- a reply as a call's answer: the number stands at offset 0
+unfoldable pub calledBy : Reply → Called
+calledBy Taken = Done
+calledBy (Refused n) = CallRefused n 0
 
 -- a tick: 14 "bad flow reading", "checked even when idle"
 unfoldable pub tickOf : List Record → Flow → Own → Replied

@@ -19,12 +19,10 @@ use Rattle.modules.specs.declared.Own.{Own}
 use Rattle.modules.specs.declared.Turn.{Turn}
 use Rattle.modules.specs.declared.Turn.the-variants.{Event, Stray, Nothing}
 use Rattle.modules.specs.declared.Turned.{Turned}
-use Rattle.modules.specs.declared.Reply.{Reply}
-use Rattle.modules.specs.declared.Reply.the-variants.{Taken, Refused as Denied}
 use Rattle.modules.specs.declared.Replied.{Replied}
 use Rattle.modules.specs.declared.Called.{Called}
 use Rattle.modules.specs.declared.Called.the-variants.{Done, Refused as CallRefused}
-use Rattle.modules.specs.Procedure.{idle, tickOf, respondOf}
+use Rattle.modules.specs.Procedure.{idle, calledBy, tickOf, respondOf}
 use Rattle.modules.specs.Turn.{turnOf, wish, startOwn}
 use Rattle.modules.specs.Fits.{ownFits}
 use Rattle.messages.specs.Message.{noEvent, messageBytes, parse}
@@ -154,12 +152,12 @@ callRefused x n o = record { answer = CallRefused n o; state = x }
 
 -- "A module accepts a permit only from the supervisor it has a bid with, and takes its mask as it is." The bid is with the lowest neighbour
 -- not held.
+unfoldable pub isFor : Option ℕ → ℕ → Bool
+isFor none v = false
+isFor (some w) v = eqb w v
+
 unfoldable pub bidWith : List Record → ℕ → Module → ℕ → Bool
 bidWith rs m x v = x .bid && isFor (missing rs m (x .held)) v
-  where
-    isFor : Option ℕ → ℕ → Bool
-    isFor none v = false
-    isFor (some w) v = eqb w v
 
 abbrev pub afterPermit : Module → ℕ → ℕ → Module
 afterPermit x v k = record { own = x .own; held = putBit (x .held) v true; received = bitOr (x .received) k; bid = false }
@@ -191,13 +189,9 @@ moduleDeliver image m x bytes = deliverBy (verdictOf image) (recordsOf image) m 
 abbrev pub withOwn : Module → Own → Module
 withOwn x own = record { own = own; held = x .held; received = x .received; bid = x .bid }
 
-unfoldable pub answerOf : Reply → Called
-answerOf Taken = Done
-answerOf (Denied n) = CallRefused n 0
-
 unfoldable pub replyBy : Verdict → List Record → ℕ → Module → Replied → ModuleCall
 replyBy Accepted rs m x r =
-    cond (ltb m (modulesOf rs)) (cond (moduleFits rs m x) (record { answer = answerOf (r .reply); state = withOwn x (r .own) }) (callRefused x 9 0)) (callRefused x 11 0)
+    cond (ltb m (modulesOf rs)) (cond (moduleFits rs m x) (record { answer = calledBy (r .reply); state = withOwn x (r .own) }) (callRefused x 9 0)) (callRefused x 11 0)
 replyBy (Refused n o) rs m x r = callRefused x n o
 
 abbrev pub moduleRespond : List ℕ → ℕ → Module → ℕ → ModuleCall
