@@ -1,0 +1,9 @@
+pub mod Tools
+pub mod Masks
+pub mod Neighbours
+pub mod Invariant
+pub mod Keep
+pub mod Turn
+pub mod Progress
+pub mod Language
+pub mod Theorem
