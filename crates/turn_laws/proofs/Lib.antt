@@ -1,0 +1,12 @@
+pub mod Found
+pub mod Plan
+pub mod Words
+pub mod Water
+pub mod Queue
+pub mod Procedure
+pub mod Respond
+pub mod Tick
+pub mod Least
+pub mod Turn
+pub mod Own
+pub mod Laws

@@ -1,0 +1,137 @@
+-- The laws by which what stands above knows a turn, a response, a tick and the fit of a state, over the records rs of an accepted plan.
+use Prim.Native.Nat.{ℕ, _^_, _≤_, _<_}
+use mathlib.Core.Path.{_≡_}
+use mathlib.Core.Logic.{_⊎_}
+use mathlib.Core.List.{List, [], _∷_, _++_}
+use mathlib.Core.Option.{some}
+use mathlib.Core.Bool.{Bool, true, false, cond}
+use lib.ListN.{length, drop, set}
+use lib.Dec.{ltb}
+use Rattle.bits.specs.Bit.{bit}
+use Rattle.records.specs.declared.Record.{Record}
+use Rattle.roundtrip.specs.Fits.{Fits}
+use Rattle.rules.specs.LookUp.{found, modulesOf, supervisorsOf, eventsOf, supervisorState, ownerOf, controllable}
+use Rattle.plan.specs.Plan.{moduleMove, supervisorMove, moduleInitial, supervisorInitial, shown, inAlphabet, stepIn, operationOf, operandOf}
+use Rattle.accepted.specs.Plan.{_∈_, ModuleMoveLaw, SupervisorMoveLaw, StepLaw}
+use Rattle.litres.specs.Eighths.{count}
+use Rattle.water.specs.declared.Flow.{Flow}
+use Rattle.modules.specs.Queue.{queueOf, places, withQueue, queued}
+use Rattle.modules.specs.Procedure.{respondOf, tickOf}
+use Rattle.modules.specs.Turn.{turnOf, startOwn, enabled}
+use Rattle.modules.specs.Fits.{ownFits}
+use Rattle.modules.specs.declared.Own.{Own}
+use Rattle.modules.specs.declared.Procedure.{Procedure}
+use Rattle.modules.specs.declared.Turn.{Turn}
+use Rattle.modules.specs.declared.Turn.the-variants.{Event, Stray, Nothing}
+use Rattle.modules.specs.declared.Turned.{Turned}
+
+-- every record fits the sizes of its fields
+abbrev pub Words : List Record → Type 0
+Words rs = (r : Record) → r ∈ rs → Fits r
+
+-- the own part fits, of a module that the plan has; nothing is asked of another
+abbrev pub fitsAt : List Record → ℕ → Own → Bool
+fitsAt rs m own = cond (ltb m (modulesOf rs)) (ownFits rs m own) true
+
+-- the same of a supervisor's state
+abbrev pub stateFitsAt : List Record → ℕ → ℕ → Bool
+stateFitsAt rs v st = cond (ltb v (supervisorsOf rs)) (supervisorState rs v st) true
+
+-- the queue has eight places, which is its array's length
+abbrev pub EightPlaces : Own → Type 0
+EightPlaces own = length (own .queue) ≡ 8
+
+-- the event e fired: it has a move to the new state, and is uncontrollable or not in the mask k
+pub record Fired (rs : List Record) (m k : ℕ) (own : Own) (e : ℕ) (after : Own) : Type 0 where
+  pub moved : moduleMove rs m (own .state) e ≡ some (after .state)
+  pub free : (controllable rs e ≡ false) ⊎ (bit k e ≡ false)
+
+-- what a turn did, and the own part after it: without a firing the state stays
+abbrev pub Did : List Record → ℕ → ℕ → Own → Turn → Own → Type 0
+Did rs m k own (Event e) after = Fired rs m k own e after
+Did rs m k own (Stray e) after = after .state ≡ own .state
+Did rs m k own Nothing after = after .state ≡ own .state
+
+abbrev pub TurnOk : List Record → ℕ → ℕ → Own → Turned → Type 0
+TurnOk rs m k own t = Did rs m k own (t .turn) (t .own)
+
+-- the command e: chosen with no response queued and the procedure idle, the lowest of the enabled events
+pub record Command (rs : List Record) (m k : ℕ) (own : Own) (e : ℕ) : Type 0 where
+  pub unqueued : queueOf own ≡ []
+  pub idle : own .procedure .running ≡ false
+  pub able : enabled rs m k (own .state) e ≡ true
+  pub lowest : (j : ℕ) → j < e → enabled rs m k (own .state) j ≡ false
+
+-- the operation and the operand of the step at which a procedure runs
+abbrev pub operationAt : List Record → Procedure → ℕ
+operationAt rs p = operationOf rs (p .event) (p .index)
+
+abbrev pub operandAt : List Record → Procedure → ℕ
+operandAt rs p = operandOf rs (p .event) (p .index)
+
+-- that step: what the plan asks of it, and that one tick more and one reading more have room
+pub record AtStep (rs : List Record) (m : ℕ) (p : Procedure) : Type 0 where
+  pub owner : ownerOf rs (p .event) ≡ m
+  pub step : StepLaw rs (p .event) (p .index) (operationAt rs p) (operandAt rs p)
+  pub ticks : p .count < 65535
+  pub eighths : operationAt rs p ≡ 4 → count (p .water .total) < 2 ^ 20
+
+-- the sizes in an own part that fits
+pub record Sizes (rs : List Record) (m : ℕ) (own : Own) : Type 0 where
+  pub number : m < modulesOf rs
+  pub state : own .state < 32
+  pub responses : own .length ≤ 8
+  pub step : own .procedure .running ≡ true → AtStep rs m (own .procedure)
+
+pub record TurnLaws (rs : List Record) : Type 0 where
+  -- ---- the plan
+  -- the counts
+  pub few-modules : modulesOf rs ≤ 16
+  pub few-supervisors : supervisorsOf rs ≤ 32
+  pub few-events : eventsOf rs ≤ 64
+  -- a module moves by its own events
+  pub own-move : (m x e y : ℕ) → moduleMove rs m x e ≡ some y → ownerOf rs e ≡ m
+  -- what a listed move names is in the plan
+  pub module-move : (m x e y : ℕ) → moduleMove rs m x e ≡ some y → ModuleMoveLaw rs m x e y
+  pub supervisor-move : (v x e y : ℕ) → supervisorMove rs v x e ≡ some y → SupervisorMoveLaw rs v x e y
+  -- a shown mask has only controllable events of the supervisor's alphabet, and is of 64 bits
+  pub shown-in-alphabet : (v x e : ℕ) → bit (shown rs v x) e ≡ true → inAlphabet rs v e ≡ true
+  pub shown-controllable : (v x e : ℕ) → bit (shown rs v x) e ≡ true → controllable rs e ≡ true
+  pub shown-small : (v x : ℕ) → shown rs v x < 2 ^ 64
+  -- an alphabet is a supervisor's of the plan, with events of the plan
+  pub alphabet-event : (v e : ℕ) → inAlphabet rs v e ≡ true → e < eventsOf rs
+  pub alphabet-supervisor : (v e : ℕ) → inAlphabet rs v e ≡ true → v < supervisorsOf rs
+  -- the module of an event is in the plan
+  pub event-owner : (e : ℕ) → e < eventsOf rs → ownerOf rs e < modulesOf rs
+  -- a supervisor's state fits at the start and after a move
+  pub supervisor-start : (v : ℕ) → stateFitsAt rs v (supervisorInitial rs v) ≡ true
+  pub supervisor-moved : (v x e y : ℕ) → supervisorMove rs v x e ≡ some y → stateFitsAt rs v y ≡ true
+  -- what is asked of a step that is there
+  pub step-law : (e i : ℕ) → found (stepIn rs e i) ≡ true → StepLaw rs e i (operationOf rs e i) (operandOf rs e i)
+  -- ---- the start
+  pub start-state : (m : ℕ) → startOwn rs m .state ≡ moduleInitial rs m
+  pub start-fits : (m : ℕ) → fitsAt rs m (startOwn rs m) ≡ true
+  -- ---- a turn: what it does, that it goes by the mask's bits of the module's own events alone, and that it keeps what fits
+  pub turn-ok : (m k : ℕ) (own : Own) → fitsAt rs m own ≡ true → TurnOk rs m k own (turnOf rs m k own)
+  pub turn-same : (m k k′ : ℕ) (own : Own) → ((e : ℕ) → ownerOf rs e ≡ m → bit k e ≡ bit k′ e) → turnOf rs m k own ≡ turnOf rs m k′ own
+  pub turn-fits : (m k : ℕ) (own : Own) → fitsAt rs m own ≡ true → fitsAt rs m (turnOf rs m k own .own) ≡ true
+  -- "the lowest-numbered controllable event fires that has a move here and stands in no shown mask"
+  pub command : (m k : ℕ) (own : Own) (e : ℕ) → fitsAt rs m own ≡ true → turnOf rs m k own .turn ≡ Event e → controllable rs e ≡ true → Command rs m k own e
+  -- ---- a response and a tick leave the state, and keep what fits
+  pub respond-state : (m e : ℕ) (own : Own) → respondOf rs m e own .own .state ≡ own .state
+  pub respond-fits : (m e : ℕ) (own : Own) → fitsAt rs m own ≡ true → fitsAt rs m (respondOf rs m e own .own) ≡ true
+  pub tick-state : (f : Flow) (own : Own) → tickOf rs f own .own .state ≡ own .state
+  pub tick-fits : (m : ℕ) (f : Flow) (own : Own) → fitsAt rs m own ≡ true → fitsAt rs m (tickOf rs f own .own) ≡ true
+  -- ---- sizes; a turn, a response and a tick keep the queue's eight places
+  pub sizes : (m : ℕ) (own : Own) → ownFits rs m own ≡ true → Sizes rs m own
+  pub start-places : (m : ℕ) → EightPlaces (startOwn rs m)
+  pub turn-places : (m k : ℕ) (own : Own) → EightPlaces own → EightPlaces (turnOf rs m k own .own)
+  pub respond-places : (m e : ℕ) (own : Own) → own .length ≤ 8 → EightPlaces own → EightPlaces (respondOf rs m e own .own)
+  pub tick-places : (f : Flow) (own : Own) → own .length ≤ 8 → EightPlaces own → EightPlaces (tickOf rs f own .own)
+  -- ---- the queue by its places: the responses and then zeros; one more stands in the place after the last; the head removed, the others
+  -- move up
+  pub queue-of : (own : Own) (q : List ℕ) → queueOf (withQueue own q) ≡ q
+  pub queue-length : (own : Own) → own .length ≤ 8 → EightPlaces own → length (queueOf own) ≡ own .length
+  pub queue-places : (m : ℕ) (own : Own) → ownFits rs m own ≡ true → EightPlaces own → own .queue ≡ places (queueOf own)
+  pub queued-last : (m e : ℕ) (own : Own) → ownFits rs m own ≡ true → EightPlaces own → own .length < 8 → queued own e .queue ≡ set (own .queue) (own .length) e
+  pub head-removed : (m e : ℕ) (q : List ℕ) (own : Own) → ownFits rs m own ≡ true → EightPlaces own → queueOf own ≡ e ∷ q → places q ≡ drop 1 (own .queue) ++ (0 ∷ [])
