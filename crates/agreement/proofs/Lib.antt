@@ -1,0 +1,12 @@
+pub mod Least
+pub mod Names
+pub mod Bytes
+pub mod Device
+pub mod Fit
+pub mod Steps
+pub mod Deliveries
+pub mod Simulation
+pub mod Laws
+pub mod Whole
+pub mod Start
+pub mod Demand

@@ -1,0 +1,195 @@
+-- Module and supervisor steps do what the rules say, in states that fit and with 128 bytes lent.
+use mathlib.Core.Path.{_≡_, refl, sym, ap, ap₂, _∙_, subst}
+use mathlib.Core.Bool.{Bool, true, false, cond, not, _&&_, _||_}
+use mathlib.Core.List.{List, [], _∷_, _++_, map, append-nil}
+use mathlib.Core.Option.{Option, none, some, Option·map}
+use Prim.Native.Nat.{ℕ, zero, suc, _+_, _*_, _/_, _%_, _^_, _≤_, _<_}
+use native.Mathlib.Omega.{arith}
+use lib.ListN.{length, take, drop, length-append}
+use lib.Seq.{take-at}
+use lib.Dec.{eqb, ltb}
+use borrow.Author.Tests.{lt-ltb, le-ltb}
+use Rattle.bits.specs.Bit.{bit, least, putBit}
+use Rattle.words.specs.Word.{wordBytes}
+use Rattle.words.proofs.Laws.{length-word}
+use Rattle.records.specs.declared.Record.{Record}
+use Rattle.rules.specs.LookUp.{modulesOf, supervisorsOf}
+use Rattle.rules.specs.declared.Verdict.{Verdict}
+use Rattle.rules.specs.declared.Verdict.the-variants.{Accepted, Refused}
+use Rattle.plan.specs.Plan.{neighbours, shown}
+use Rattle.modules.specs.declared.Turn.{Turn}
+use Rattle.modules.specs.Turn.{turnOf}
+use Rattle.messages.specs.Message.{messageBytes}
+use Rattle.messages.specs.declared.Message.{Message}
+use Rattle.messages.specs.declared.Message.the-variants.{Bid, Permit, Release}
+use Rattle.permits.specs.declared.Module.{Module}
+use Rattle.permits.specs.declared.Supervisor.{Supervisor}
+use Rattle.permits.specs.declared.Holder.{Holder}
+use Rattle.permits.specs.declared.Holder.the-variants.{Home, Out}
+use Rattle.permits.specs.Names.{short, written}
+use Rattle.permits.specs.Module as M
+use Rattle.permits.specs.Supervisor as S
+use Rattle.protocol.specs.Generic as G
+use Rattle.protocol.specs.Plan.{Plan, Laws}
+use Rattle.protocol.specs.Rules as R
+use Rattle.agreement.specs.PlanOf.{planOf}
+use Rattle.agreement.specs.System.{pieces, sent, sentOut}
+use Rattle.agreement.proofs.Names.{messageOf, choiceOf, choice-same, releases-same, lowest-is}
+use Rattle.agreement.proofs.Bytes.{Fours, pieces-of, length-fours}
+use Rattle.agreement.proofs.Fit.{SameModule, SameSupervisor, holderOf, few, watched}
+
+-- ---- a module step
+
+fours-append : (l r : List Message) → Fours l → Fours r → Fours (l ++ r)
+fours-append [] r h k = k
+fours-append (g ∷ l) r h k = (h .0, fours-append l r (h .1) k)
+
+releases-fours : (rs : List Record) (m : ℕ) (t : Turn) (n : ℕ) → Fours (M.releases rs m t n)
+unfolding M.releases
+releases-fours rs m t zero = tt
+releases-fours rs m t (suc n) = fours-append (M.releases rs m t n) _ (releases-fours rs m t n) (one (bit (neighbours rs m) n))
+  where
+    one : (b : Bool) → Fours (cond b (Release m n (M.eventFor rs n t) ∷ []) [])
+    one true = unfold messageBytes in (refl, tt)
+    one false = tt
+
+releases-most : (rs : List Record) (m : ℕ) (t : Turn) (n : ℕ) → length (M.releases rs m t n) ≤ n
+unfolding M.releases
+releases-most rs m t zero = omega arith
+releases-most rs m t (suc n) = omega (arith, releases-most rs m t n, length-append (M.releases rs m t n) (cond (bit (neighbours rs m) n) (Release m n (M.eventFor rs n t) ∷ []) []), one (bit (neighbours rs m) n))
+  where
+    one : (b : Bool) → length (cond b (Release m n (M.eventFor rs n t) ∷ []) []) ≤ 1
+    one true = omega arith
+    one false = omega arith
+
+module _ (rs : List Record) (m : ℕ) (x : Module) where
+  abbrev turnMessages : List Message
+  turnMessages = M.releases rs m (M.turnTaken rs m x .turn) 32
+
+  step-room : (c : M.Choice) → length (M.stepBytes rs m x c) ≤ 128
+  unfolding M.sentBy
+  step-room M.takesTurn = omega (arith, length-fours turnMessages (releases-fours rs m (M.turnTaken rs m x .turn) 32), releases-most rs m (M.turnTaken rs m x .turn) 32)
+  step-room M.waits = unfold M.bytesOfMessages in (omega arith)
+  step-room (M.bidsTo v) = unfold M.bytesOfMessages messageBytes in (omega arith)
+
+  -- the whole answer of an accepted step
+  pub step-is : (w : Verdict) (b : List ℕ) → w ≡ Accepted → m < modulesOf rs → M.moduleFits rs m x ≡ true → length b ≡ 128
+      → M.stepBy w rs m x b
+      ≡ record { answer = M.answerBy rs m x (M.choice rs m x); state = M.stateBy rs m x (M.choice rs m x); buffer = written (M.stepBytes rs m x (M.choice rs m x)) b; sent = M.sentBy rs m x (M.choice rs m x) }
+  unfolding M.stepBy M.stepIn
+  step-is w b a l f n =
+      let r : ltb (length b) (length (M.stepBytes rs m x (M.choice rs m x))) ≡ false = le-ltb (length b) (length (M.stepBytes rs m x (M.choice rs m x))) (omega (arith, step-room (M.choice rs m x))) in
+      rw (a, lt-ltb m (modulesOf rs) l, f, r)
+
+  pub step-absent : (w : Verdict) (b : List ℕ) → w ≡ Accepted → modulesOf rs ≤ m → M.stepBy w rs m x b ≡ M.stepRefused x b 11 0
+  step-absent w b a l =
+      ap (λ (v : Verdict). M.stepBy v rs m x b) a
+      ∙ (unfold M.stepBy in (ap (λ (p : Bool). cond p (cond (M.moduleFits rs m x) (M.stepIn rs m x b (M.choice rs m x)) (M.stepRefused x b 9 0)) (M.stepRefused x b 11 0)) (le-ltb m (modulesOf rs) l)))
+
+  -- what it wrote is its messages
+  pub sent-is : (c : M.Choice) (b : List ℕ) → sent (M.answerBy rs m x c) (written (M.stepBytes rs m x c) b) ≡ map messageBytes (M.sentBy rs m x c)
+  unfolding M.sentBy M.answerBy sent
+  sent-is M.takesTurn b =
+      let n = length-fours turnMessages (releases-fours rs m (M.turnTaken rs m x .turn) 32) in
+      let e : length (M.bytesOfMessages turnMessages) / 4 ≡ length turnMessages = omega arith in
+      ap (λ (k : ℕ). pieces k (written (M.bytesOfMessages turnMessages) b)) e ∙ pieces-of turnMessages (drop (length (M.bytesOfMessages turnMessages)) b) (releases-fours rs m (M.turnTaken rs m x .turn) 32)
+  sent-is M.waits b = refl
+  sent-is (M.bidsTo v) b =
+      ap (λ (l : List ℕ). l ∷ []) (take-at (M.bytesOfMessages (Bid m v ∷ [])) (drop (length (M.bytesOfMessages (Bid m v ∷ []))) b) (length (M.bytesOfMessages (Bid m v ∷ []))) refl ∙ (unfold M.bytesOfMessages in (append-nil (messageBytes (Bid m v)))))
+
+-- the rules' messages of a choice
+unfoldable pub sentOf : Plan → ℕ → R.ModuleState → R.Choice → List R.Message
+sentOf P m y R.takesTurn = R.releases P m (P .turn m (y .received) (y .own) .turn) (P .supervisors)
+sentOf P m y R.waits = []
+sentOf P m y (R.bidsTo v) = R.bid m v ∷ []
+
+unfoldable pub afterOf : Plan → ℕ → R.ModuleState → R.Choice → R.ModuleState
+afterOf P m y R.takesTurn = R.afterTurn P m y
+afterOf P m y R.waits = y
+afterOf P m y (R.bidsTo v) = R.afterBid y v
+
+module _ (rs : List Record) (L : Laws (planOf rs)) (m : ℕ) (x : Module) (y : R.ModuleState) (s : SameModule x y) where
+  pub turn-is : turnOf rs m (x .received) (x .own) ≡ planOf rs .turn m (y .received) (y .own)
+  turn-is = ap₂ (turnOf rs m) (s .received) (s .own) ∙ (unfold planOf in refl)
+
+  pub choice-is : M.choice rs m x ≡ choiceOf (R.choice (planOf rs) m y)
+  choice-is = choice-same rs (few rs L) (watched rs L) m x y (s .own) (s .held) (s .bid)
+
+  pub messages-are : (c : R.Choice) → M.sentBy rs m x (choiceOf c) ≡ map messageOf (sentOf (planOf rs) m y c)
+  unfolding M.sentBy choiceOf sentOf
+  messages-are R.takesTurn = ap (λ t. M.releases rs m (t .turn) 32) turn-is ∙ releases-same rs (few rs L) (watched rs L) m (planOf rs .turn m (y .received) (y .own) .turn)
+  messages-are R.waits = refl
+  messages-are (R.bidsTo v) = unfold messageOf in refl
+
+  pub after-is : (c : R.Choice) → SameModule (M.stateBy rs m x (choiceOf c)) (afterOf (planOf rs) m y c)
+  unfolding M.stateBy choiceOf afterOf R.afterTurn R.afterBid
+  after-is R.takesTurn = record { own = ap (λ t. t .own) turn-is; held = refl; received = refl; bid = s .bid }
+  after-is R.waits = s
+  after-is (R.bidsTo v) = record { own = s .own; held = s .held; received = s .received; bid = refl }
+
+-- ---- a supervisor step
+
+module _ (rs : List Record) (v : ℕ) (x : Supervisor) where
+  serve-room : (t : Option ℕ) → length (S.sentBytes (S.sentTo rs v x t)) ≤ 128
+  unfolding S.sentBytes S.sentTo
+  serve-room none = omega arith
+  serve-room (some m) = unfold messageBytes in (omega (arith, length-word (shown rs v (x .state))))
+
+  pub serve-is : (w : Verdict) (b : List ℕ) → w ≡ Accepted → v < supervisorsOf rs → S.supervisorFits rs v x ≡ true → length b ≡ 128
+      → S.stepBy w rs v x b
+      ≡ record { answer = S.answerBy (S.sentBytes (S.sentTo rs v x (S.served x))) (S.served x); state = S.stateAfter x (S.served x); buffer = written (S.sentBytes (S.sentTo rs v x (S.served x))) b; sent = S.sentTo rs v x (S.served x) }
+  unfolding S.stepBy S.stepIn
+  serve-is w b a l f n =
+      let r : ltb (length b) (length (S.sentBytes (S.sentTo rs v x (S.served x)))) ≡ false = le-ltb (length b) (length (S.sentBytes (S.sentTo rs v x (S.served x)))) (omega (arith, serve-room (S.served x))) in
+      rw (a, lt-ltb v (supervisorsOf rs) l, f, r)
+
+  pub serve-absent : (w : Verdict) (b : List ℕ) → w ≡ Accepted → supervisorsOf rs ≤ v → S.stepBy w rs v x b ≡ S.stepRefused x b 11 0
+  serve-absent w b a l =
+      ap (λ (z : Verdict). S.stepBy z rs v x b) a
+      ∙ (unfold S.stepBy in (ap (λ (p : Bool). cond p (cond (S.supervisorFits rs v x) (S.stepIn rs v x b (S.served x)) (S.stepRefused x b 9 0)) (S.stepRefused x b 11 0)) (le-ltb v (supervisorsOf rs) l)))
+
+  pub served-bytes : (t : Option ℕ) (b : List ℕ) → sentOut (S.answerBy (S.sentBytes (S.sentTo rs v x t)) t) (written (S.sentBytes (S.sentTo rs v x t)) b) ≡ map messageBytes (S.sentTo rs v x t)
+  unfolding S.sentBytes S.sentTo S.answerBy sentOut
+  served-bytes none b = refl
+  served-bytes (some m) b = ap (λ (l : List ℕ). l ∷ []) (take-at (messageBytes (Permit v m (shown rs v (x .state)))) (drop (length (messageBytes (Permit v m (shown rs v (x .state))))) b) (length (messageBytes (Permit v m (shown rs v (x .state))))) refl)
+
+unfoldable pub permitOf : Plan → ℕ → R.SupervisorState → Option ℕ → List R.Message
+permitOf P v y none = []
+permitOf P v y (some m) = R.permit v m (P .shown v (y .state)) ∷ []
+
+unfoldable pub afterServing : R.SupervisorState → Option ℕ → R.SupervisorState
+afterServing y none = y
+afterServing y (some m) = R.afterSending y m
+
+module _ (rs : List Record) (v : ℕ) (x : Supervisor) (y : R.SupervisorState) (s : SameSupervisor x y) where
+  next-is : (o : Option ℕ) → S.nextNoted x o ≡ Option·map (R.placeAfter (y .lastServed)) o
+  unfolding S.nextNoted S.placeAfter R.placeAfter
+  next-is none = refl
+  next-is (some k) = ap (λ (l : ℕ). some ((l + suc k) % 16)) (s .last)
+
+  first-is : S.nextNoted x (least (λ k. bit (x .noted) (S.placeAfter (x .last) k)) 16) ≡ R.firstNoted y
+  first-is =
+      next-is (least (λ k. bit (x .noted) (S.placeAfter (x .last) k)) 16)
+      ∙ ap (Option·map (R.placeAfter (y .lastServed))) (ap₂ (λ (n l : ℕ). least (λ k. bit n (S.placeAfter l k)) 16) (s .noted) (s .last) ∙ same)
+      ∙ (unfold R.firstNoted in refl)
+    where
+      same : least (λ k. bit (y .noted) (S.placeAfter (y .lastServed) k)) 16 ≡ G.least (λ k. bit (y .noted) (R.placeAfter (y .lastServed) k)) 16
+      same = unfold S.placeAfter R.placeAfter in (sym (lowest-is (λ k. bit (y .noted) ((y .lastServed + suc k) % 16)) 16))
+
+  pub served-is : S.served x ≡ R.served y
+  unfolding R.served S.servedOn R.servedOn holderOf
+  served-is = go (x .holder) (s .holder)
+    where
+      go : (h : Holder) → holderOf h ≡ y .holder → S.servedOn x h ≡ R.servedOn (y .holder) (R.firstNoted y)
+      go Home e = first-is ∙ ap (λ (o : Option ℕ). R.servedOn o (R.firstNoted y)) e
+      go (Out m) e = ap (λ (o : Option ℕ). R.servedOn o (R.firstNoted y)) e
+
+  pub permit-is : (t : Option ℕ) → S.sentTo rs v x t ≡ map messageOf (permitOf (planOf rs) v y t)
+  unfolding S.sentTo permitOf
+  permit-is none = refl
+  permit-is (some m) = ap (λ (z : ℕ). Permit v m (shown rs v z) ∷ []) (s .state) ∙ (unfold planOf messageOf in refl)
+
+  pub serving-is : (t : Option ℕ) → SameSupervisor (S.stateAfter x t) (afterServing y t)
+  unfolding S.stateAfter afterServing R.afterSending
+  serving-is none = s
+  serving-is (some m) = record { state = s .state; noted = ap (λ (n : ℕ). putBit n m false) (s .noted); holder = (unfold holderOf in refl); last = refl }

@@ -1,0 +1,4 @@
+pub mod PlanOf
+pub mod System
+pub mod Compared
+pub mod Demand
