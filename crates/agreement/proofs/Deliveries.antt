@@ -8,7 +8,7 @@ use native.Mathlib.Omega.{arith}
 use lib.Bits.{bitOr}
 use lib.Dec.{eqb, ltb}
 use borrow.Author.Tests.{lt-ltb, ne-eqb}
-use Rattle.bits.specs.Bit.{bit, putBit}
+use Rattle.bits.specs.Bit.{bit, putBit, isSome}
 use Rattle.records.specs.declared.Record.{Record}
 use Rattle.rules.specs.LookUp.{modulesOf, supervisorsOf, eventsOf, ownerOf}
 use Rattle.rules.specs.declared.Verdict.{Verdict}
@@ -26,7 +26,6 @@ use Rattle.permits.specs.declared.Holder.the-variants.{Home, Out}
 use Rattle.permits.specs.Names.{neighbours?, eventNamed, named}
 use Rattle.permits.specs.Module as M
 use Rattle.permits.specs.Supervisor as S
-use Rattle.protocol.specs.Generic as G
 use Rattle.protocol.specs.Plan.{Plan, Laws}
 use Rattle.protocol.specs.Rules as R
 use Rattle.protocol.specs.System.{System}
@@ -79,7 +78,7 @@ module _ (rs : List Record) (L : Laws (planOf rs)) (D : System) (O : R.OneDevice
     with-bid : M.bidWith rs m x v ≡ true
     unfolding M.bidWith M.isFor
     with-bid =
-        let b : x .bid ≡ true = s .bid ∙ ap G.isSome (permit-bid (planOf rs) L D O I t) in
+        let b : x .bid ≡ true = s .bid ∙ ap isSome (permit-bid (planOf rs) L D O I t) in
         let f : M.missing rs m (x .held) ≡ some v = ap (M.missing rs m) (s .held) ∙ missing-same rs (few rs L) (watched rs L) m (D .moduleAt m .held) ∙ I .modules m .bid-lowest v (permit-bid (planOf rs) L D O I t) in
         rw (b, f) (eqb-self v)
 

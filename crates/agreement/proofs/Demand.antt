@@ -34,7 +34,8 @@ use Rattle.permits.specs.Module as M
 use Rattle.permits.specs.Supervisor as S
 use Rattle.turn_laws.proofs.Laws.{turn-laws}
 use Rattle.turn_laws.proofs.Words.{words}
-use Rattle.protocol.specs.Generic.{isSome, Picked, pick, update}
+use Rattle.bits.specs.Bit.{isSome}
+use Rattle.protocol.specs.Generic.{Picked, pick, update}
 use Rattle.protocol.specs.Plan.{Plan, Laws}
 use Rattle.protocol.specs.Rules as R
 use Rattle.protocol.specs.System as P

@@ -10,7 +10,7 @@ use lib.ListN.{length}
 use lib.Dec.{T, eqb, ltb}
 use lib.Ieee.Fits.{and-i}
 use borrow.Author.Tests.{lt-ltb, eq-eqb, eqb-true}
-use Rattle.bits.specs.Bit.{bit, allBelow}
+use Rattle.bits.specs.Bit.{bit, allBelow, isSome}
 use denote.Floats.{is-true, passes as holds}
 use Rattle.bits.proofs.Laws.{all-of}
 use Rattle.records.specs.declared.Record.{Record}
@@ -24,7 +24,6 @@ use Rattle.permits.specs.declared.Holder.the-variants.{Home, Out}
 use Rattle.permits.specs.Names.{neighbours?}
 use Rattle.permits.specs.Module as M
 use Rattle.permits.specs.Supervisor as S
-use Rattle.protocol.specs.Generic as G
 use Rattle.protocol.specs.Plan.{Plan, Laws}
 use Rattle.protocol.specs.Rules as R
 use Rattle.protocol.specs.System.{System}
@@ -38,7 +37,7 @@ pub record SameModule (x : Module) (y : R.ModuleState) : Type 0 where
   pub own : x .own ≡ y .own
   pub held : x .held ≡ y .held
   pub received : x .received ≡ y .received
-  pub bid : x .bid ≡ G.isSome (y .outstanding)
+  pub bid : x .bid ≡ isSome (y .outstanding)
 
 unfoldable pub holderOf : Holder → Option ℕ
 holderOf Home = none
@@ -74,10 +73,9 @@ module _ (rs : List Record) (L : Laws (planOf rs)) where
         (is-true _ (all-of (λ w. not (bit (neighbours rs m) w) || bit (D .moduleAt m .held) w) v (λ w k. holds _ (implies (bit (neighbours rs m) w) (bit (D .moduleAt m .held) w)
         (λ n. I .modules m .lowest v w h k (sym (neighbour-bit rs few watched m w) ∙ n))))))))))
 
-    missing-some : (m : ℕ) (o : Option ℕ) → D .moduleAt m .outstanding ≡ o → G.isSome o ≡ true → M.isSome (M.missing rs m (D .moduleAt m .held)) ≡ true
-    unfolding M.isSome
+    missing-some : (m : ℕ) (o : Option ℕ) → D .moduleAt m .outstanding ≡ o → isSome o ≡ true → isSome (M.missing rs m (D .moduleAt m .held)) ≡ true
     missing-some m none e h = absurd (false≢true h)
-    missing-some m (some v) e h = ap M.isSome (missing-same rs few watched m (D .moduleAt m .held) ∙ I .modules m .bid-lowest v e)
+    missing-some m (some v) e h = ap isSome (missing-same rs few watched m (D .moduleAt m .held) ∙ I .modules m .bid-lowest v e)
 
     pub module-fits : (m : ℕ) (x : Module) → m < modulesOf rs → SameModule x (D .moduleAt m) → M.moduleFits rs m x ≡ true
     unfolding M.moduleFits
@@ -94,8 +92,8 @@ module _ (rs : List Record) (L : Laws (planOf rs)) where
         empty : (not (eqb (x .held) 0) || eqb (x .received) 0) ≡ true
         empty = implies (eqb (x .held) 0) (eqb (x .received) 0) (λ h. eq-eqb (x .received) 0 (s .received ∙ I .modules m .none-received (sym (s .held) ∙ eqb-true (x .held) 0 h)))
 
-        bids : (not (x .bid) || M.isSome (M.missing rs m (x .held))) ≡ true
-        bids = implies (x .bid) _ (λ b. ap (λ (h : ℕ). M.isSome (M.missing rs m h)) (s .held) ∙ missing-some m (D .moduleAt m .outstanding) refl (sym (s .bid) ∙ b))
+        bids : (not (x .bid) || isSome (M.missing rs m (x .held))) ≡ true
+        bids = implies (x .bid) _ (λ b. ap (λ (h : ℕ). isSome (M.missing rs m h)) (s .held) ∙ missing-some m (D .moduleAt m .outstanding) refl (sym (s .bid) ∙ b))
 
     pub both-named : (m v : ℕ) → R.neighbour (planOf rs) m v ≡ true → neighbours? rs m v ≡ true
     both-named m v n =

@@ -1,4 +1,3 @@
-pub mod Least
 pub mod Names
 pub mod Bytes
 pub mod Device

@@ -8,8 +8,10 @@ use native.Mathlib.Omega.{arith}
 use lib.Dec.{eqb, ltb}
 use lib.Pow.{pow-pos}
 use borrow.Author.Tests.{lt-ltb, ltb-true, ltb-false, eq-eqb, ne-eqb}
-use Rattle.bits.specs.Bit.{bit, least, orElse, someBelow, maskOf}
+use Rattle.bits.specs.Bit.{bit, least, isSome, someBelow}
 use Rattle.bits.proofs.Laws.{bit-ext, bit-none}
+use Rattle.bits.proofs.Lowest.{least-none, least-some, least-same, least-more, some-least}
+use Rattle.bits.proofs.Mask.{mask-bit, mask-small}
 use Rattle.records.specs.declared.Record.{Record}
 use Rattle.rules.specs.LookUp.{modulesOf, supervisorsOf, eventsOf, ownerOf}
 use Rattle.plan.specs.Plan.{inAlphabet, neighbour, neighbours}
@@ -21,12 +23,9 @@ use Rattle.messages.specs.declared.Message.{Message}
 use Rattle.messages.specs.declared.Message.the-variants.{Bid, Permit, Release}
 use Rattle.permits.specs.declared.Module.{Module}
 use Rattle.permits.specs.Module as M
-use Rattle.protocol.specs.Generic as G
 use Rattle.protocol.specs.Plan.{Plan}
 use Rattle.protocol.specs.Rules as R
-use Rattle.protocol.proofs.Tools.{least-none, least-some}
 use Rattle.agreement.specs.PlanOf.{planOf}
-use Rattle.agreement.proofs.Least.{least-same, least-more, some-least, mask-bit, mask-small}
 
 -- a rule's message as a message of the calls
 unfoldable pub eventByte : Option ℕ → ℕ
@@ -44,29 +43,10 @@ choiceOf R.takesTurn = M.takesTurn
 choiceOf R.waits = M.waits
 choiceOf (R.bidsTo v) = M.bidsTo v
 
--- the two lowest numbers are one
-pub lowest-is : (p : ℕ → Bool) (n : ℕ) → G.least p n ≡ least p n
-unfolding G.least G.orThis least orElse
-lowest-is p zero = refl
-lowest-is p (suc n) = go (lowest-is p n) (least p n) (p n)
-  where
-    go : G.least p n ≡ least p n → (o : Option ℕ) (b : Bool) → G.orThis (G.least p n) (p n) n ≡ orElse (least p n) (p n) n
-    go e o b = ap (λ (x : Option ℕ). G.orThis x (p n) n) e ∙ both (least p n) (p n)
-      where
-        both : (o : Option ℕ) (b : Bool) → G.orThis o b n ≡ orElse o b n
-        both (some i) b = refl
-        both none true = refl
-        both none false = refl
-
-some-is : (o : Option ℕ) → M.isSome o ≡ G.isSome o
-unfolding M.isSome
-some-is none = refl
-some-is (some v) = refl
-
 module _ (rs : List Record) (few : supervisorsOf rs ≤ 32) (watched : (v e : ℕ) → inAlphabet rs v e ≡ true → v < supervisorsOf rs) where
   pub neighbour-same : (m v : ℕ) → neighbour rs m v ≡ R.neighbour (planOf rs) m v
   unfolding R.neighbour planOf
-  neighbour-same m v = some-least (λ e. eqb (ownerOf rs e) m && inAlphabet rs v e) (eventsOf rs) ∙ ap G.isSome (sym (lowest-is (λ e. eqb (ownerOf rs e) m && inAlphabet rs v e) (eventsOf rs)))
+  neighbour-same m v = some-least (λ e. eqb (ownerOf rs e) m && inAlphabet rs v e) (eventsOf rs)
 
   -- a neighbour is a supervisor of the plan
   below : (m v : ℕ) → neighbour rs m v ≡ true → v < supervisorsOf rs
@@ -107,7 +87,7 @@ module _ (rs : List Record) (few : supervisorsOf rs ≤ 32) (watched : (v e : �
       least-same (λ v. bit (neighbours rs m) v && not (bit h v)) (R.lacks (planOf rs) m h) 32 (λ v l. same v)
       ∙ ap (least (R.lacks (planOf rs) m h)) (let e : 32 ≡ (32 - supervisorsOf rs) + supervisorsOf rs = omega arith in e)
       ∙ least-more (R.lacks (planOf rs) m h) (supervisorsOf rs) (32 - supervisorsOf rs) above
-      ∙ sym (lowest-is (R.lacks (planOf rs) m h) (supervisorsOf rs)) ∙ counted
+      ∙ counted
     where
       same : (v : ℕ) → (bit (neighbours rs m) v && not (bit h v)) ≡ R.lacks (planOf rs) m h v
       same v = unfold R.lacks in (ap (λ (b : Bool). b && not (bit h v)) (neighbour-bit m v))
@@ -115,38 +95,38 @@ module _ (rs : List Record) (few : supervisorsOf rs ≤ 32) (watched : (v e : �
       above : (v : ℕ) → supervisorsOf rs ≤ v → R.lacks (planOf rs) m h v ≡ false
       above v l = unfold R.lacks in (ap (λ (b : Bool). b && not (bit h v)) (neighbour-none m v l))
 
-      counted : G.least (R.lacks (planOf rs) m h) (supervisorsOf rs) ≡ G.least (R.lacks (planOf rs) m h) (planOf rs .supervisors)
+      counted : least (R.lacks (planOf rs) m h) (supervisorsOf rs) ≡ least (R.lacks (planOf rs) m h) (planOf rs .supervisors)
       counted = unfold planOf in refl
 
   -- a module has neighbours where its mask is not 0
   pub has-same : (m : ℕ) → not (eqb (neighbours rs m) 0) ≡ R.hasNeighbour (planOf rs) m
   unfolding R.hasNeighbour
-  has-same m = go (G.least (R.neighbour (planOf rs) m) (supervisorsOf rs)) refl ∙ counted
+  has-same m = go (least (R.neighbour (planOf rs) m) (supervisorsOf rs)) refl ∙ counted
     where
-      counted : G.isSome (G.least (R.neighbour (planOf rs) m) (supervisorsOf rs)) ≡ G.isSome (G.least (R.neighbour (planOf rs) m) (planOf rs .supervisors))
+      counted : isSome (least (R.neighbour (planOf rs) m) (supervisorsOf rs)) ≡ isSome (least (R.neighbour (planOf rs) m) (planOf rs .supervisors))
       counted = unfold planOf in refl
 
-      empty : G.least (R.neighbour (planOf rs) m) (supervisorsOf rs) ≡ none → neighbours rs m ≡ 0
+      empty : least (R.neighbour (planOf rs) m) (supervisorsOf rs) ≡ none → neighbours rs m ≡ 0
       empty e =
           bit-ext 32 (neighbours rs m) 0 (mask-small (λ w. ltb w (supervisorsOf rs) && neighbour rs m w) 32 32 (omega arith)) (pow-pos 32)
           (λ v l. neighbour-bit m v ∙ each v (ltb v (supervisorsOf rs)) refl e ∙ sym (bit-none v))
         where
-          each : (v : ℕ) (b : Bool) → ltb v (supervisorsOf rs) ≡ b → G.least (R.neighbour (planOf rs) m) (supervisorsOf rs) ≡ none → R.neighbour (planOf rs) m v ≡ false
+          each : (v : ℕ) (b : Bool) → ltb v (supervisorsOf rs) ≡ b → least (R.neighbour (planOf rs) m) (supervisorsOf rs) ≡ none → R.neighbour (planOf rs) m v ≡ false
           each v true q e = least-none (R.neighbour (planOf rs) m) (supervisorsOf rs) e v (ltb-true v (supervisorsOf rs) q)
           each v false q e = neighbour-none m v (ltb-false v (supervisorsOf rs) q)
 
-      full : (v : ℕ) → G.least (R.neighbour (planOf rs) m) (supervisorsOf rs) ≡ some v → neighbours rs m ≡ 0 → ⊥
+      full : (v : ℕ) → least (R.neighbour (planOf rs) m) (supervisorsOf rs) ≡ some v → neighbours rs m ≡ 0 → ⊥
       full v e z =
           let l = least-some (R.neighbour (planOf rs) m) (supervisorsOf rs) v e in
           let t : true ≡ false = sym (l .passes) ∙ sym (neighbour-bit m v) ∙ ap (λ (k : ℕ). bit k v) z ∙ bit-none v in
           true≢false t
 
-      go : (o : Option ℕ) → G.least (R.neighbour (planOf rs) m) (supervisorsOf rs) ≡ o → not (eqb (neighbours rs m) 0) ≡ G.isSome (G.least (R.neighbour (planOf rs) m) (supervisorsOf rs))
-      go none e = ap not (eq-eqb (neighbours rs m) 0 (empty e)) ∙ sym (ap G.isSome e)
-      go (some v) e = ap not (ne-eqb (neighbours rs m) 0 (full v e)) ∙ sym (ap G.isSome e)
+      go : (o : Option ℕ) → least (R.neighbour (planOf rs) m) (supervisorsOf rs) ≡ o → not (eqb (neighbours rs m) 0) ≡ isSome (least (R.neighbour (planOf rs) m) (supervisorsOf rs))
+      go none e = ap not (eq-eqb (neighbours rs m) 0 (empty e)) ∙ sym (ap isSome e)
+      go (some v) e = ap not (ne-eqb (neighbours rs m) 0 (full v e)) ∙ sym (ap isSome e)
 
   -- the choice of a module step
-  pub choice-same : (m : ℕ) (x : Module) (y : R.ModuleState) → x .own ≡ y .own → x .held ≡ y .held → x .bid ≡ G.isSome (y .outstanding)
+  pub choice-same : (m : ℕ) (x : Module) (y : R.ModuleState) → x .own ≡ y .own → x .held ≡ y .held → x .bid ≡ isSome (y .outstanding)
       → M.choice rs m x ≡ choiceOf (R.choice (planOf rs) m y)
   unfolding M.choice R.choice
   choice-same m x y o h b =
@@ -159,7 +139,7 @@ module _ (rs : List Record) (few : supervisorsOf rs ≤ 32) (watched : (v e : �
       args : {a a′ : Option ℕ} {b b′ c c′ d d′ e e′ : Bool} → a ≡ a′ → b ≡ b′ → c ≡ c′ → d ≡ d′ → e ≡ e′ → M.choiceOn a b c d e ≡ M.choiceOn a′ b′ c′ d′ e′
       args p q r s t = λ i. M.choiceOn (p i) (q i) (r i) (s i) (t i)
 
-      chosen : (a : Option ℕ) (n w : Bool) (o : Option ℕ) (h : Bool) → M.choiceOn a n w (G.isSome o) h ≡ choiceOf (R.choiceOn a n w o h)
+      chosen : (a : Option ℕ) (n w : Bool) (o : Option ℕ) (h : Bool) → M.choiceOn a n w (isSome o) h ≡ choiceOf (R.choiceOn a n w o h)
       chosen none true w o h = unfold M.choiceOn R.choiceOn choiceOf in refl
       chosen none false true o h = unfold M.choiceOn R.choiceOn choiceOf in refl
       chosen none false false o h = unfold M.choiceOn R.choiceOn choiceOf in refl

@@ -29,12 +29,11 @@ use Rattle.permits.specs.declared.Holder.the-variants.{Home, Out}
 use Rattle.permits.specs.Names.{short, written}
 use Rattle.permits.specs.Module as M
 use Rattle.permits.specs.Supervisor as S
-use Rattle.protocol.specs.Generic as G
 use Rattle.protocol.specs.Plan.{Plan, Laws}
 use Rattle.protocol.specs.Rules as R
 use Rattle.agreement.specs.PlanOf.{planOf}
 use Rattle.agreement.specs.System.{pieces, sent, sentOut}
-use Rattle.agreement.proofs.Names.{messageOf, choiceOf, choice-same, releases-same, lowest-is}
+use Rattle.agreement.proofs.Names.{messageOf, choiceOf, choice-same, releases-same}
 use Rattle.agreement.proofs.Bytes.{Fours, pieces-of, length-fours}
 use Rattle.agreement.proofs.Fit.{SameModule, SameSupervisor, holderOf, few, watched}
 
@@ -173,8 +172,8 @@ module _ (rs : List Record) (v : ℕ) (x : Supervisor) (y : R.SupervisorState) (
       ∙ ap (Option·map (R.placeAfter (y .lastServed))) (ap₂ (λ (n l : ℕ). least (λ k. bit n (S.placeAfter l k)) 16) (s .noted) (s .last) ∙ same)
       ∙ (unfold R.firstNoted in refl)
     where
-      same : least (λ k. bit (y .noted) (S.placeAfter (y .lastServed) k)) 16 ≡ G.least (λ k. bit (y .noted) (R.placeAfter (y .lastServed) k)) 16
-      same = unfold S.placeAfter R.placeAfter in (sym (lowest-is (λ k. bit (y .noted) ((y .lastServed + suc k) % 16)) 16))
+      same : least (λ k. bit (y .noted) (S.placeAfter (y .lastServed) k)) 16 ≡ least (λ k. bit (y .noted) (R.placeAfter (y .lastServed) k)) 16
+      same = unfold S.placeAfter R.placeAfter in refl
 
   pub served-is : S.served x ≡ R.served y
   unfolding R.served S.servedOn R.servedOn holderOf

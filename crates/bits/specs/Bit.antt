@@ -32,6 +32,11 @@ unfoldable pub least : (ℕ → Bool) → ℕ → Option ℕ
 least p zero = none
 least p (suc n) = orElse (least p n) (p n) n
 
+-- a number is there
+abbrev pub isSome : Option ℕ → Bool
+isSome none = false
+isSome (some i) = true
+
 -- some number below n passes the test p
 unfoldable pub someBelow : (ℕ → Bool) → ℕ → Bool
 someBelow p zero = false

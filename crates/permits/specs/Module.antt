@@ -6,7 +6,7 @@ use mathlib.Core.Bool.{Bool, true, false, cond, not, _&&_, _||_}
 use lib.ListN.{length, replicate}
 use lib.Bits.{bitAnd, bitOr}
 use lib.Dec.{eqb, ltb}
-use Rattle.bits.specs.Bit.{bit, allBelow, least, putBit}
+use Rattle.bits.specs.Bit.{bit, allBelow, least, putBit, isSome}
 use Rattle.records.specs.declared.Record.{Record}
 use Rattle.reader.specs.Walk.{recordsOf}
 use Rattle.rules.specs.LookUp.{modulesOf, supervisorsOf}
@@ -38,10 +38,6 @@ use Rattle.permits.specs.Names.{named, short, written}
 -- the lowest neighbour whose permit is not held
 unfoldable pub missing : List Record → ℕ → ℕ → Option ℕ
 missing rs m held = least (λ v. bit (neighbours rs m) v && not (bit held v)) 32
-
-unfoldable pub isSome : Option ℕ → Bool
-isSome none = false
-isSome (some v) = true
 
 -- "held permits are the module's lowest neighbours"
 unfoldable pub heldFits : List Record → ℕ → ℕ → Bool

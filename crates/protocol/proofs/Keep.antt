@@ -14,7 +14,8 @@ use Rattle.protocol.specs.Generic.{update, isNumber}
 use Rattle.protocol.specs.Plan.{Plan, Laws}
 use Rattle.protocol.specs.Rules.{OneDevice, neighbour, Message, bid, permit, release, ModuleState, lacks, missing, bidsTo, afterBid, afterPermit, takePermit, withOwn, SupervisorState, afterSending, afterNoting, takeBid, applied, afterRelease, takeRelease}
 use Rattle.protocol.specs.System.{System, afterModuleStep, afterSupervisorStep, afterMessage, afterOwn}
-use Rattle.protocol.proofs.Tools.{clash, eqb-self, digit, digit-false, oneAt, oneAt-most, oneAt-some, update-each, Least, count, count-one, nil, cons, All-append, Inserted, inserted-count, inserted-all}
+use Rattle.bits.proofs.Lowest.{Lowest}
+use Rattle.protocol.proofs.Tools.{clash, eqb-self, digit, digit-false, oneAt, oneAt-most, oneAt-some, update-each, count, count-one, nil, cons, All-append, Inserted, inserted-count, inserted-all}
 use Rattle.protocol.proofs.Masks.{put-on, put-self, put-keep, put-cases, put-off, or-left, or-right, or-cases}
 use Rattle.protocol.proofs.Neighbours.{neighbour-below, neighbour-module, lacks-parts, lacks-not, missing-some, missing-neighbour}
 use Rattle.protocol.proofs.Invariant.{pair-module, pair-supervisor, pair-self, other-module, other-supervisor, bidOf, permitOf, releaseOf, PairLaw, ModuleLaw, SupervisorLaw, ReleaseNames, statesOf, Inv, owns-kept, Clear, carried-still, module-still, noted-neighbour}
@@ -216,7 +217,7 @@ module _ (P : Plan) (A : Laws P) (D : System) (O : OneDevice) (I : Inv P D O) {s
   permit-mask : k ≡ P .shown s (D .supervisorAt s .state)
   permit-mask = inserted-all t (I .carries) .0
 
-  permit-least : Least (lacks P m (D .moduleAt m .held)) (P .supervisors) s
+  permit-least : Lowest (lacks P m (D .moduleAt m .held)) (P .supervisors) s
   permit-least = missing-some P m (D .moduleAt m .held) s (I .modules m .bid-lowest s permit-bid)
 
   permit-bit : s < 64

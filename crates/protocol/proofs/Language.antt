@@ -8,8 +8,8 @@ use mathlib.Core.List.{List, [], _∷_, _++_, List·Memᴰ, List·Memᴰ·not-ni
 use mathlib.Core.Option.{Option, some, Option·getD}
 use lib.Dec.{eqb}
 use borrow.Author.Tests.{ne-eqb}
-use Rattle.bits.specs.Bit.{bit}
-use Rattle.protocol.specs.Generic.{update, isSome}
+use Rattle.bits.specs.Bit.{bit, isSome}
+use Rattle.protocol.specs.Generic.{update}
 use Rattle.protocol.specs.Plan.{Plan, Laws}
 use Rattle.protocol.specs.Rules.{stateAfter}
 use Rattle.protocol.specs.System.{Position, lead, Legal, none-left, next}

@@ -5,11 +5,11 @@ use mathlib.Core.Bool.{Bool, true, false, not, _&&_}
 use mathlib.Core.Option.{some}
 use lib.Dec.{eqb}
 use borrow.Author.Tests.{eqb-true, not-true, not-false}
-use Rattle.bits.specs.Bit.{bit}
-use Rattle.protocol.specs.Generic.{least}
+use Rattle.bits.specs.Bit.{bit, least}
 use Rattle.protocol.specs.Plan.{Plan, Laws}
 use Rattle.protocol.specs.Rules.{neighbour, lacks, missing}
-use Rattle.protocol.proofs.Tools.{and-true, and-intro, eqb-self, isSome-is, Least, least-some, least-find}
+use Rattle.bits.proofs.Lowest.{Lowest, least-some, least-find}
+use Rattle.protocol.proofs.Tools.{and-true, and-intro, eqb-self, isSome-is}
 
 pub neighbour-event : (P : Plan) (m s : ℕ) → neighbour P m s ≡ true → (e : ℕ) × (P .owner e ≡ m) × (P .alphabet s e ≡ true)
 unfolding neighbour
@@ -41,7 +41,7 @@ pub lacks-not : (P : Plan) (m h s : ℕ) → lacks P m h s ≡ false → neighbo
 unfolding lacks
 lacks-not P m h s e n = not-false (bit h s) (rw n at e)
 
-pub missing-some : (P : Plan) (m h s : ℕ) → missing P m h ≡ some s → Least (lacks P m h) (P .supervisors) s
+pub missing-some : (P : Plan) (m h s : ℕ) → missing P m h ≡ some s → Lowest (lacks P m h) (P .supervisors) s
 unfolding missing
 missing-some P m h s e = least-some (lacks P m h) (P .supervisors) s e
 

@@ -15,7 +15,8 @@ use Rattle.protocol.specs.Generic.{Picked, pick}
 use Rattle.protocol.specs.Plan.{Plan, Laws}
 use Rattle.protocol.specs.Rules.{OneDevice, neighbour, hasNeighbour, Message, bid, permit, release, ModuleState, lacks, missing, Choice, takesTurn, bidsTo, choiceOn, choice, afterTurn, afterBid, afterPermit, SupervisorState, placeAfter, firstNoted, servedOn, served, afterSending, afterNoting, afterRelease}
 use Rattle.protocol.specs.System.{System, moduleStep, supervisorStep, withModule, withSupervisor, afterModuleStep, afterSupervisorStep, afterMessage, afterDelivery, step, Accepts, Changes, of-module, of-supervisor, Progress, by-delivery, by-module-step, by-supervisor-step}
-use Rattle.protocol.proofs.Tools.{clash, either-way, digit-true, oneAt-is, update-same, Least, least-find, count, count-nil, Inserted, here, pick-inserted, inserted-all}
+use Rattle.bits.proofs.Lowest.{Lowest, least-find}
+use Rattle.protocol.proofs.Tools.{clash, either-way, digit-true, oneAt-is, update-same, count, count-nil, Inserted, here, pick-inserted, inserted-all}
 use Rattle.protocol.proofs.Neighbours.{neighbour-below, neighbour-module, lacks-parts, missing-some}
 use Rattle.protocol.proofs.Invariant.{bidOf, permitOf, releaseOf, Inv}
 use Rattle.protocol.proofs.Keep.{bid-new, bid-taken, bid-noted, permit-bid, permit-taken, release-holder, release-names, release-taken}
@@ -136,7 +137,7 @@ module _ (P : Plan) (A : Laws P) (D : System) (O : OneDevice) (I : Inv P D O) (e
     above : (b : ℕ) → missing P m (D .moduleAt m .held) ≡ some b → s < b
     above b e = go (decLt s b) (ℕ-discrete b s)
       where
-        l : Least (lacks P m (D .moduleAt m .held)) (P .supervisors) b
+        l : Lowest (lacks P m (D .moduleAt m .held)) (P .supervisors) b
         l = missing-some P m (D .moduleAt m .held) b e
 
         go : Dec (s < b) → Dec (b ≡ s) → s < b

@@ -10,7 +10,8 @@ use mathlib.Core.List.{List, [], _∷_, _++_}
 use mathlib.Core.Option.{Option, none, some}
 use lib.Dec.{eqb}
 use borrow.Author.Tests.{eq-eqb, ne-eqb, eqb-true}
-use Rattle.protocol.specs.Generic.{update, orThis, least, isSome, Picked, behind, pick}
+use Rattle.bits.specs.Bit.{least, isSome}
+use Rattle.protocol.specs.Generic.{update, Picked, behind, pick}
 
 -- ---- tests
 pub clash {ℓ} : {A : Type ℓ} {b : Bool} → b ≡ true → b ≡ false → A
@@ -92,57 +93,6 @@ module _ {A : Type 0} where
       go : Dec (i ≡ j) → Q j (update f i v j)
       go (yes p) = subst (λ (n : ℕ). Q n (update f i v n)) p (subst (λ (a : A). Q i a) (sym (update-same f i v)) h)
       go (no q) = subst (λ (a : A). Q j a) (sym (update-other f i v j q)) (k j q)
-
--- ---- the lowest number that passes a test
-pub record Least (p : ℕ → Bool) (n i : ℕ) : Type 0 where
-  pub below : i < n
-  pub passes : p i ≡ true
-  pub first : (j : ℕ) → j < i → p j ≡ false
-
-below-cases : (j n : ℕ) → j < suc n → (j < n) ⊎ (j ≡ n)
-below-cases j n h = go (ℕ-discrete j n)
-  where
-    go : Dec (j ≡ n) → (j < n) ⊎ (j ≡ n)
-    go (yes p) = inr p
-    go (no q) = inl (omega arith)
-
-orThis-none : (o : Option ℕ) (b : Bool) (n : ℕ) → orThis o b n ≡ none → (o ≡ none) × (b ≡ false)
-unfolding orThis
-orThis-none (some i) b n e = let z : _≡_ {A = ℕ} 0 1 = cc in absurd (omega arith)
-orThis-none none true n e = let z : _≡_ {A = ℕ} 0 1 = cc in absurd (omega arith)
-orThis-none none false n e = (refl, refl)
-
-orThis-some : (o : Option ℕ) (b : Bool) (n i : ℕ) → orThis o b n ≡ some i → (o ≡ some i) ⊎ ((o ≡ none) × (b ≡ true) × (i ≡ n))
-unfolding orThis
-orThis-some (some k) b n i e = inl e
-orThis-some none true n i e = inr (refl, refl, cc)
-orThis-some none false n i e = let z : _≡_ {A = ℕ} 0 1 = cc in absurd (omega arith)
-
-pub least-none : (p : ℕ → Bool) (n : ℕ) → least p n ≡ none → (j : ℕ) → j < n → p j ≡ false
-unfolding least
-least-none p zero e j h = absurd (not-suc-le-zero h)
-least-none p (suc n) e j h = go (least-none p n) (orThis-none (least p n) (p n) n e) (below-cases j n h)
-  where
-    go : (least p n ≡ none → (j : ℕ) → j < n → p j ≡ false) → (least p n ≡ none) × (p n ≡ false) → (j < n) ⊎ (j ≡ n) → p j ≡ false
-    go ih q (inl l) = ih (q .0) j l
-    go ih q (inr r) = rw r (q .1)
-
-pub least-some : (p : ℕ → Bool) (n i : ℕ) → least p n ≡ some i → Least p n i
-unfolding least
-least-some p zero i e = let z : _≡_ {A = ℕ} 0 1 = cc in absurd (omega arith)
-least-some p (suc n) i e = go (least-some p n i) (orThis-some (least p n) (p n) n i e)
-  where
-    go : (least p n ≡ some i → Least p n i) → (least p n ≡ some i) ⊎ ((least p n ≡ none) × (p n ≡ true) × (i ≡ n)) → Least p (suc n) i
-    go ih (inl q) = let l = ih q in record { below = omega arith; passes = l .passes; first = l .first }
-    go ih (inr q) = record { below = omega arith; passes = rw (q .2) (q .1); first = λ j h. least-none p n (q .0) j (omega arith) }
-
--- if one passes, the lowest is there
-pub least-find : (p : ℕ → Bool) (n j : ℕ) → j < n → p j ≡ true → (i : ℕ) × (least p n ≡ some i)
-least-find p n j h e = go (least p n) refl
-  where
-    go : (o : Option ℕ) → least p n ≡ o → (i : ℕ) × (least p n ≡ some i)
-    go none q = clash e (least-none p n q j h)
-    go (some i) q = (i, q)
 
 -- ---- weighted counts of a list
 module _ {A : Type 0} where

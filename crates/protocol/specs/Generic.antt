@@ -1,4 +1,4 @@
--- What the rules are written with: a function changed at one number, the lowest number that passes a test, a member taken out of a list.
+-- What the rules are written with: a function changed at one number, a member taken out of a list.
 use Prim.Native.Nat.{ℕ, zero, suc}
 use mathlib.Core.Bool.{Bool, true, false, cond}
 use mathlib.Core.List.{List, [], _∷_}
@@ -8,20 +8,6 @@ use lib.Dec.{eqb}
 -- f, but v at i
 unfoldable pub update : {A : Type 0} → (ℕ → A) → ℕ → A → ℕ → A
 update f i v j = cond (eqb i j) v (f j)
-
--- the lowest number below n that passes the test p
-unfoldable pub orThis : Option ℕ → Bool → ℕ → Option ℕ
-orThis (some i) b n = some i
-orThis none true n = some n
-orThis none false n = none
-
-unfoldable pub least : (ℕ → Bool) → ℕ → Option ℕ
-least p zero = none
-least p (suc n) = orThis (least p n) (p n) n
-
-abbrev pub isSome : Option ℕ → Bool
-isSome none = false
-isSome (some i) = true
 
 -- an optional number is there and is n
 unfoldable pub isNumber : Option ℕ → ℕ → Bool

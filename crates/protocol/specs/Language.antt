@@ -5,8 +5,7 @@ use mathlib.Core.Bool.{Bool, true, false, cond}
 use mathlib.Core.List.{List, [], _∷_, _++_, List·Memᴰ}
 use mathlib.Core.Option.{Option, none, some, Option·getD}
 use lib.Dec.{eqb}
-use Rattle.bits.specs.Bit.{bit}
-use Rattle.protocol.specs.Generic.{isSome}
+use Rattle.bits.specs.Bit.{bit, isSome}
 use Rattle.protocol.specs.Plan.{Plan}
 use Rattle.protocol.specs.System.{Position}
 

@@ -5,13 +5,13 @@ use mathlib.Core.List.{List, [], _∷_, _++_}
 use mathlib.Core.Option.{Option, none, some, Option·getD, Option·map}
 use lib.Dec.{eqb}
 use lib.Bits.{bitOr}
-use Rattle.bits.specs.Bit.{bit, putBit}
+use Rattle.bits.specs.Bit.{bit, putBit, least, isSome}
 use Rattle.water.specs.declared.Flow.{Flow}
 use Rattle.modules.specs.declared.Own.{Own}
 use Rattle.modules.specs.declared.Turn.{Turn}
 use Rattle.modules.specs.declared.Turn.the-variants.{Event, Stray, Nothing}
 use Rattle.modules.specs.declared.Turned.{Turned}
-use Rattle.protocol.specs.Generic.{update, least, isSome, isNumber}
+use Rattle.protocol.specs.Generic.{update, isNumber}
 use Rattle.protocol.specs.Plan.{Plan}
 
 -- ---- one device: the modules' own parts, the supervisors' states

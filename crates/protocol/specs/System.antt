@@ -7,7 +7,7 @@ use mathlib.Core.Bool.{true, false, cond}
 use mathlib.Core.List.{List, [], _∷_, _++_}
 use mathlib.Core.Option.{Option, none, some, Option·getD}
 use lib.Dec.{ltb}
-use Rattle.bits.specs.Bit.{bit}
+use Rattle.bits.specs.Bit.{bit, isSome}
 use Rattle.water.specs.declared.Flow.{Flow}
 use Rattle.modules.specs.declared.Own.{Own}
 use Rattle.modules.specs.declared.Turn.{Turn}
@@ -15,7 +15,7 @@ use Rattle.modules.specs.declared.Turn.the-variants.{Event, Stray, Nothing}
 use Rattle.modules.specs.declared.Turned.{Turned}
 use Rattle.modules.specs.declared.Reply.{Reply}
 use Rattle.modules.specs.declared.Replied.{Replied}
-use Rattle.protocol.specs.Generic.{update, isSome, Picked, pick}
+use Rattle.protocol.specs.Generic.{update, Picked, pick}
 use Rattle.protocol.specs.Plan.{Plan}
 use Rattle.protocol.specs.Rules.{OneDevice, DeviceAct, deviceTurns, deviceResponds, deviceTicks, deviceTurn, deviceStep, stateAfter, Message, bid, permit, release, ModuleState, Choice, takesTurn, waits, bidsTo, choice, afterTurn, releases, afterBid, takePermit, withOwn, SupervisorState, served, afterSending, takeBid, takeRelease}
 

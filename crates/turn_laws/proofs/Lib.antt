@@ -6,7 +6,6 @@ pub mod Queue
 pub mod Procedure
 pub mod Respond
 pub mod Tick
-pub mod Least
 pub mod Turn
 pub mod Own
 pub mod Laws

@@ -26,7 +26,7 @@ use Rattle.modules.specs.Turn.{moved, byResponse, byCommand, enabled, byChoice,
 use Rattle.modules.specs.Fits.{queueFits, ownFits}
 use Rattle.turn_laws.specs.Laws.{fitsAt, EightPlaces, TurnOk, Command}
 use Rattle.turn_laws.proofs.Found.{module-move}
-use Rattle.turn_laws.proofs.Least.{Lowest, some-least, same-least}
+use Rattle.bits.proofs.Lowest.{Lowest, least-some, least-same}
 use Rattle.turn_laws.proofs.Queue.{rest-fits, head-own, in-places, eight}
 use Rattle.turn_laws.proofs.Procedure.{Parts, parts, whole, arrives}
 
@@ -53,7 +53,7 @@ module _ (rs : List Record) (m : ℕ) (own : Own) where
       commands e h r l none g = nothing
 
       chooses : queueOf own ≡ [] → own .procedure .running ≡ false → (o : Option ℕ) → least (enabled rs m k (own .state)) (eventsOf rs) ≡ o → P (byChoice rs m own o)
-      chooses h r (some e) g = commands e h r (some-least (enabled rs m k (own .state)) (eventsOf rs) e g) (moduleMove rs m (own .state) e) refl
+      chooses h r (some e) g = commands e h r (least-some (enabled rs m k (own .state)) (eventsOf rs) e g) (moduleMove rs m (own .state) e) refl
       chooses h r none g = nothing
 
       rests : queueOf own ≡ [] → (b : Bool) → own .procedure .running ≡ b
@@ -92,7 +92,7 @@ module _ (rs : List Record) (m : ℕ) (own : Own) where
         queue (e ∷ q) = refl
         queue [] =
             ap (λ (o : Option ℕ). cond (own .procedure .running) (record { turn = Nothing; own = own }) (byChoice rs m own o))
-            (same-least (enabled rs m k (own .state)) (enabled rs m k′ (own .state)) (eventsOf rs) (λ e. able e (moduleMove rs m (own .state) e) refl))
+            (least-same (enabled rs m k (own .state)) (enabled rs m k′ (own .state)) (eventsOf rs) (λ e l. able e (moduleMove rs m (own .state) e) refl))
 
     pub turn-fits : (k : ℕ) → T (ownFits rs m own) → T (ownFits rs m (turnOf rs m k own .own))
     unfolding queueFits

@@ -1,4 +1,4 @@
--- Tests over numbers: the lowest that passes, whether one passes, and the mask of those that pass.
+-- The mask of the numbers that pass a test.
 use mathlib.Core.Path.{_≡_, refl, sym, ap, ap₂, _∙_}
 use mathlib.Core.Logic.{_⊎_, inl, inr}
 use mathlib.Core.Bool.{Bool, true, false, cond, not, _&&_, _||_, and-false}
@@ -10,39 +10,8 @@ use lib.Bits.{bitOr, or-lt}
 use lib.Pow.{pow-lt, pow-mono, pow-pos}
 use lib.Dec.{eqb, ltb}
 use borrow.Author.Tests.{lt-ltb, le-ltb, ltb-true, ltb-false, eqb-true, eqb-false, eq-eqb, ne-eqb}
-use Rattle.bits.specs.Bit.{bit, least, orElse, someBelow, maskOf}
+use Rattle.bits.specs.Bit.{bit, maskOf}
 use Rattle.bits.proofs.Laws.{bit-or, bit-pow, bit-none}
-use Rattle.protocol.specs.Generic.{isSome}
-
--- tests that agree below n have the same lowest
-pub least-same : (p q : ℕ → Bool) (n : ℕ) → ((j : ℕ) → j < n → p j ≡ q j) → least p n ≡ least q n
-unfolding least
-least-same p q zero h = refl
-least-same p q (suc n) h = ap₂ (λ (o : Option ℕ) (b : Bool). orElse o b n) (least-same p q n (λ j l. h j (omega arith))) (h n (omega arith))
-
--- a test that fails from n on has the same lowest below n + k
-pub least-more : (p : ℕ → Bool) (n k : ℕ) → ((j : ℕ) → n ≤ j → p j ≡ false) → least p (k + n) ≡ least p n
-least-more p n zero h = ap (least p) (let e : 0 + n ≡ n = omega arith in e)
-least-more p n (suc k) h = ap (least p) (let e : suc k + n ≡ suc (k + n) = omega arith in e) ∙ one ∙ least-more p n k h
-  where
-    over : (o : Option ℕ) → orElse o false (k + n) ≡ o
-    over none = unfold orElse in refl
-    over (some i) = unfold orElse in refl
-
-    one : least p (suc (k + n)) ≡ least p (k + n)
-    one = unfold least in (ap (λ (b : Bool). orElse (least p (k + n)) b (k + n)) (h (k + n) (omega arith)) ∙ over (least p (k + n)))
-
--- some number passes where there is a lowest
-pub some-least : (p : ℕ → Bool) (n : ℕ) → someBelow p n ≡ isSome (least p n)
-unfolding someBelow least
-some-least p zero = refl
-some-least p (suc n) = ap (λ (b : Bool). p n || b) (some-least p n) ∙ go (p n) (least p n)
-  where
-    go : (b : Bool) (o : Option ℕ) → (b || isSome o) ≡ isSome (orElse o b n)
-    go true none = unfold orElse in refl
-    go true (some i) = unfold orElse in refl
-    go false none = unfold orElse in refl
-    go false (some i) = unfold orElse in refl
 
 -- the bits of the mask are the numbers below n that pass
 pub mask-bit : (p : ℕ → Bool) (n v : ℕ) → bit (maskOf p n) v ≡ (ltb v n && p v)
