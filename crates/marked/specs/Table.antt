@@ -3,7 +3,7 @@
 use Prim.Native.Nat.{ℕ}
 use mathlib.Core.Path.{_≡_, refl}
 use mathlib.Core.List.{List, [], _∷_}
-use mathlib.Core.Bool.{true, false}
+use mathlib.Core.Bool.{false}
 use lib.ListN.{length, take, replicate}
 use lib.Ieee.{Float, binary64, round, add, ofBits}
 use Rattle.bits.specs.Bit.{bit, allBelow, putBit, least, orElse, someBelow, maskOf}
@@ -22,11 +22,10 @@ use Rattle.rules.specs.declared.Verdict.the-variants.{Accepted, Refused}
 use Rattle.plan.specs.Plan.{field4, target, listed, stateBy}
 use Rattle.water.specs.Water.{flowOk, added}
 use Rattle.water.specs.declared.Flow.the-variants.{Litres}
-use Rattle.modules.specs.Procedure.{idle, calledBy, arriveAt, performed, tickOf, respondOf}
+use Rattle.modules.specs.Procedure.{calledBy, arriveAt, performed, tickOf, respondOf}
 use Rattle.modules.specs.Turn.{byResponse, byCommand, enabled, byChoice, turnOn, turnOf, queuedAny, wish, startOwn}
 use Rattle.modules.specs.Fits.{every, queueFits, idleFits, stepFits, procedureFits, ownFits, ownEmpty}
-use Rattle.modules.specs.declared.Own.{Own}
-use Rattle.modules.specs.declared.Turn.the-variants.{Event, Stray, Nothing}
+use Rattle.modules.specs.declared.Turn.the-variants.{Event, Nothing}
 use Rattle.modules.specs.declared.Reply.the-variants.{Taken, Refused as Denied}
 use Rattle.modules.specs.declared.Called.the-variants.{Done}
 use Rattle.device.specs.Device.{listFrom, deviceFits, shownBy, ledBy, turned, afterTurn, turnIn, turnBy, turnCall, replyIn, replyBy, respondCall, startBy, startCall, ownAt, stateAt, emptyOwn}
@@ -38,7 +37,7 @@ use Rattle.permits.specs.Module as M
 use Rattle.permits.specs.Supervisor as S
 use Rattle.permits.specs.declared.Module.{Module}
 use Rattle.permits.specs.declared.Supervisor.{Supervisor}
-use Rattle.permits.specs.declared.Stepped.the-variants.{Bids, Turned as Turns, Waits}
+use Rattle.permits.specs.declared.Stepped.the-variants.{Bids, Turned as Turns}
 use Rattle.permits.specs.declared.Served.the-variants.{Sends}
 use Rattle.marked.specs.Sheet.{planP}
 

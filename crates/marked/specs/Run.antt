@@ -1,0 +1,90 @@
+-- A longer run of P on many devices, by computation: a bid overtakes the release that its module sent before it, so that the supervisor notes
+-- the module that it takes for the holder; the bid counts all the same, after the other module's.
+use mathlib.Core.Path.{_≡_, refl}
+use mathlib.Core.List.{List, [], _∷_, _++_}
+use lib.Ieee.{round, ofBits}
+use Rattle.bits.specs.Bit.{bit, allBelow, putBit, least, orElse, someBelow, maskOf}
+use Rattle.words.specs.Word.{wordAt, wordBytes}
+use Rattle.litres.specs.Eighths.{isEighths, count, eighths}
+use Rattle.records.specs.Kinds.{bodyLen, kindOf}
+use Rattle.records.specs.Range.{inRange, operandInRange}
+use Rattle.records.specs.Key.{keyOf, sameKey, precedes}
+use Rattle.reader.specs.Read.{recordOf}
+use Rattle.reader.specs.Walk.{walkOf, recordsIn}
+use Rattle.reader.specs.Find.{findIn}
+use Rattle.rules.specs.LookUp.{field1, field2, field3, wordField, found, fieldOf, stepsOf}
+use Rattle.rules.specs.Rules.{indexRuns, inOrder, namesDeclared, keepsRules, allDeclared}
+use Rattle.rules.specs.Check.{faultOf, checkWalk, verdictOf}
+use Rattle.plan.specs.Plan.{field4, target, listed, stateBy}
+use Rattle.modules.specs.Procedure.{calledBy, arriveAt, performed, tickOf, respondOf}
+use Rattle.water.specs.Water.{flowOk, added}
+use Rattle.modules.specs.Turn.{byResponse, byCommand, enabled, byChoice, turnOn, turnOf, queuedAny, wish, startOwn}
+use Rattle.modules.specs.Fits.{every, queueFits, idleFits, stepFits, procedureFits, ownFits, ownEmpty}
+use Rattle.device.specs.Device.{listFrom, deviceFits, shownBy, ledBy, turned, afterTurn, turnIn, turnBy, replyIn, replyBy, startBy, startCall}
+use Rattle.messages.specs.Message.{messageBytes, parse}
+use Rattle.permits.specs.Names.{named}
+use Rattle.permits.specs.Module as M
+use Rattle.permits.specs.Supervisor as S
+use Rattle.permits.specs.declared.Holder.the-variants.{Home, Out}
+use Rattle.protocol.specs.Generic.{update, behind, pick}
+use Rattle.agreement.specs.System.{System, Act, moduleStep, supervisorStep, deliver, respond, start, step, run, pieces, sent, sentOut, delivered, deliveredAt}
+use Rattle.agreement.specs.Compared as C
+use Rattle.marked.specs.Sheet.{planP}
+use Rattle.marked.specs.Table.{buffer}
+
+-- module 0 bids, is noted, gets the permit with event 0 disabled, takes its turn with nothing to fire, releases it, bids again; this bid
+-- arrives first
+abbrev pub overtaking : List Act
+overtaking =
+    moduleStep 0 buffer ∷ deliver 0 ∷ supervisorStep 0 buffer ∷ deliver 0 ∷ moduleStep 0 buffer ∷ moduleStep 0 buffer ∷ deliver 1 ∷ []
+
+-- module 1 bids and is noted before the release arrives; it is served first, since module 0 was served last, and fires event 2
+abbrev pub other : List Act
+other = moduleStep 1 buffer ∷ deliver 1 ∷ deliver 0 ∷ supervisorStep 0 buffer ∷ deliver 0 ∷ moduleStep 1 buffer ∷ deliver 0 ∷ []
+
+-- the bid that overtook is served, and event 0, disabled no more, fires; a response comes in for module 1 meanwhile
+abbrev pub served : List Act
+served = supervisorStep 0 buffer ∷ deliver 0 ∷ respond 1 3 ∷ moduleStep 0 buffer ∷ deliver 0 ∷ []
+
+-- module 1 bids for its response and fires event 3; its release is still under way
+abbrev pub response : List Act
+response = moduleStep 1 buffer ∷ deliver 0 ∷ supervisorStep 0 buffer ∷ deliver 0 ∷ moduleStep 1 buffer ∷ []
+
+unfoldable pub s1 : System
+s1 = run planP (start planP) overtaking
+
+unfoldable pub s2 : System
+s2 = run planP s1 other
+
+unfoldable pub s3 : System
+s3 = run planP s2 served
+
+unfoldable pub s4 : System
+s4 = run planP s3 response
+
+pub record Overtaken : Type 0 where
+  pub noted-while-out : s1 .supervisorAt 0 ≡ record { state = 0; noted = 1; holder = Out 0; last = 0 }
+  pub release-behind : s1 .underWay ≡ (0x03 ∷ 0 ∷ 0 ∷ 0xff ∷ []) ∷ []
+  pub other-first : s2 .supervisorAt 0 ≡ record { state = 1; noted = 1; holder = Home; last = 1 }
+  pub then-served : s3 .supervisorAt 0 ≡ record { state = 1; noted = 0; holder = Home; last = 0 }
+  pub response-out : s4 .supervisorAt 0 ≡ record { state = 1; noted = 0; holder = Out 1; last = 1 }
+  pub last-release : s4 .underWay ≡ (0x03 ∷ 1 ∷ 0 ∷ 3 ∷ []) ∷ []
+  -- the turns taken, and what the one device answers to them
+  pub events : C.recordOf (C.seen planP (start planP) (overtaking ++ other ++ served ++ response)) ≡ 2 ∷ 0 ∷ 3 ∷ []
+  pub fed : C.fed planP (start planP) (overtaking ++ other ++ served ++ response)
+      ≡ C.deviceTurn 0 ∷ C.deviceTurn 1 ∷ C.deviceRespond 1 3 ∷ C.deviceTurn 0 ∷ C.deviceTurn 1 ∷ []
+  pub one-device : C.recordOf (C.deviceSeen planP (startCall planP .device) (C.fed planP (start planP) (overtaking ++ other ++ served ++ response))) ≡ 2 ∷ 0 ∷ 3 ∷ []
+
+pub overtaken : Overtaken
+unfolding planP s1 s2 s3 s4 bit allBelow putBit least orElse someBelow maskOf wordAt wordBytes isEighths count eighths round ofBits bodyLen kindOf inRange operandInRange keyOf sameKey precedes recordOf walkOf recordsIn findIn field1 field2 field3 wordField found fieldOf stepsOf indexRuns inOrder namesDeclared keepsRules allDeclared faultOf checkWalk verdictOf field4 target listed stateBy calledBy respondOf byResponse byCommand enabled byChoice turnOn turnOf queuedAny wish startOwn every queueFits idleFits stepFits procedureFits ownFits ownEmpty messageBytes parse named M.missing M.heldFits M.moduleFits M.choiceOn M.choice M.eventFor M.releases M.bytesOfMessages M.sentBy M.answerBy M.stateBy M.stepIn M.stepBy M.isFor M.bidWith M.takenBy M.deliverIn M.deliverBy M.startBy S.holderFits S.supervisorFits S.placeAfter S.nextNoted S.servedOn S.sentTo S.sentBytes S.answerBy S.stateAfter S.stepIn S.stepBy S.takenBy S.deliverIn S.deliverBy S.startBy update behind pick start step run pieces sent sentOut delivered deliveredAt C.stepSeen C.actSeen C.seen C.turnEvents C.recordOf C.choiceFed C.actFed C.fed C.deviceStep C.turningSeen C.deviceActSeen C.deviceSeen listFrom deviceFits shownBy ledBy turned afterTurn turnIn turnBy replyIn replyBy startBy S.applied S.heldBy M.replyBy arriveAt performed tickOf flowOk added
+overtaken = record {
+  noted-while-out = refl;
+  release-behind = refl;
+  other-first = refl;
+  then-served = refl;
+  response-out = refl;
+  last-release = refl;
+  events = refl;
+  fed = refl;
+  one-device = refl;
+}
