@@ -4,7 +4,7 @@ use mathlib.Core.Path.{_≡_}
 use mathlib.Core.Logic.{_≢_}
 use mathlib.Core.Bool.{true}
 use mathlib.Core.List.{List}
-use mathlib.Core.Option.{Option, some}
+use mathlib.Core.Option.{some}
 use lib.ListN.{length, getD}
 use Rattle.reader.specs.Walk.{recordsOf}
 use Rattle.rules.specs.LookUp.{modulesOf, supervisorsOf}
@@ -46,6 +46,9 @@ pub record Demand3 (image : List ℕ) (acts : List Act) : Type 0 where
   -- "each turn taken, response and tick gets the answer that the one-device controller gives for the same turns, responses and ticks in the
   -- same order, so that records and commands are equal"
   pub equal : seen image (start image) acts ≡ deviceSeen image (startCall image .device) (fed image (start image) acts)
+  pub records : recordOf (seen image (start image) acts) ≡ recordOf (deviceSeen image (startCall image .device) (fed image (start image) acts))
+  pub commands : commandsOf (recordsOf image) (recordOf (seen image (start image) acts))
+      ≡ commandsOf (recordsOf image) (recordOf (deviceSeen image (startCall image .device) (fed image (start image) acts)))
   -- "every event of the record is a listed move of its module, and no supervisor, led along that record, disables it there"
   pub legal : Legal (planOf (recordsOf image)) (startPosition (planOf (recordsOf image))) (recordOf (seen image (start image) acts))
   pub supervised : Supervised (planOf (recordsOf image)) (startPosition (planOf (recordsOf image))) (recordOf (seen image (start image) acts))
