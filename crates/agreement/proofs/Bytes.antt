@@ -1,20 +1,16 @@
 -- A message's bytes are read as that message, and what a step writes is its messages, each by itself.
 use mathlib.Core.Path.{_≡_, refl, sym, ap, ap₂, _∙_}
-use mathlib.Core.Bool.{Bool, true, false, cond, _&&_}
 use mathlib.Core.List.{List, [], _∷_, _++_, map, append-assoc, append-nil}
-use Prim.Native.Nat.{ℕ, zero, suc, _+_, _*_, _/_, _^_, _≤_, _<_}
+use Prim.Native.Nat.{ℕ, _*_, _^_, _<_}
 use native.Mathlib.Omega.{arith}
 use lib.ListN.{length, take, drop, length-append}
 use lib.Seq.{take-at, drop-at}
-use lib.Dec.{eqb}
-use borrow.Author.Tests.{eq-eqb}
 use Rattle.words.specs.Word.{wordAt, wordBytes}
 use Rattle.words.proofs.Laws.{word-read, word-drop, length-word}
 use Rattle.messages.specs.Message.{messageBytes, parse}
 use Rattle.messages.specs.declared.Message.{Message}
 use Rattle.messages.specs.declared.Message.the-variants.{Bid, Permit, Release}
-use Rattle.messages.specs.declared.Parsed.{Parsed}
-use Rattle.messages.specs.declared.Parsed.the-variants.{Whole, Misshapen}
+use Rattle.messages.specs.declared.Parsed.the-variants.{Whole}
 use Rattle.permits.specs.Module.{bytesOfMessages}
 use Rattle.agreement.specs.System.{pieces}
 

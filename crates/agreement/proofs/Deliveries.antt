@@ -1,12 +1,12 @@
 -- A message under way is taken by the party that it names, as the rules say.
-use mathlib.Core.Path.{_≡_, refl, sym, ap, ap₂, _∙_, subst}
-use mathlib.Core.Bool.{Bool, true, false, cond, not, _&&_, _||_}
-use mathlib.Core.List.{List, [], _∷_, _++_, map}
+use mathlib.Core.Path.{_≡_, refl, sym, ap, _∙_, subst}
+use mathlib.Core.Bool.{Bool, true, false, cond, _||_}
+use mathlib.Core.List.{List}
 use mathlib.Core.Option.{Option, none, some, Option·getD}
-use Prim.Native.Nat.{ℕ, zero, suc, _^_, _≤_, _<_}
+use Prim.Native.Nat.{ℕ, _^_, _≤_, _<_}
 use native.Mathlib.Omega.{arith}
 use lib.Bits.{bitOr}
-use lib.Dec.{eqb, ltb}
+use lib.Dec.{eqb}
 use borrow.Author.Tests.{lt-ltb, ne-eqb}
 use Rattle.bits.specs.Bit.{bit, putBit, isSome}
 use Rattle.records.specs.declared.Record.{Record}
@@ -23,19 +23,19 @@ use Rattle.permits.specs.declared.Module.{Module}
 use Rattle.permits.specs.declared.Supervisor.{Supervisor}
 use Rattle.permits.specs.declared.Holder.{Holder}
 use Rattle.permits.specs.declared.Holder.the-variants.{Home, Out}
-use Rattle.permits.specs.Names.{neighbours?, eventNamed, named}
+use Rattle.permits.specs.Names.{eventNamed, named}
 use Rattle.permits.specs.Module as M
 use Rattle.permits.specs.Supervisor as S
-use Rattle.protocol.specs.Plan.{Plan, Laws}
+use Rattle.protocol.specs.Plan.{Laws}
 use Rattle.protocol.specs.Rules as R
 use Rattle.protocol.specs.System.{System}
 use Rattle.protocol.proofs.Tools.{and-true, and-intro, eqb-self, Inserted, inserted-all}
 use Rattle.protocol.proofs.Neighbours.{neighbour-below, neighbour-module}
-use Rattle.protocol.proofs.Invariant.{Inv, ReleaseNames}
+use Rattle.protocol.proofs.Invariant.{Inv}
 use Rattle.protocol.proofs.Keep.{bid-new, permit-bid, release-holder, release-names}
 use Rattle.agreement.specs.PlanOf.{planOf}
 use Rattle.agreement.proofs.Names.{eventByte, messageOf, missing-same}
-use Rattle.agreement.proofs.Bytes.{Sized, parse-bytes}
+use Rattle.agreement.proofs.Bytes.{parse-bytes}
 use Rattle.agreement.proofs.Fit.{SameModule, SameSupervisor, holderOf, few, watched, both-named, module-fits, supervisor-fits}
 
 module _ (rs : List Record) (L : Laws (planOf rs)) (D : System) (O : R.OneDevice) (I : Inv (planOf rs) D O) where

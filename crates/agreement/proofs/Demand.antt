@@ -1,12 +1,12 @@
 -- Demand 3.
 use mathlib.Core.Path.{_≡_, refl, sym, ap, ap₂, _∙_, subst}
-use mathlib.Core.Logic.{_≢_, _⊎_, inl, inr}
-use mathlib.Core.Bool.{Bool, true, false, true≢false, false≢true}
-use mathlib.Core.List.{List, [], _∷_, _++_, map}
+use mathlib.Core.Logic.{_≢_}
+use mathlib.Core.Bool.{Bool, true, false, true≢false}
+use mathlib.Core.List.{List, [], _∷_, map, _++_}
 use mathlib.Core.Option.{Option, none, some}
-use Prim.Native.Nat.{ℕ, _≤_, _<_}
+use Prim.Native.Nat.{ℕ, _<_}
 use native.Mathlib.Omega.{arith}
-use lib.ListN.{length, getD, replicate, length-replicate}
+use lib.ListN.{length, replicate, length-replicate}
 use lib.Dec.{ltb}
 use borrow.Author.Tests.{ltb-true}
 use Rattle.records.specs.declared.Record.{Record}
@@ -14,20 +14,15 @@ use Rattle.reader.specs.Walk.{recordsOf}
 use Rattle.rules.specs.LookUp.{modulesOf, supervisorsOf}
 use Rattle.rules.specs.Check.{verdictOf, IsPlan}
 use Rattle.accepted.proofs.Accepted.{every-plan}
-use Rattle.modules.specs.declared.Own.{Own}
 use Rattle.modules.specs.declared.Turn.{Turn}
 use Rattle.modules.specs.declared.Turn.the-variants.{Event, Stray, Nothing}
-use Rattle.modules.specs.declared.Called.the-variants.{Done as CallDone}
 use Rattle.device.specs.Device.{startCall}
-use Rattle.messages.specs.Message.{parse, messageBytes}
-use Rattle.messages.specs.declared.Message.the-variants.{Bid, Permit, Release}
-use Rattle.messages.specs.declared.Parsed.{Parsed}
+use Rattle.messages.specs.Message.{parse}
 use Rattle.messages.specs.declared.Parsed.the-variants.{Whole}
 use Rattle.permits.specs.declared.Module.{Module}
 use Rattle.permits.specs.declared.Supervisor.{Supervisor}
 use Rattle.permits.specs.declared.Holder.{Holder}
 use Rattle.permits.specs.declared.Holder.the-variants.{Home, Out}
-use Rattle.permits.specs.declared.Stepped.{Stepped}
 use Rattle.permits.specs.declared.Stepped.the-variants.{Refused}
 use Rattle.permits.specs.declared.Served.the-variants.{Refused as SupervisorRefused}
 use Rattle.permits.specs.Module as M
@@ -36,10 +31,9 @@ use Rattle.turn_laws.proofs.Laws.{turn-laws}
 use Rattle.turn_laws.proofs.Words.{words}
 use Rattle.bits.specs.Bit.{isSome}
 use Rattle.protocol.specs.Generic.{Picked, pick, update}
-use Rattle.protocol.specs.Plan.{Plan, Laws}
+use Rattle.protocol.specs.Plan.{Laws}
 use Rattle.protocol.specs.Rules as R
 use Rattle.protocol.specs.System as P
-use Rattle.protocol.specs.Demand as PD
 use Rattle.protocol.proofs.Tools.{Inserted, pick-inserted, update-each}
 use Rattle.protocol.proofs.Invariant.{Inv}
 use Rattle.protocol.proofs.Progress.{module-step-is, supervisor-step-is}
@@ -47,15 +41,15 @@ use Rattle.protocol.proofs.Theorem.{start-inv, whole, demand3, choice-bid, serv
 use Rattle.agreement.specs.PlanOf.{planOf}
 use Rattle.agreement.specs.System as A
 use Rattle.agreement.specs.Compared as C
-use Rattle.agreement.specs.Demand.{Taken, Progress, Demand3, Demand}
-use Rattle.agreement.proofs.Names.{eventByte, messageOf, choiceOf}
-use Rattle.agreement.proofs.Fit.{SameModule, SameSupervisor, holderOf, module-fits, supervisor-fits}
+use Rattle.agreement.specs.Demand.{Taken, Progress, Demand}
+use Rattle.agreement.proofs.Names.{messageOf, choiceOf}
+use Rattle.agreement.proofs.Fit.{SameModule, holderOf, module-fits, supervisor-fits}
 use Rattle.agreement.proofs.Steps.{afterOf, after-is}
 use Rattle.agreement.proofs.Deliveries.{read-back, bid-supervisor, bid-call, permit-module, permit-call, release-supervisor, release-call}
 use Rattle.agreement.proofs.Simulation.{bytesOf, Sim, actOf, seenOf, pickedOf, pick-map, module-call, supervisor-call}
 use Rattle.agreement.proofs.Laws.{laws}
 use Rattle.agreement.proofs.Start.{start-sim, start-same}
-use Rattle.agreement.proofs.Whole.{Ran, ran}
+use Rattle.agreement.proofs.Whole.{ran}
 
 -- the record is the rules' record
 events-same : (t : Turn) → C.turnEvents t ≡ P.turnEvents t
@@ -221,8 +215,12 @@ demand image bytes plan acts n =
     let w = whole (planOf rs) L (map actOf acts) (P.startSystem (planOf rs)) (P.startDevice (planOf rs)) I in
     let d = demand3 (planOf rs) L (map actOf acts) in
     let e : C.recordOf (C.seen image (A.start image) acts) ≡ P.recordOf (P.seen (planOf rs) (P.startSystem (planOf rs)) (map actOf acts)) = ap C.recordOf (r .seen) ∙ record-same (P.seen (planOf rs) (P.startSystem (planOf rs)) (map actOf acts)) in
+    let same : C.seen image (A.start image) acts ≡ C.deviceSeen image (startCall image .device) (C.fed image (A.start image) acts) =
+    r .seen ∙ ap (map seenOf) (d .equal) ∙ sym (r .device) in
     record {
-      equal = r .seen ∙ ap (map seenOf) (d .equal) ∙ sym (r .device);
+      equal = same;
+      records = ap C.recordOf same;
+      commands = ap (λ l. C.commandsOf rs (C.recordOf l)) same;
       legal = rw e (d .legal);
       supervised = rw e (d .supervised);
       home = λ v l h. r .sim .supervisors v l .state ∙ d .home v l (home-none _ _ (r .sim .supervisors v l .holder) h) ∙ rw e;

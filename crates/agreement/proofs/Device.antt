@@ -1,8 +1,7 @@
 -- The one-device calls do what the rules of one device do.
 use mathlib.Core.Path.{_≡_, refl, sym, ap, ap₂, _∙_, subst}
-use mathlib.Core.Logic.{_≢_}
-use mathlib.Core.Bool.{Bool, true, false, cond, not, _&&_, _||_}
-use mathlib.Core.List.{List, [], _∷_, _++_}
+use mathlib.Core.Bool.{Bool, true, false, cond}
+use mathlib.Core.List.{List}
 use mathlib.Core.Option.{Option, none, some, Option·getD}
 use Prim.Native.Nat.{ℕ, zero, suc, _+_, _≤_, _<_}
 use native.Mathlib.Decide.{ℕ-discrete}
@@ -13,30 +12,25 @@ use lib.Seq.{getD-set-same, getD-set-other}
 use lib.Bits.{bitOr}
 use lib.Dec.{T, eqb, ltb}
 use lib.Ieee.Fits.{and-l, and-r, and-i}
-use borrow.Author.Tests.{lt-ltb, le-ltb, ltb-true, ltb-false, eqb-true, eq-eqb}
-use Rattle.bits.specs.Bit.{bit, allBelow}
+use borrow.Author.Tests.{lt-ltb, ltb-false}
+use Rattle.bits.specs.Bit.{allBelow}
 use Rattle.bits.proofs.Laws.{all-at, all-of}
 use Rattle.records.specs.declared.Record.{Record}
-use Rattle.reader.specs.Walk.{recordsOf}
 use Rattle.rules.specs.LookUp.{modulesOf, supervisorsOf, supervisorState}
-use Rattle.rules.specs.Check.{verdictOf, IsPlan}
 use Rattle.rules.specs.declared.Verdict.{Verdict}
-use Rattle.rules.specs.declared.Verdict.the-variants.{Accepted, Refused}
+use Rattle.rules.specs.declared.Verdict.the-variants.{Accepted}
 use Rattle.plan.specs.Plan.{supervisorMove, stateBy, shown, inAlphabet}
-use Rattle.water.specs.declared.Flow.{Flow}
 use Rattle.modules.specs.declared.Own.{Own}
 use Rattle.modules.specs.declared.Turn.{Turn}
 use Rattle.modules.specs.declared.Turn.the-variants.{Event, Stray, Nothing}
 use Rattle.modules.specs.declared.Turned.{Turned}
 use Rattle.modules.specs.declared.Replied.{Replied}
-use Rattle.modules.specs.Procedure.{calledBy, tickOf, respondOf}
+use Rattle.modules.specs.Procedure.{calledBy}
 use Rattle.modules.specs.Turn.{turnOf}
 use Rattle.modules.specs.Fits.{ownFits, ownEmpty}
 use Rattle.device.specs.declared.Device.{Device}
 use Rattle.device.specs.declared.Turning.the-variants.{Turned as DeviceTurned}
-use Rattle.device.specs.declared.DeviceTurned.{DeviceTurned as TurnedDevice}
-use Rattle.device.specs.declared.DeviceCalled.{DeviceCalled}
-use Rattle.device.specs.Device.{emptyOwn, ownAt, stateAt, listFrom, deviceFits, shownBy, ledBy, withOwn, turned, afterTurn, deviceNumber, turnIn, turnBy, turnCall, replyIn, replyBy, respondCall, tickCall}
+use Rattle.device.specs.Device.{emptyOwn, ownAt, stateAt, listFrom, deviceFits, shownBy, ledBy, withOwn, turned, afterTurn, deviceNumber, turnIn, turnBy, replyIn, replyBy}
 use Rattle.protocol.specs.Generic.{update}
 use Rattle.protocol.specs.Rules as R
 use Rattle.protocol.proofs.Tools.{update-same, update-other}

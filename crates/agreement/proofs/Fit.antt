@@ -1,14 +1,10 @@
 -- The states of the calls and of the rules: what makes them the same, and that they fit.
-use mathlib.Core.Path.{_≡_, refl, sym, ap, ap₂, _∙_, subst}
-use mathlib.Core.Bool.{Bool, true, false, cond, not, _&&_, _||_, false≢true, true≢false}
-use mathlib.Core.List.{List, [], _∷_, _++_, map}
+use mathlib.Core.Path.{_≡_, refl, sym, ap, _∙_, subst}
+use mathlib.Core.Bool.{Bool, true, false, not, _&&_, _||_, false≢true}
+use mathlib.Core.List.{List}
 use mathlib.Core.Option.{Option, none, some}
-use Prim.Native.Nat.{ℕ, zero, suc, _+_, _^_, _≤_, _<_}
-use native.Mathlib.Decide.{decLe}
-use native.Mathlib.Omega.{arith}
-use lib.ListN.{length}
-use lib.Dec.{T, eqb, ltb}
-use lib.Ieee.Fits.{and-i}
+use Prim.Native.Nat.{ℕ, _≤_, _<_}
+use lib.Dec.{eqb}
 use borrow.Author.Tests.{lt-ltb, eq-eqb, eqb-true}
 use Rattle.bits.specs.Bit.{bit, allBelow, isSome}
 use denote.Floats.{is-true, passes as holds}
@@ -24,12 +20,12 @@ use Rattle.permits.specs.declared.Holder.the-variants.{Home, Out}
 use Rattle.permits.specs.Names.{neighbours?}
 use Rattle.permits.specs.Module as M
 use Rattle.permits.specs.Supervisor as S
-use Rattle.protocol.specs.Plan.{Plan, Laws}
+use Rattle.protocol.specs.Plan.{Laws}
 use Rattle.protocol.specs.Rules as R
 use Rattle.protocol.specs.System.{System}
-use Rattle.protocol.proofs.Tools.{and-true, and-intro, oneAt, oneAt-some, oneAt-is, digit, count, either-way, isSome-is}
+use Rattle.protocol.proofs.Tools.{and-intro}
 use Rattle.protocol.proofs.Neighbours.{neighbour-below, neighbour-module}
-use Rattle.protocol.proofs.Invariant.{ModuleLaw, SupervisorLaw, Inv, noted-neighbour, holder-neighbour}
+use Rattle.protocol.proofs.Invariant.{Inv, noted-neighbour, holder-neighbour}
 use Rattle.agreement.specs.PlanOf.{planOf}
 use Rattle.agreement.proofs.Names.{neighbour-same, neighbour-bit, missing-same}
 

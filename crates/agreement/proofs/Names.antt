@@ -1,9 +1,9 @@
 -- The calls' masks and messages say what the rules of permits say of the plan.
-use mathlib.Core.Path.{_≡_, refl, sym, ap, ap₂, _∙_, subst}
+use mathlib.Core.Path.{_≡_, refl, sym, ap, ap₂, _∙_}
 use mathlib.Core.Bool.{Bool, true, false, cond, not, _&&_, _||_, and-false, true≢false}
 use mathlib.Core.List.{List, [], _∷_, _++_, map, append-nil}
 use mathlib.Core.Option.{Option, none, some}
-use Prim.Native.Nat.{ℕ, zero, suc, _+_, _-_, _^_, _≤_, _<_}
+use Prim.Native.Nat.{ℕ, zero, suc, _+_, _-_, _≤_, _<_}
 use native.Mathlib.Omega.{arith}
 use lib.Dec.{eqb, ltb}
 use lib.Pow.{pow-pos}
@@ -13,17 +13,16 @@ use Rattle.bits.proofs.Laws.{bit-ext, bit-none}
 use Rattle.bits.proofs.Lowest.{least-none, least-some, least-same, least-more, some-least}
 use Rattle.bits.proofs.Mask.{mask-bit, mask-small}
 use Rattle.records.specs.declared.Record.{Record}
-use Rattle.rules.specs.LookUp.{modulesOf, supervisorsOf, eventsOf, ownerOf}
+use Rattle.rules.specs.LookUp.{supervisorsOf, eventsOf, ownerOf}
 use Rattle.plan.specs.Plan.{inAlphabet, neighbour, neighbours}
 use Rattle.modules.specs.Turn.{wish}
 use Rattle.modules.specs.declared.Turn.{Turn}
 use Rattle.modules.specs.declared.Turn.the-variants.{Event, Stray, Nothing}
-use Rattle.messages.specs.Message.{noEvent, messageBytes}
+use Rattle.messages.specs.Message.{noEvent}
 use Rattle.messages.specs.declared.Message.{Message}
 use Rattle.messages.specs.declared.Message.the-variants.{Bid, Permit, Release}
 use Rattle.permits.specs.declared.Module.{Module}
 use Rattle.permits.specs.Module as M
-use Rattle.protocol.specs.Plan.{Plan}
 use Rattle.protocol.specs.Rules as R
 use Rattle.agreement.specs.PlanOf.{planOf}
 

@@ -1,12 +1,10 @@
 -- Each call does what one act of the rules does.
 use mathlib.Core.Path.{_≡_, refl, sym, ap, ap₂, _∙_, subst}
-use mathlib.Core.Logic.{_≢_}
 use mathlib.Core.Bool.{Bool, true, false, cond}
 use mathlib.Core.List.{List, [], _∷_, _++_, map, append-nil}
-use mathlib.Core.Option.{Option, none, some, Option·getD}
+use mathlib.Core.Option.{Option, none, some}
 use Prim.Native.Nat.{ℕ, zero, suc, _≤_, _<_}
 use native.Mathlib.Decide.{ℕ-discrete}
-use native.Mathlib.Omega.{arith}
 use lib.ListN.{length}
 use lib.Dec.{ltb}
 use borrow.Author.Tests.{lt-ltb, le-ltb, ltb-true, ltb-false}
@@ -14,26 +12,20 @@ use Rattle.records.specs.declared.Record.{Record}
 use Rattle.reader.specs.Walk.{recordsOf}
 use Rattle.rules.specs.LookUp.{modulesOf, supervisorsOf}
 use Rattle.rules.specs.Check.{verdictOf, IsPlan}
-use Rattle.rules.specs.declared.Verdict.{Verdict}
-use Rattle.rules.specs.declared.Verdict.the-variants.{Accepted}
 use Rattle.water.specs.declared.Flow.{Flow}
 use Rattle.modules.specs.declared.Own.{Own}
-use Rattle.modules.specs.declared.Turn.{Turn}
 use Rattle.modules.specs.declared.Replied.{Replied}
-use Rattle.modules.specs.declared.Called.{Called}
 use Rattle.modules.specs.Procedure.{calledBy, tickOf, respondOf}
-use Rattle.messages.specs.Message.{messageBytes, parse}
+use Rattle.messages.specs.Message.{messageBytes}
 use Rattle.messages.specs.declared.Message.{Message}
-use Rattle.messages.specs.declared.Message.the-variants.{Bid, Permit, Release}
-use Rattle.messages.specs.declared.Parsed.{Parsed}
-use Rattle.messages.specs.declared.Parsed.the-variants.{Whole, Misshapen}
+use Rattle.messages.specs.declared.Parsed.the-variants.{Whole}
 use Rattle.permits.specs.declared.Module.{Module}
 use Rattle.permits.specs.declared.Supervisor.{Supervisor}
 use Rattle.permits.specs.Names.{written}
 use Rattle.permits.specs.Module as M
 use Rattle.permits.specs.Supervisor as S
 use Rattle.protocol.specs.Generic.{update, Picked, pick, behind}
-use Rattle.protocol.specs.Plan.{Plan, Laws}
+use Rattle.protocol.specs.Plan.{Laws}
 use Rattle.protocol.specs.Rules as R
 use Rattle.protocol.specs.System as P
 use Rattle.protocol.proofs.Tools.{update-same, update-other, update-each, Inserted, pick-inserted}
@@ -42,7 +34,7 @@ use Rattle.protocol.proofs.Keep.{bid-taken, permit-taken, release-taken}
 use Rattle.agreement.specs.PlanOf.{planOf}
 use Rattle.agreement.specs.System as A
 use Rattle.agreement.specs.Compared as C
-use Rattle.agreement.proofs.Names.{eventByte, messageOf, choiceOf}
+use Rattle.agreement.proofs.Names.{messageOf, choiceOf}
 use Rattle.agreement.proofs.Fit.{SameModule, SameSupervisor, module-fits, supervisor-fits}
 use Rattle.agreement.proofs.Steps.{step-is, step-absent, sent-is, sentOf, afterOf, choice-is, messages-are, after-is, turn-is, serve-is, serve-absent, served-bytes, permitOf, afterServing, served-is, permit-is, serving-is}
 use Rattle.agreement.proofs.Deliveries.{read-back, bid-supervisor, bid-call, bid-after, permit-module, permit-call, permit-after, release-supervisor, release-call, release-after}

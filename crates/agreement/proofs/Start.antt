@@ -1,10 +1,9 @@
 -- The starting states of the calls and of the rules are the same.
-use mathlib.Core.Path.{_≡_, refl, sym, ap, ap₂, _∙_, subst}
-use mathlib.Core.Bool.{Bool, true, false, cond, _&&_}
-use mathlib.Core.List.{List, [], _∷_}
+use mathlib.Core.Path.{_≡_, refl, sym, ap, _∙_, subst}
+use mathlib.Core.Bool.{Bool, true, false, cond}
+use mathlib.Core.List.{List}
 use Prim.Native.Nat.{ℕ, _+_, _≤_, _<_}
 use native.Mathlib.Omega.{arith}
-use lib.ListN.{length, getD}
 use lib.Dec.{eqb, ltb}
 use lib.Ieee.{round}
 use borrow.Author.Tests.{lt-ltb, ltb-true}
@@ -12,7 +11,7 @@ use Rattle.records.specs.declared.Record.{Record}
 use Rattle.reader.specs.Walk.{recordsOf}
 use Rattle.litres.specs.Eighths.{eighths, isEighths, count}
 use Rattle.rules.specs.LookUp.{modulesOf, supervisorsOf, supervisorState}
-use Rattle.rules.specs.Check.{verdictOf, IsPlan}
+use Rattle.rules.specs.Check.{IsPlan}
 use Rattle.plan.specs.Plan.{supervisorInitial}
 use Rattle.modules.specs.declared.Own.{Own}
 use Rattle.modules.specs.Turn.{startOwn}
@@ -24,7 +23,6 @@ use Rattle.permits.specs.Supervisor as S
 use Rattle.permits.specs.declared.Module.{Module}
 use Rattle.permits.specs.declared.Supervisor.{Supervisor}
 use Rattle.protocol.specs.Plan.{Laws}
-use Rattle.protocol.specs.Rules as R
 use Rattle.protocol.specs.System as P
 use Rattle.agreement.specs.PlanOf.{planOf}
 use Rattle.agreement.specs.System as A

@@ -1,21 +1,20 @@
 -- Module and supervisor steps do what the rules say, in states that fit and with 128 bytes lent.
-use mathlib.Core.Path.{_≡_, refl, sym, ap, ap₂, _∙_, subst}
-use mathlib.Core.Bool.{Bool, true, false, cond, not, _&&_, _||_}
+use mathlib.Core.Path.{_≡_, refl, ap, ap₂, _∙_}
+use mathlib.Core.Bool.{Bool, true, false, cond}
 use mathlib.Core.List.{List, [], _∷_, _++_, map, append-nil}
 use mathlib.Core.Option.{Option, none, some, Option·map}
-use Prim.Native.Nat.{ℕ, zero, suc, _+_, _*_, _/_, _%_, _^_, _≤_, _<_}
+use Prim.Native.Nat.{ℕ, zero, suc, _+_, _/_, _%_, _≤_, _<_}
 use native.Mathlib.Omega.{arith}
-use lib.ListN.{length, take, drop, length-append}
+use lib.ListN.{length, drop, length-append}
 use lib.Seq.{take-at}
-use lib.Dec.{eqb, ltb}
+use lib.Dec.{ltb}
 use borrow.Author.Tests.{lt-ltb, le-ltb}
 use Rattle.bits.specs.Bit.{bit, least, putBit}
-use Rattle.words.specs.Word.{wordBytes}
 use Rattle.words.proofs.Laws.{length-word}
 use Rattle.records.specs.declared.Record.{Record}
 use Rattle.rules.specs.LookUp.{modulesOf, supervisorsOf}
 use Rattle.rules.specs.declared.Verdict.{Verdict}
-use Rattle.rules.specs.declared.Verdict.the-variants.{Accepted, Refused}
+use Rattle.rules.specs.declared.Verdict.the-variants.{Accepted}
 use Rattle.plan.specs.Plan.{neighbours, shown}
 use Rattle.modules.specs.declared.Turn.{Turn}
 use Rattle.modules.specs.Turn.{turnOf}
@@ -26,7 +25,7 @@ use Rattle.permits.specs.declared.Module.{Module}
 use Rattle.permits.specs.declared.Supervisor.{Supervisor}
 use Rattle.permits.specs.declared.Holder.{Holder}
 use Rattle.permits.specs.declared.Holder.the-variants.{Home, Out}
-use Rattle.permits.specs.Names.{short, written}
+use Rattle.permits.specs.Names.{written}
 use Rattle.permits.specs.Module as M
 use Rattle.permits.specs.Supervisor as S
 use Rattle.protocol.specs.Plan.{Plan, Laws}

@@ -1,28 +1,21 @@
 -- Whole lists of calls, and demand 3.
 use mathlib.Core.Path.{_≡_, refl, sym, ap, ap₂, _∙_, subst}
-use mathlib.Core.Logic.{_≢_, _⊎_, inl, inr}
-use mathlib.Core.Bool.{Bool, true, false, cond, not, _&&_, true≢false, false≢true}
-use mathlib.Core.List.{List, [], _∷_, _++_, map, append-assoc}
-use mathlib.Core.Option.{Option, none, some}
-use Prim.Native.Nat.{ℕ, zero, suc, _+_, _≤_, _<_}
-use native.Mathlib.Omega.{arith}
-use lib.ListN.{length, getD, replicate, length-replicate}
-use lib.Dec.{eqb, ltb}
-use borrow.Author.Tests.{lt-ltb, le-ltb, ltb-true, ltb-false}
+use mathlib.Core.Logic.{_⊎_, inl, inr}
+use mathlib.Core.Bool.{Bool, true, false, cond}
+use mathlib.Core.List.{List, [], _∷_, _++_, map}
+use mathlib.Core.Option.{some}
+use Prim.Native.Nat.{ℕ, _≤_, _<_}
+use lib.Dec.{ltb}
+use borrow.Author.Tests.{ltb-true}
 use Rattle.records.specs.declared.Record.{Record}
 use Rattle.reader.specs.Walk.{recordsOf}
-use Rattle.litres.specs.Eighths.{eighths, isEighths, count}
-use Rattle.rules.specs.LookUp.{modulesOf, supervisorsOf, supervisorState}
+use Rattle.rules.specs.LookUp.{modulesOf, supervisorState}
 use Rattle.rules.specs.Check.{verdictOf, IsPlan}
-use Rattle.rules.specs.declared.Verdict.{Verdict}
-use Rattle.rules.specs.declared.Verdict.the-variants.{Accepted}
-use Rattle.plan.specs.Plan.{supervisorMove, inAlphabet, supervisorInitial}
-use Rattle.water.specs.declared.Flow.{Flow}
+use Rattle.plan.specs.Plan.{supervisorMove}
 use Rattle.modules.specs.declared.Own.{Own}
 use Rattle.modules.specs.declared.Replied.{Replied}
 use Rattle.modules.specs.Procedure.{calledBy, respondOf, tickOf}
-use Rattle.modules.specs.Turn.{startOwn}
-use Rattle.modules.specs.Fits.{every, idleFits, ownFits, ownEmpty}
+use Rattle.modules.specs.Fits.{ownFits}
 use Rattle.device.specs.declared.Device.{Device}
 use Rattle.device.specs.declared.Turning.the-variants.{Turned}
 use Rattle.device.specs.Device as Dev
@@ -36,9 +29,9 @@ use Rattle.protocol.proofs.Theorem.{good}
 use Rattle.agreement.specs.PlanOf.{planOf}
 use Rattle.agreement.specs.System as A
 use Rattle.agreement.specs.Compared as C
-use Rattle.agreement.proofs.Device.{Same, reply-same, turn-same, after-same, turn-call, reply-call, from-at, from-length, fits-of}
+use Rattle.agreement.proofs.Device.{Same, reply-same, turn-same, after-same, turn-call, reply-call}
 use Rattle.agreement.proofs.Fit.{few, watched}
-use Rattle.agreement.proofs.Simulation.{Sim, actOf, seenOf, fedOf, Done, act-done, map-append}
+use Rattle.agreement.proofs.Simulation.{Sim, actOf, seenOf, fedOf, act-done, map-append}
 
 -- the module that a one-device act names
 unfoldable moduleOf : R.DeviceAct → ℕ

@@ -1,5 +1,4 @@
 -- The plan that records give, as the rules of permits use it.
-use Prim.Native.Nat.{ℕ}
 use mathlib.Core.List.{List}
 use Rattle.records.specs.declared.Record.{Record}
 use Rattle.rules.specs.LookUp.{modulesOf, supervisorsOf, eventsOf, ownerOf, controllable, supervisorState}

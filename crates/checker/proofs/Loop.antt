@@ -5,8 +5,8 @@ use mathlib.Core.Bool.{Bool, true, false, cond}
 use Prim.Native.Nat.{ℕ, suc, _<_}
 use native.Mathlib.Omega.{arith}
 use lib.ListN.{length}
-use lib.Dec.{eqb, ltb}
-use borrow.Author.Tests.{eq-eqb, ne-eqb, eqb-true, lt-ltb, le-ltb}
+use lib.Dec.{eqb}
+use borrow.Author.Tests.{ne-eqb, eqb-true, lt-ltb, le-ltb}
 use Rattle.records.specs.Kinds.{kindOf}
 use Rattle.records.specs.declared.Record.{Record}
 use Rattle.reader.specs.Read.{readAt}
@@ -17,7 +17,7 @@ use Rattle.reader.proofs.Reading.{next, walks-by}
 use Rattle.rules.specs.Check.{faultOf, endAt, checkWalk, verdictOf, limit}
 use Rattle.rules.specs.Valid.{Valid}
 use Rattle.rules.specs.declared.Verdict.{Verdict}
-use Rattle.rules.specs.declared.Verdict.the-variants.{Accepted, Refused}
+use Rattle.rules.specs.declared.Verdict.the-variants.{Refused}
 use Rattle.context.specs.declared.Context.{Context}
 use Rattle.context.specs.Context.{withRecord, start, contextOf}
 use Rattle.judge.specs.Judge.{judgeBy}

@@ -1,8 +1,8 @@
 -- Document 01, "Turns on one device": the whole calls of the one-device controller. "Every call with an image checks it first." Then 9 is
 -- judged of the whole state, 11 of the module's number, and the call's own numbers last.
 use Prim.Native.Nat.{ℕ, zero, suc}
-use mathlib.Core.List.{List, [], _∷_, _++_}
-use mathlib.Core.Bool.{Bool, true, false, cond, not, _&&_, _||_}
+use mathlib.Core.List.{List, [], _∷_}
+use mathlib.Core.Bool.{Bool, cond, _&&_}
 use lib.ListN.{getD, set, replicate}
 use lib.Bits.{bitOr}
 use lib.Dec.{eqb, ltb}
@@ -20,13 +20,11 @@ use Rattle.modules.specs.declared.Turn.{Turn}
 use Rattle.modules.specs.declared.Turn.the-variants.{Event, Stray, Nothing}
 use Rattle.modules.specs.declared.Turned.{Turned}
 use Rattle.modules.specs.declared.Replied.{Replied}
-use Rattle.modules.specs.declared.Called.{Called}
 use Rattle.modules.specs.declared.Called.the-variants.{Done, Refused as CallRefused}
 use Rattle.modules.specs.Procedure.{idle, calledBy, tickOf, respondOf}
 use Rattle.modules.specs.Turn.{turnOf, startOwn}
 use Rattle.modules.specs.Fits.{ownFits, ownEmpty}
 use Rattle.device.specs.declared.Device.{Device}
-use Rattle.device.specs.declared.Turning.{Turning}
 use Rattle.device.specs.declared.Turning.the-variants.{Turned as Turns, Refused as TurnRefused}
 use Rattle.device.specs.declared.DeviceTurned.{DeviceTurned}
 use Rattle.device.specs.declared.DeviceCalled.{DeviceCalled}

@@ -1,7 +1,6 @@
 -- The arms of a match: the answer for the variant at hand is the answer for the record.
 use mathlib.Core.Path.{_≡_, sym, ap, _∙_}
 use mathlib.Core.Bool.{Bool}
-use Prim.Native.Nat.{ℕ}
 use Rattle.records.specs.declared.Record.{Record}
 use Rattle.context.specs.declared.Context.{Context}
 use Rattle.judge.specs.Judge.{indexBy, namesBy, rulesBy, allBy}

@@ -1,13 +1,13 @@
 -- The laws of `specs/Eighths.antt`. Assumes nothing.
 use mathlib.Core.Path.{_≡_, refl, sym, ap, _∙_, subst}
 use Prim.Native.Nat.{ℕ, zero, suc, _+_, _-_, _*_, _/_, _%_, _^_, _≤_, _<_}
-use native.Mathlib.Nat.{mul-one, one-mul, zero-mul, mul-comm, mul-assoc, mul-left-comm, mul-right-comm, mul-pos, mul-lt-mul-of-pos-right, lt-of-lt-of-le, lt-of-mul-lt-mul-right, eq-of-mul-eq-mul-right, mul-div-cancel, mul-mod-left, zero-lt-suc, add-mul, add-comm, zero-add, div-add-mod', add-zero, mod-eq-of-lt, mod-one, mod-le, lt-of-not-le, not-le-of-lt, lt-of-le-of-lt, le-of-lt, le-of-eq, le-trans, le-of-mul-le-mul-right, mul-le-mul-right}
+use native.Mathlib.Nat.{mul-one, one-mul, zero-mul, mul-comm, mul-assoc, mul-right-comm, mul-pos, lt-of-lt-of-le, eq-of-mul-eq-mul-right, mul-div-cancel, mul-mod-left, add-mul, div-add-mod', add-zero, mod-eq-of-lt, mod-one, mod-le, lt-of-not-le, not-le-of-lt, lt-of-le-of-lt, le-of-lt, le-of-eq, le-trans, le-of-mul-le-mul-right, mul-le-mul-right}
 use native.Mathlib.Omega.{arith}
 use mathlib.Core.Bool.{Bool, true, false, not, _&&_, _||_, cond, true≢false, false≢true}
 use lib.IntN.{ℤ, pos, negsuc}
-use lib.Dec.{T, leb, ltb, eqb, eqb→eq, ltb→lt, lt→ltb, leb→le, le→leb, nleb→lt, eqb-refl, not-T, lit<, lit≤}
-use lib.Pow.{pow-add, pow-pos, pow-mono, pow-lt, shl-lt, shl-shr, mod-pow-add}
-use lib.Ieee.{neg, Float, nan, inf, fin, binary64, up, down, round, sum, add, rem, lt, eq, le, fits, isNan, odd, ofFields, ofBits, nanBits, toBits}
+use lib.Dec.{T, leb, ltb, eqb, eqb→eq, ltb→lt, lt→ltb, leb→le, le→leb, nleb→lt, not-T, lit<, lit≤}
+use lib.Pow.{pow-add, pow-pos, pow-mono, pow-lt, shl-lt, mod-pow-add}
+use lib.Ieee.{neg, Float, nan, inf, fin, binary64, up, down, round, add, rem, lt, eq, le, fits, isNan, odd, ofFields, ofBits, nanBits, toBits}
 use lib.Ieee.Fits.{round-fits, down-pos, and-i, and-l, and-r, eq→eqb}
 use lib.Ieee.Exact.{HasValue, round-exact}
 use lib.Ieee.Nearest.{div-same}

@@ -1,8 +1,7 @@
 -- Litres as whole numbers of eighths. Document 01, "Plan records", operation 4: "wait litres (f64 bits, a multiple of 1/8 from 0.125
 -- to 131,072)"; "Procedures and water": "Litres are from 0 to 64, a multiple of 1/8, not minus zero, infinite or NaN".
-use mathlib.Core.Path.{_≡_}
 use Prim.Native.Nat.{ℕ, _*_, _/_, _%_, _^_}
-use mathlib.Core.Bool.{Bool, true, false, not, _&&_}
+use mathlib.Core.Bool.{Bool, false, not, _&&_}
 use lib.Dec.{leb, eqb}
 use lib.Ieee.{Float, nan, inf, fin, binary64, up, down, round, ofBits}
 

@@ -1,7 +1,7 @@
 -- Document 01, "A state fits when ..": the clauses of a module's own part.
-use Prim.Native.Nat.{ℕ, _-_}
+use Prim.Native.Nat.{ℕ}
 use mathlib.Core.List.{List, [], _∷_}
-use mathlib.Core.Bool.{Bool, true, false, cond, not, _&&_, _||_}
+use mathlib.Core.Bool.{Bool, true, cond, not, _&&_}
 use lib.ListN.{drop}
 use lib.Dec.{eqb, leb, ltb}
 use Rattle.records.specs.declared.Record.{Record}

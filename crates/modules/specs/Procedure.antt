@@ -1,7 +1,7 @@
 -- Document 01, "Procedures and water", and the responses: what a response and a tick do to a module's own part.
-use Prim.Native.Nat.{ℕ, zero, suc, _+_, _-_, _^_}
+use Prim.Native.Nat.{ℕ, suc, _-_, _^_}
 use mathlib.Core.List.{List}
-use mathlib.Core.Bool.{Bool, true, false, cond}
+use mathlib.Core.Bool.{true, false, cond}
 use lib.Bits.{bitOr, bitAnd}
 use lib.Dec.{eqb}
 use Rattle.records.specs.declared.Record.{Record}

@@ -10,7 +10,6 @@ use Rattle.rules.specs.LookUp.{eventsOf, controllable}
 use Rattle.plan.specs.Plan.{moduleMove, listed, moduleInitial}
 use Rattle.modules.specs.declared.Own.{Own}
 use Rattle.modules.specs.declared.Procedure.{Procedure}
-use Rattle.modules.specs.declared.Turn.{Turn}
 use Rattle.modules.specs.declared.Turn.the-variants.{Event, Stray, Nothing}
 use Rattle.modules.specs.declared.Turned.{Turned}
 use Rattle.modules.specs.Queue.{queueOf, withQueue}

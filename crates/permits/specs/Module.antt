@@ -1,15 +1,15 @@
 -- Document 01, "Permits and messages": the module's calls on many devices.
-use Prim.Native.Nat.{ℕ, zero, suc, _-_}
+use Prim.Native.Nat.{ℕ, zero, suc}
 use mathlib.Core.List.{List, [], _∷_, _++_}
 use mathlib.Core.Option.{Option, none, some}
 use mathlib.Core.Bool.{Bool, true, false, cond, not, _&&_, _||_}
 use lib.ListN.{length, replicate}
-use lib.Bits.{bitAnd, bitOr}
+use lib.Bits.{bitOr}
 use lib.Dec.{eqb, ltb}
 use Rattle.bits.specs.Bit.{bit, allBelow, least, putBit, isSome}
 use Rattle.records.specs.declared.Record.{Record}
 use Rattle.reader.specs.Walk.{recordsOf}
-use Rattle.rules.specs.LookUp.{modulesOf, supervisorsOf}
+use Rattle.rules.specs.LookUp.{modulesOf}
 use Rattle.rules.specs.Check.{verdictOf}
 use Rattle.rules.specs.declared.Verdict.{Verdict}
 use Rattle.rules.specs.declared.Verdict.the-variants.{Accepted, Refused}

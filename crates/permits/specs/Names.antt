@@ -1,7 +1,7 @@
 -- What a message names, and room for an answer. Document 01, "Numbers for what is turned down", 11, 12 and 15.
 use Prim.Native.Nat.{ℕ}
 use mathlib.Core.List.{List, _++_}
-use mathlib.Core.Bool.{Bool, true, false, cond, not, _&&_, _||_}
+use mathlib.Core.Bool.{Bool, _&&_, _||_}
 use lib.ListN.{length, drop}
 use lib.Dec.{eqb, ltb}
 use Rattle.records.specs.declared.Record.{Record}

@@ -1,18 +1,18 @@
 -- Look-ups on the records of a plan. 004, 2.1: an automaton has states, an alphabet and a partial move by an event; 4.2: modules and
 -- supervisors; document 01 gives the bytes.
-use Prim.Native.Nat.{ℕ, zero, suc}
+use Prim.Native.Nat.{ℕ}
 use mathlib.Core.List.{List}
 use mathlib.Core.Option.{Option, none, some}
-use mathlib.Core.Bool.{Bool, true, false, cond, not, _&&_, _||_}
+use mathlib.Core.Bool.{Bool, true, false, not, _&&_}
 use lib.Dec.{eqb, ltb}
-use Rattle.bits.specs.Bit.{bit, putBit, least, someBelow, maskOf}
+use Rattle.bits.specs.Bit.{bit, someBelow, maskOf}
 use Rattle.records.specs.Key.{keyBy}
 use Rattle.records.specs.declared.Record.{Record}
 use Rattle.records.specs.declared.Record.the-variants.{Head, Event, Module, ModuleMove, Supervisor, SupervisorMove, Disabling, Step, End}
 use Rattle.reader.specs.declared.Found.{Found}
 use Rattle.reader.specs.declared.Found.the-variants.{It, Missing}
 use Rattle.reader.specs.Find.{findIn}
-use Rattle.rules.specs.LookUp.{field1, field2, field3, wordField, found, fieldOf, modulesOf, supervisorsOf, eventsOf, eventIn, moduleIn, supervisorIn, ownerOf, controllable, alphabetOf}
+use Rattle.rules.specs.LookUp.{field3, wordField, fieldOf, supervisorsOf, eventsOf, moduleIn, supervisorIn, ownerOf, controllable, alphabetOf}
 
 -- the fourth field of a move: the state that it leads to
 unfoldable pub field4 : Record → ℕ

@@ -1,5 +1,5 @@
 -- Laws of the generic definitions, and the tools of the proofs: tests, optional numbers, weighted counts of a list, all members of a list.
-use Prim.Native.Nat.{ℕ, zero, suc, _+_, _≤_, _<_}
+use Prim.Native.Nat.{ℕ, zero, suc, _+_, _≤_}
 use native.Mathlib.Nat.{not-suc-le-zero}
 use native.Mathlib.Decide.{ℕ-discrete}
 use native.Mathlib.Omega.{arith}
@@ -10,7 +10,7 @@ use mathlib.Core.List.{List, [], _∷_, _++_}
 use mathlib.Core.Option.{Option, none, some}
 use lib.Dec.{eqb}
 use borrow.Author.Tests.{eq-eqb, ne-eqb, eqb-true}
-use Rattle.bits.specs.Bit.{least, isSome}
+use Rattle.bits.specs.Bit.{isSome}
 use Rattle.protocol.specs.Generic.{update, Picked, behind, pick}
 
 -- ---- tests

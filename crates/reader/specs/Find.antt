@@ -1,7 +1,6 @@
 -- The look-up of a record by kind and key.
-use Prim.Native.Nat.{ℕ}
 use mathlib.Core.List.{List, [], _∷_}
-use mathlib.Core.Bool.{Bool, cond}
+use mathlib.Core.Bool.{cond}
 use Rattle.records.specs.Key.{keyOf, sameKey}
 use Rattle.records.specs.declared.Record.{Record}
 use Rattle.records.specs.declared.RecordKey.{RecordKey}

@@ -1,6 +1,6 @@
 -- Document 01, "Plan records" and number 5: the ranges that a record alone can tell.
 use Prim.Native.Nat.{ℕ}
-use mathlib.Core.Bool.{Bool, true, false, cond, not, _&&_, _||_}
+use mathlib.Core.Bool.{Bool, true, cond, not, _&&_, _||_}
 use lib.Dec.{leb, eqb}
 use Rattle.litres.specs.Eighths.{targetOk}
 use Rattle.records.specs.declared.Record.{Record}

@@ -1,6 +1,6 @@
 -- Document 01, "Procedures and water".
 use Prim.Native.Nat.{ℕ, _+_}
-use mathlib.Core.Bool.{Bool, true, false, _&&_}
+use mathlib.Core.Bool.{Bool, true, _&&_}
 use lib.Dec.{eqb, leb, ltb}
 use lib.Ieee.{Float, binary64, ofBits}
 use Rattle.litres.specs.Eighths.{eighths, isEighths, count, litresOk}

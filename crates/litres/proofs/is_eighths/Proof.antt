@@ -1,6 +1,5 @@
 -- `litres::is_eighths` meets its contract. Assumes nothing.
-use mathlib.Core.Path.{_≡_, sym, _∙_, subst}
-use mathlib.Core.Bool.{true, false}
+use mathlib.Core.Path.{sym, _∙_, subst}
 use lib.Dec.{T}
 use lib.Ieee.{ofBits, fits, binary64}
 use denote.Floats.{passes}
