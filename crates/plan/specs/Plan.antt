@@ -4,6 +4,7 @@ use Prim.Native.Nat.{ℕ}
 use mathlib.Core.List.{List}
 use mathlib.Core.Option.{Option, none, some}
 use mathlib.Core.Bool.{Bool, true, false, not, _&&_}
+use lib.Count.{ones}
 use lib.Dec.{eqb, ltb}
 use Rattle.bits.specs.Bit.{bit, someBelow, maskOf}
 use Rattle.records.specs.Key.{keyBy}
@@ -73,9 +74,13 @@ inAlphabet rs v e = bit (alphabetOf rs v) e
 abbrev pub neighbour : List Record → ℕ → ℕ → Bool
 neighbour rs m v = someBelow (λ e. eqb (ownerOf rs e) m && inAlphabet rs v e) (eventsOf rs)
 
--- "The count of neighbours is the number of ones in the neighbour mask." Bit v stands for supervisor v.
+-- the neighbour mask: bit v stands for supervisor v
 abbrev pub neighbours : List Record → ℕ → ℕ
 neighbours rs m = maskOf (λ v. ltb v (supervisorsOf rs) && neighbour rs m v) 32
+
+-- "The count of neighbours is the number of ones in the neighbour mask."
+abbrev pub neighbourCount : List Record → ℕ → ℕ
+neighbourCount rs m = ones (neighbours rs m)
 
 -- a step of an event's procedure
 abbrev pub stepIn : List Record → ℕ → ℕ → Found
