@@ -26,9 +26,9 @@ use Rattle.modules.specs.Procedure.{calledBy, arriveAt, performed, tickOf, resp
 use Rattle.modules.specs.Turn.{byResponse, byCommand, enabled, byChoice, turnOn, turnOf, queuedAny, wish, startOwn}
 use Rattle.modules.specs.Fits.{every, queueFits, idleFits, stepFits, procedureFits, ownFits, ownEmpty}
 use Rattle.modules.specs.declared.Turn.the-variants.{Event, Nothing}
-use Rattle.modules.specs.declared.Reply.the-variants.{Taken, Refused as Denied}
-use Rattle.modules.specs.declared.Called.the-variants.{Done}
-use Rattle.device.specs.Device.{listFrom, deviceFits, shownBy, ledBy, turned, afterTurn, turnIn, turnBy, turnCall, replyIn, replyBy, respondCall, startBy, startCall, ownAt, stateAt, emptyOwn}
+use Rattle.modules.specs.Queue.{queueOf}
+use Rattle.modules.specs.declared.Called.the-variants.{Done, Refused as NotDone}
+use Rattle.device.specs.Device.{listFrom, deviceFits, shownBy, ledBy, turned, afterTurn, turnIn, turnBy, turnCall, replyIn, replyBy, respondCall, tickCall, startBy, startCall, ownAt, stateAt}
 use Rattle.device.specs.declared.Device.{Device}
 use Rattle.device.specs.declared.Turning.the-variants.{Turned}
 use Rattle.messages.specs.Message.{messageBytes, parse}
@@ -95,6 +95,7 @@ pub record Marked : Type 0 where
   pub second : turnCall planP d1 1 .answer ≡ Turned (Event 2)
   pub third : turnCall planP d2 0 .answer ≡ Turned (Event 0)
   pub fourth : respondCall planP d3 1 3 .answer ≡ Done
+  pub fourth-queued : queueOf (ownAt d4 1) ≡ 3 ∷ []
   pub fifth : turnCall planP d4 1 .answer ≡ Turned (Event 3)
   pub sixth : turnCall planP d5 0 .answer ≡ Turned Nothing
   pub module-0 : ownAt (turnCall planP d5 0 .device) 0 .state ≡ 1
@@ -113,8 +114,8 @@ pub record Marked : Type 0 where
   -- "readings 2.5 then 0.125 total 21 eighths"
   pub readings : count (added (added (record { target = f64 3 1; total = f64 0 1 }) (Litres (f64 5 2))) (Litres (f64 1 8)) .total) ≡ 21
   -- "64 taken, 64.125 gets 14"
-  pub reading-64 : tickOf (recordsIn (walkOf 0 0 planP)) (Litres (f64 64 1)) emptyOwn .reply ≡ Taken
-  pub reading-more : tickOf (recordsIn (walkOf 0 0 planP)) (Litres (f64 513 8)) emptyOwn .reply ≡ Denied 14
+  pub reading-64 : tickCall planP d0 0 (Litres (f64 64 1)) .answer ≡ Done
+  pub reading-more : tickCall planP d0 0 (Litres (f64 513 8)) .answer ≡ NotDone 14 0
 
 pub marked : Marked
 unfolding planP d0 d1 d2 d3 d4 d5 m0 m1 m2 v0 v1 bit allBelow putBit least orElse someBelow maskOf wordAt wordBytes isEighths count eighths round add ofBits bodyLen kindOf inRange operandInRange keyOf sameKey precedes recordOf walkOf recordsIn findIn field1 field2 field3 wordField found fieldOf stepsOf indexRuns inOrder namesDeclared keepsRules allDeclared faultOf checkWalk verdictOf field4 target listed stateBy flowOk added arriveAt performed tickOf respondOf byResponse byCommand enabled byChoice turnOn turnOf queuedAny wish startOwn every queueFits idleFits stepFits procedureFits ownFits ownEmpty listFrom deviceFits shownBy ledBy turned afterTurn turnIn turnBy calledBy replyIn replyBy startBy messageBytes parse named M.missing M.heldFits M.moduleFits M.choiceOn M.choice M.eventFor M.releases M.bytesOfMessages M.sentBy M.answerBy M.stateBy M.stepIn M.stepBy M.isFor M.bidWith M.takenBy M.deliverIn M.deliverBy M.startBy S.holderFits S.supervisorFits S.placeAfter S.nextNoted S.servedOn S.sentTo S.sentBytes S.answerBy S.stateAfter S.stepIn S.stepBy S.takenBy S.deliverIn S.deliverBy S.startBy
@@ -128,6 +129,7 @@ marked = record {
   second = refl;
   third = refl;
   fourth = refl;
+  fourth-queued = refl;
   fifth = refl;
   sixth = refl;
   module-0 = refl;
