@@ -44,9 +44,9 @@ use Rattle.agreement.specs.Compared as C
 use Rattle.agreement.specs.Demand.{Taken, Progress, Demand}
 use Rattle.agreement.proofs.Names.{messageOf, choiceOf}
 use Rattle.agreement.proofs.Fit.{SameModule, holderOf, module-fits, supervisor-fits}
-use Rattle.agreement.proofs.Steps.{afterOf, after-is}
+use Rattle.agreement.proofs.Steps.{afterOf, after-is, step-absent, serve-absent}
 use Rattle.agreement.proofs.Deliveries.{read-back, bid-supervisor, bid-call, permit-module, permit-call, release-supervisor, release-call}
-use Rattle.agreement.proofs.Simulation.{bytesOf, Sim, actOf, seenOf, pickedOf, pick-map, module-call, supervisor-call}
+use Rattle.agreement.proofs.Simulation.{bytesOf, Sim, actOf, seenOf, pickedOf, pick-map, module-call, supervisor-call, reply-absent}
 use Rattle.agreement.proofs.Laws.{laws}
 use Rattle.agreement.proofs.Start.{start-sim, start-same}
 use Rattle.agreement.proofs.Whole.{ran}
@@ -229,5 +229,9 @@ demand image bytes plan acts n =
       module-fits = λ m l. module-fits rs L _ _ (w .inv) m _ l (r .sim .modules m l);
       supervisor-fits = λ v l. supervisor-fits rs L _ _ (w .inv) v _ l (r .sim .supervisors v l);
       module-steps = λ m b k o l c q. module-accepts rs m _ _ k o (sym (ap (λ z. z .answer) (module-call image plan L _ _ _ (r .sim) (w .inv) m b l c)) ∙ q);
+      absent-module-step = λ m b l. step-absent rs m _ (verdictOf image) b plan l;
+      absent-supervisor-step = λ v b l. serve-absent rs v _ (verdictOf image) b plan l;
+      absent-respond = λ m e l. reply-absent image plan L _ _ _ (r .sim) (w .inv) m _ l;
+      absent-tick = λ m f l. reply-absent image plan L _ _ _ (r .sim) (w .inv) m _ l;
       supervisor-steps = λ v b k o l c q. supervisor-accepts _ _ k o (sym (ap (λ z. z .answer) (supervisor-call image plan L _ _ _ (r .sim) (w .inv) v b l c)) ∙ q);
     }

@@ -1,5 +1,5 @@
 -- Demand 3, of the calls on a plan image: "one claim over every whole list, not one per call".
-use Prim.Native.Nat.{ℕ, _<_}
+use Prim.Native.Nat.{ℕ, _≤_, _<_}
 use mathlib.Core.Path.{_≡_}
 use mathlib.Core.Logic.{_≢_}
 use mathlib.Core.Bool.{true}
@@ -9,6 +9,7 @@ use lib.ListN.{length, getD}
 use Rattle.reader.specs.Walk.{recordsOf}
 use Rattle.rules.specs.LookUp.{modulesOf, supervisorsOf}
 use Rattle.rules.specs.Check.{IsPlan}
+use Rattle.water.specs.declared.Flow.{Flow}
 use Rattle.modules.specs.declared.Called.the-variants.{Done}
 use Rattle.device.specs.Device.{startCall}
 use Rattle.messages.specs.Message.{parse}
@@ -24,7 +25,7 @@ use Rattle.protocol.specs.Generic.{Picked, pick}
 use Rattle.protocol.specs.System.{replay, startPosition, Legal}
 use Rattle.protocol.specs.Language.{Supervised}
 use Rattle.agreement.specs.PlanOf.{planOf}
-use Rattle.agreement.specs.System.{System, Act, AllLent, start, run}
+use Rattle.agreement.specs.System.{System, Act, bufferLength, AllLent, start, run}
 use Rattle.agreement.specs.Compared.{seen, fed, deviceSeen, recordOf, commandsOf}
 
 -- a message under way would be accepted by the party that it names
@@ -37,9 +38,9 @@ Taken image D bytes Misshapen = ⊥
 -- "some message under way would be accepted or some module or supervisor step would change a state"
 pub data Progress (image : List ℕ) (D : System) : Type 0 where
   by-delivery : (k : ℕ) (q : Picked (List ℕ)) → pick k (D .underWay) ≡ some q → Taken image D (q .item) (parse (q .item)) → Progress image D
-  by-module-step : (m : ℕ) (b : List ℕ) → m < modulesOf (recordsOf image) → length b ≡ 128
+  by-module-step : (m : ℕ) (b : List ℕ) → m < modulesOf (recordsOf image) → length b ≡ bufferLength
       → M.moduleStep image m (D .moduleAt m) b .state ≢ D .moduleAt m → Progress image D
-  by-supervisor-step : (v : ℕ) (b : List ℕ) → v < supervisorsOf (recordsOf image) → length b ≡ 128
+  by-supervisor-step : (v : ℕ) (b : List ℕ) → v < supervisorsOf (recordsOf image) → length b ≡ bufferLength
       → S.supervisorStep image v (D .supervisorAt v) b .state ≢ D .supervisorAt v → Progress image D
 
 pub record Demand3 (image : List ℕ) (acts : List Act) : Type 0 where
@@ -66,11 +67,20 @@ pub record Demand3 (image : List ℕ) (acts : List Act) : Type 0 where
   pub module-fits : (m : ℕ) → m < modulesOf (recordsOf image) → M.moduleFits (recordsOf image) m (run image (start image) acts .moduleAt m) ≡ true
   pub supervisor-fits : (v : ℕ) → v < supervisorsOf (recordsOf image) → S.supervisorFits (recordsOf image) v (run image (start image) acts .supervisorAt v) ≡ true
   -- no step of a module or a supervisor of the plan is refused
-  pub module-steps : (m : ℕ) (b : List ℕ) (n o : ℕ) → m < modulesOf (recordsOf image) → length b ≡ 128
+  pub module-steps : (m : ℕ) (b : List ℕ) (n o : ℕ) → m < modulesOf (recordsOf image) → length b ≡ bufferLength
       → M.moduleStep image m (run image (start image) acts .moduleAt m) b .answer ≢ Refused n o
-  pub supervisor-steps : (v : ℕ) (b : List ℕ) (n o : ℕ) → v < supervisorsOf (recordsOf image) → length b ≡ 128
+  pub supervisor-steps : (v : ℕ) (b : List ℕ) (n o : ℕ) → v < supervisorsOf (recordsOf image) → length b ≡ bufferLength
       → S.supervisorStep image v (run image (start image) acts .supervisorAt v) b .answer ≢ SupervisorRefused n o
+  -- "Calls for a party that the plan lacks are merely refused": by 11, with the state and the buffer as they were
+  pub absent-module-step : (m : ℕ) (b : List ℕ) → modulesOf (recordsOf image) ≤ m
+      → M.moduleStep image m (run image (start image) acts .moduleAt m) b ≡ M.stepRefused (run image (start image) acts .moduleAt m) b 11 0
+  pub absent-supervisor-step : (v : ℕ) (b : List ℕ) → supervisorsOf (recordsOf image) ≤ v
+      → S.supervisorStep image v (run image (start image) acts .supervisorAt v) b ≡ S.stepRefused (run image (start image) acts .supervisorAt v) b 11 0
+  pub absent-respond : (m e : ℕ) → modulesOf (recordsOf image) ≤ m
+      → M.moduleRespond image m (run image (start image) acts .moduleAt m) e ≡ M.callRefused (run image (start image) acts .moduleAt m) 11 0
+  pub absent-tick : (m : ℕ) (f : Flow) → modulesOf (recordsOf image) ≤ m
+      → M.moduleTick image m (run image (start image) acts .moduleAt m) f ≡ M.callRefused (run image (start image) acts .moduleAt m) 11 0
 
--- for every accepted image and every list of calls with 128-byte buffers
+-- for every accepted image and every list of calls with buffers of that length
 abbrev pub Demand : Type 0
 Demand = (image : List ℕ) → ((i : ℕ) → getD image i 0 < 256) → IsPlan image → (acts : List Act) → AllLent acts → Demand3 image acts

@@ -35,9 +35,12 @@ pub data Act : Type 0 where
   tick : ℕ → Flow → Act
 
 -- "128-byte output buffers"
+abbrev pub bufferLength : ℕ
+bufferLength = 128
+
 abbrev pub Lent : Act → Type 0
-Lent (moduleStep m b) = length b ≡ 128
-Lent (supervisorStep v b) = length b ≡ 128
+Lent (moduleStep m b) = length b ≡ bufferLength
+Lent (supervisorStep v b) = length b ≡ bufferLength
 Lent (deliver k) = Unit {0}
 Lent (respond m e) = Unit {0}
 Lent (tick m f) = Unit {0}
