@@ -171,10 +171,10 @@ module _ (image : List ℕ) (plan : IsPlan image) (L : Laws (planOf (recordsOf i
   -- the call's whole answer, by the rules' choice
   pub module-call : (m : ℕ) (b : List ℕ) → m < modulesOf rs → length b ≡ 128
       → M.moduleStep image m (B .moduleAt m) b
-      ≡ record { answer = M.answerBy rs m (B .moduleAt m) (choiceOf (R.choice (planOf rs) m (D .moduleAt m))); state = M.stateBy rs m (B .moduleAt m) (choiceOf (R.choice (planOf rs) m (D .moduleAt m))); buffer = written (M.stepBytes rs m (B .moduleAt m) (choiceOf (R.choice (planOf rs) m (D .moduleAt m)))) b; sent = M.sentBy rs m (B .moduleAt m) (choiceOf (R.choice (planOf rs) m (D .moduleAt m))) }
+      ≡ record { answer = M.answerBy rs m (B .moduleAt m) (choiceOf (R.choice (planOf rs) m (D .moduleAt m))); state = M.stateBy rs m (B .moduleAt m) (choiceOf (R.choice (planOf rs) m (D .moduleAt m))); buffer = written (M.stepBytes rs m (B .moduleAt m) (choiceOf (R.choice (planOf rs) m (D .moduleAt m)))) b }
   module-call m b l n =
       step-is rs m (B .moduleAt m) (verdictOf image) b plan l (module-fits rs L D O I m (B .moduleAt m) l (s .modules m l)) n
-      ∙ ap (λ (c : M.Choice). record { answer = M.answerBy rs m (B .moduleAt m) c; state = M.stateBy rs m (B .moduleAt m) c; buffer = written (M.stepBytes rs m (B .moduleAt m) c) b; sent = M.sentBy rs m (B .moduleAt m) c })
+      ∙ ap (λ (c : M.Choice). record { answer = M.answerBy rs m (B .moduleAt m) c; state = M.stateBy rs m (B .moduleAt m) c; buffer = written (M.stepBytes rs m (B .moduleAt m) c) b })
       (choice-is rs L m (B .moduleAt m) (D .moduleAt m) (s .modules m l))
 
   pub module-done : (m : ℕ) (b : List ℕ) → length b ≡ 128 → Done image B D (A.moduleStep m b)
@@ -219,10 +219,10 @@ module _ (image : List ℕ) (plan : IsPlan image) (L : Laws (planOf (recordsOf i
 
   pub supervisor-call : (v : ℕ) (b : List ℕ) → v < supervisorsOf rs → length b ≡ 128
       → S.supervisorStep image v (B .supervisorAt v) b
-      ≡ record { answer = S.answerBy (S.sentBytes (S.sentTo rs v (B .supervisorAt v) (R.served (D .supervisorAt v)))) (R.served (D .supervisorAt v)); state = S.stateAfter (B .supervisorAt v) (R.served (D .supervisorAt v)); buffer = written (S.sentBytes (S.sentTo rs v (B .supervisorAt v) (R.served (D .supervisorAt v)))) b; sent = S.sentTo rs v (B .supervisorAt v) (R.served (D .supervisorAt v)) }
+      ≡ record { answer = S.answerBy (S.sentBytes (S.sentTo rs v (B .supervisorAt v) (R.served (D .supervisorAt v)))) (R.served (D .supervisorAt v)); state = S.stateAfter (B .supervisorAt v) (R.served (D .supervisorAt v)); buffer = written (S.sentBytes (S.sentTo rs v (B .supervisorAt v) (R.served (D .supervisorAt v)))) b }
   supervisor-call v b l n =
       serve-is rs v (B .supervisorAt v) (verdictOf image) b plan l (supervisor-fits rs L D O I v (B .supervisorAt v) l (s .supervisors v l)) n
-      ∙ ap (λ (t : Option ℕ). record { answer = S.answerBy (S.sentBytes (S.sentTo rs v (B .supervisorAt v) t)) t; state = S.stateAfter (B .supervisorAt v) t; buffer = written (S.sentBytes (S.sentTo rs v (B .supervisorAt v) t)) b; sent = S.sentTo rs v (B .supervisorAt v) t })
+      ∙ ap (λ (t : Option ℕ). record { answer = S.answerBy (S.sentBytes (S.sentTo rs v (B .supervisorAt v) t)) t; state = S.stateAfter (B .supervisorAt v) t; buffer = written (S.sentBytes (S.sentTo rs v (B .supervisorAt v) t)) b })
       (served-is rs v (B .supervisorAt v) (D .supervisorAt v) (s .supervisors v l))
 
   pub supervisor-done : (v : ℕ) (b : List ℕ) → length b ≡ 128 → Done image B D (A.supervisorStep v b)
@@ -243,7 +243,7 @@ module _ (image : List ℕ) (plan : IsPlan image) (L : Laws (planOf (recordsOf i
   unfolding M.replyBy
   reply-is m r l = rw (plan, lt-ltb m (modulesOf rs) l, module-fits rs L D O I m (B .moduleAt m) l (s .modules m l))
 
-  reply-absent : (m : ℕ) (r : Replied) → modulesOf rs ≤ m → M.replyBy (verdictOf image) rs m (B .moduleAt m) r ≡ M.callRefused (B .moduleAt m) 11 0
+  pub reply-absent : (m : ℕ) (r : Replied) → modulesOf rs ≤ m → M.replyBy (verdictOf image) rs m (B .moduleAt m) r ≡ M.callRefused (B .moduleAt m) 11 0
   unfolding M.replyBy
   reply-absent m r l = rw (plan, le-ltb m (modulesOf rs) l)
 

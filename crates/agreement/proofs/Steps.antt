@@ -73,7 +73,7 @@ module _ (rs : List Record) (m : ℕ) (x : Module) where
   -- the whole answer of an accepted step
   pub step-is : (w : Verdict) (b : List ℕ) → w ≡ Accepted → m < modulesOf rs → M.moduleFits rs m x ≡ true → length b ≡ 128
       → M.stepBy w rs m x b
-      ≡ record { answer = M.answerBy rs m x (M.choice rs m x); state = M.stateBy rs m x (M.choice rs m x); buffer = written (M.stepBytes rs m x (M.choice rs m x)) b; sent = M.sentBy rs m x (M.choice rs m x) }
+      ≡ record { answer = M.answerBy rs m x (M.choice rs m x); state = M.stateBy rs m x (M.choice rs m x); buffer = written (M.stepBytes rs m x (M.choice rs m x)) b }
   unfolding M.stepBy M.stepIn
   step-is w b a l f n =
       let r : ltb (length b) (length (M.stepBytes rs m x (M.choice rs m x))) ≡ false = le-ltb (length b) (length (M.stepBytes rs m x (M.choice rs m x))) (omega (arith, step-room (M.choice rs m x))) in
@@ -135,7 +135,7 @@ module _ (rs : List Record) (v : ℕ) (x : Supervisor) where
 
   pub serve-is : (w : Verdict) (b : List ℕ) → w ≡ Accepted → v < supervisorsOf rs → S.supervisorFits rs v x ≡ true → length b ≡ 128
       → S.stepBy w rs v x b
-      ≡ record { answer = S.answerBy (S.sentBytes (S.sentTo rs v x (S.served x))) (S.served x); state = S.stateAfter x (S.served x); buffer = written (S.sentBytes (S.sentTo rs v x (S.served x))) b; sent = S.sentTo rs v x (S.served x) }
+      ≡ record { answer = S.answerBy (S.sentBytes (S.sentTo rs v x (S.served x))) (S.served x); state = S.stateAfter x (S.served x); buffer = written (S.sentBytes (S.sentTo rs v x (S.served x))) b }
   unfolding S.stepBy S.stepIn
   serve-is w b a l f n =
       let r : ltb (length b) (length (S.sentBytes (S.sentTo rs v x (S.served x)))) ≡ false = le-ltb (length b) (length (S.sentBytes (S.sentTo rs v x (S.served x)))) (omega (arith, serve-room (S.served x))) in

@@ -30,3 +30,8 @@ parse bs =
     cond (shaped 0x01 3 bs) (Whole (Bid (getD bs 1 0) (getD bs 2 0)))
     (cond (shaped 0x02 11 bs) (Whole (Permit (getD bs 1 0) (getD bs 2 0) (wordAt bs 3)))
     (cond (shaped 0x03 4 bs) (Whole (Release (getD bs 1 0) (getD bs 2 0) (getD bs 3 0))) Misshapen))
+
+-- 10 is "message .. misshapen"; 0 for a message
+abbrev pub parsedNumber : Parsed → ℕ
+parsedNumber (Whole g) = 0
+parsedNumber Misshapen = 10

@@ -40,7 +40,7 @@ procedureFits rs m p = cond (p .running) (stepFits rs m p) (idleFits p)
 unfoldable pub ownFits : List Record → ℕ → Own → Bool
 ownFits rs m own = moduleState rs m (own .state) && queueFits rs m own && procedureFits rs m (own .procedure)
 
--- "Slots of a state that the plan lacks" hold 0
+-- the slot of a module that the plan lacks holds 0
 unfoldable pub ownEmpty : Own → Bool
 ownEmpty own =
     eqb (own .state) 0 && eqb (own .length) 0 && every (λ x. eqb x 0) (own .queue) && not (own .procedure .running) && idleFits (own .procedure)

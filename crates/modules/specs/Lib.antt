@@ -2,3 +2,4 @@ pub mod Queue
 pub mod Procedure
 pub mod Turn
 pub mod Fits
+pub mod Numbers

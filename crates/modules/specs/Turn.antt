@@ -18,8 +18,7 @@ use Rattle.modules.specs.Procedure.{idle, arriveAt}
 abbrev pub moved : Own → ℕ → Procedure → Own
 moved own st p = record { state = st; queue = own .queue; length = own .length; procedure = p; outputs = own .outputs }
 
--- "1. If its response queue holds anything, the head is removed. If the module has a move by it, that event fires; if not, the turn ends
--- as stray."
+-- "If the module has a move by it, that event fires; if not, the turn ends as stray."
 unfoldable pub byResponse : Own → ℕ → Option ℕ → Turned
 byResponse own e (some t) = record { turn = Event e; own = moved own t (own .procedure) }
 byResponse own e none = record { turn = Stray e; own = own }
@@ -29,15 +28,17 @@ unfoldable pub byCommand : List Record → ℕ → Own → ℕ → Option ℕ �
 byCommand rs m own e (some t) = record { turn = Event e; own = moved own t (arriveAt rs e 0) }
 byCommand rs m own e none = record { turn = Nothing; own = own }
 
--- "2. Otherwise, if its procedure is idle, the lowest-numbered controllable event fires that has a move here and stands in no shown mask."
+-- a "controllable event .. that has a move here and stands in no shown mask", k being the union of the masks
 unfoldable pub enabled : List Record → ℕ → ℕ → ℕ → ℕ → Bool
 enabled rs m k st e = controllable rs e && listed (moduleMove rs m st e) && not (bit k e)
 
--- "3. Otherwise none."
+-- the event chosen fires, if there is one
 unfoldable pub byChoice : List Record → ℕ → Own → Option ℕ → Turned
 byChoice rs m own (some e) = byCommand rs m own e (moduleMove rs m (own .state) e)
 byChoice rs m own none = record { turn = Nothing; own = own }
 
+-- "1. If its response queue holds anything, the head is removed. .. 2. Otherwise, if its procedure is idle, the lowest-numbered controllable
+-- event fires that has a move here and stands in no shown mask. 3. Otherwise none."
 unfoldable pub turnOn : List Record → ℕ → ℕ → Own → List ℕ → Turned
 turnOn rs m k own (e ∷ q) = byResponse (withQueue own q) e (moduleMove rs m (own .state) e)
 turnOn rs m k own [] =

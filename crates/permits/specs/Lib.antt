@@ -1,3 +1,4 @@
 pub mod Names
 pub mod Module
 pub mod Supervisor
+pub mod Numbers

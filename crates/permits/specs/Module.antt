@@ -25,12 +25,13 @@ use Rattle.modules.specs.declared.Called.the-variants.{Done, Refused as CallRef
 use Rattle.modules.specs.Procedure.{idle, calledBy, tickOf, respondOf}
 use Rattle.modules.specs.Turn.{turnOf, wish, startOwn}
 use Rattle.modules.specs.Fits.{ownFits}
-use Rattle.messages.specs.Message.{noEvent, messageBytes, parse}
+use Rattle.messages.specs.Message.{noEvent, messageBytes, parse, parsedNumber}
 use Rattle.messages.specs.declared.Message.{Message}
 use Rattle.messages.specs.declared.Message.the-variants.{Bid, Permit, Release}
 use Rattle.messages.specs.declared.Parsed.{Parsed}
 use Rattle.messages.specs.declared.Parsed.the-variants.{Whole, Misshapen}
 use Rattle.permits.specs.declared.Module.{Module}
+use Rattle.permits.specs.declared.ModuleCalled.{ModuleCalled}
 use Rattle.permits.specs.declared.Stepped.{Stepped}
 use Rattle.permits.specs.declared.Stepped.the-variants.{Turned as Turns, Bids, Waits, Refused as StepRefused}
 use Rattle.permits.specs.Names.{named, short, written}
@@ -114,22 +115,22 @@ stateBy rs m x takesTurn = afterTurn x (turnTaken rs m x .own)
 stateBy rs m x (bidsTo v) = afterBid x
 stateBy rs m x waits = x
 
--- a whole call: its answer, the state after it, the buffer's final contents, and the messages sent
+-- a whole call: its answer, the state after it, and the buffer's final contents
 pub record StepCall : Type 0 where
   pub answer : Stepped
   pub state : Module
   pub buffer : List ℕ
-  pub sent : List Message
 
 abbrev pub stepRefused : Module → List ℕ → ℕ → ℕ → StepCall
-stepRefused x b n o = record { answer = StepRefused n o; state = x; buffer = b; sent = [] }
+stepRefused x b n o = record { answer = StepRefused n o; state = x; buffer = b }
 
--- the smallest number that applies: 11 for a module that the plan lacks, which has no state to judge; then 9; then 15
+-- 15, "output buffer shorter than the answer"
 unfoldable pub stepIn : List Record → ℕ → Module → List ℕ → Choice → StepCall
 stepIn rs m x b c =
     cond (short (stepBytes rs m x c) b) (stepRefused x b 15 0)
-    (record { answer = answerBy rs m x c; state = stateBy rs m x c; buffer = written (stepBytes rs m x c) b; sent = sentBy rs m x c })
+    (record { answer = answerBy rs m x c; state = stateBy rs m x c; buffer = written (stepBytes rs m x c) b })
 
+-- the smallest number that applies: 11 for a module that the plan lacks, which has no state to judge; then 9; then 15
 unfoldable pub stepBy : Verdict → List Record → ℕ → Module → List ℕ → StepCall
 stepBy Accepted rs m x b =
     cond (ltb m (modulesOf rs)) (cond (moduleFits rs m x) (stepIn rs m x b (choice rs m x)) (stepRefused x b 9 0)) (stepRefused x b 11 0)
@@ -139,11 +140,7 @@ abbrev pub moduleStep : List ℕ → ℕ → Module → List ℕ → StepCall
 moduleStep image m x b = stepBy (verdictOf image) (recordsOf image) m x b
 
 -- a call without a buffer
-pub record ModuleCall : Type 0 where
-  pub answer : Called
-  pub state : Module
-
-abbrev pub callRefused : Module → ℕ → ℕ → ModuleCall
+abbrev pub callRefused : Module → ℕ → ℕ → ModuleCalled
 callRefused x n o = record { answer = CallRefused n o; state = x }
 
 -- "A module accepts a permit only from the supervisor it has a bid with, and takes its mask as it is." The bid is with the lowest neighbour
@@ -159,41 +156,41 @@ abbrev pub afterPermit : Module → ℕ → ℕ → Module
 afterPermit x v k = record { own = x .own; held = putBit (x .held) v true; received = bitOr (x .received) k; bid = false }
 
 -- "A message that names another party than the one given it, or is of a kind that party never takes, is 12."
-unfoldable pub takenBy : List Record → ℕ → Module → Message → ModuleCall
+unfoldable pub takenBy : List Record → ℕ → Module → Message → ModuleCalled
 takenBy rs m x (Bid n v) = callRefused x 12 0
 takenBy rs m x (Permit v n k) = cond (eqb n m && bidWith rs m x v) (record { answer = Done; state = afterPermit x v k }) (callRefused x 12 0)
 takenBy rs m x (Release n v e) = callRefused x 12 0
 
 -- 9, then 10, then 11, then 12
-unfoldable pub deliverIn : List Record → ℕ → Module → Parsed → ModuleCall
-deliverIn rs m x Misshapen = callRefused x 10 0
+unfoldable pub deliverIn : List Record → ℕ → Module → Parsed → ModuleCalled
+deliverIn rs m x Misshapen = callRefused x (parsedNumber Misshapen) 0
 deliverIn rs m x (Whole g) = cond (named rs g) (takenBy rs m x g) (callRefused x 11 0)
 
 -- a module that the plan lacks has no state to judge: 10 or 11
-unfoldable pub absent : Module → Parsed → ModuleCall
-absent x Misshapen = callRefused x 10 0
+unfoldable pub absent : Module → Parsed → ModuleCalled
+absent x Misshapen = callRefused x (parsedNumber Misshapen) 0
 absent x (Whole g) = callRefused x 11 0
 
-unfoldable pub deliverBy : Verdict → List Record → ℕ → Module → Parsed → ModuleCall
+unfoldable pub deliverBy : Verdict → List Record → ℕ → Module → Parsed → ModuleCalled
 deliverBy Accepted rs m x g = cond (ltb m (modulesOf rs)) (cond (moduleFits rs m x) (deliverIn rs m x g) (callRefused x 9 0)) (absent x g)
 deliverBy (Refused n o) rs m x g = callRefused x n o
 
-abbrev pub moduleDeliver : List ℕ → ℕ → Module → List ℕ → ModuleCall
+abbrev pub moduleDeliver : List ℕ → ℕ → Module → List ℕ → ModuleCalled
 moduleDeliver image m x bytes = deliverBy (verdictOf image) (recordsOf image) m x (parse bytes)
 
 -- a response and a tick, as on one device
 abbrev pub withOwn : Module → Own → Module
 withOwn x own = record { own = own; held = x .held; received = x .received; bid = x .bid }
 
-unfoldable pub replyBy : Verdict → List Record → ℕ → Module → Replied → ModuleCall
+unfoldable pub replyBy : Verdict → List Record → ℕ → Module → Replied → ModuleCalled
 replyBy Accepted rs m x r =
     cond (ltb m (modulesOf rs)) (cond (moduleFits rs m x) (record { answer = calledBy (r .reply); state = withOwn x (r .own) }) (callRefused x 9 0)) (callRefused x 11 0)
 replyBy (Refused n o) rs m x r = callRefused x n o
 
-abbrev pub moduleRespond : List ℕ → ℕ → Module → ℕ → ModuleCall
+abbrev pub moduleRespond : List ℕ → ℕ → Module → ℕ → ModuleCalled
 moduleRespond image m x e = replyBy (verdictOf image) (recordsOf image) m x (respondOf (recordsOf image) m e (x .own))
 
-abbrev pub moduleTick : List ℕ → ℕ → Module → Flow → ModuleCall
+abbrev pub moduleTick : List ℕ → ℕ → Module → Flow → ModuleCalled
 moduleTick image m x f = replyBy (verdictOf image) (recordsOf image) m x (tickOf (recordsOf image) f (x .own))
 
 -- "At the start all are in their initial states, permits are home, nothing is noted, queued or bid"
@@ -203,9 +200,9 @@ emptyModule = record { own = record { state = 0; queue = replicate 8 0; length =
 abbrev pub startModule : List Record → ℕ → Module
 startModule rs m = record { own = startOwn rs m; held = 0; received = 0; bid = false }
 
-unfoldable pub startBy : Verdict → List Record → ℕ → ModuleCall
+unfoldable pub startBy : Verdict → List Record → ℕ → ModuleCalled
 startBy Accepted rs m = cond (ltb m (modulesOf rs)) (record { answer = Done; state = startModule rs m }) (callRefused emptyModule 11 0)
 startBy (Refused n o) rs m = callRefused emptyModule n o
 
-abbrev pub moduleStart : List ℕ → ℕ → ModuleCall
+abbrev pub moduleStart : List ℕ → ℕ → ModuleCalled
 moduleStart image m = startBy (verdictOf image) (recordsOf image) m

@@ -15,12 +15,13 @@ use Rattle.rules.specs.declared.Verdict.the-variants.{Accepted, Refused}
 use Rattle.plan.specs.Plan.{supervisorMove, supervisorInitial, shown, stateBy}
 use Rattle.modules.specs.declared.Called.{Called}
 use Rattle.modules.specs.declared.Called.the-variants.{Done, Refused as CallRefused}
-use Rattle.messages.specs.Message.{noEvent, messageBytes, parse}
+use Rattle.messages.specs.Message.{noEvent, messageBytes, parse, parsedNumber}
 use Rattle.messages.specs.declared.Message.{Message}
 use Rattle.messages.specs.declared.Message.the-variants.{Bid, Permit, Release}
 use Rattle.messages.specs.declared.Parsed.{Parsed}
 use Rattle.messages.specs.declared.Parsed.the-variants.{Whole, Misshapen}
 use Rattle.permits.specs.declared.Supervisor.{Supervisor}
+use Rattle.permits.specs.declared.SupervisorCalled.{SupervisorCalled}
 use Rattle.permits.specs.declared.Holder.{Holder}
 use Rattle.permits.specs.declared.Holder.the-variants.{Home, Out}
 use Rattle.permits.specs.declared.Served.{Served}
@@ -61,6 +62,7 @@ unfoldable pub sentTo : List Record → ℕ → Supervisor → Option ℕ → Li
 sentTo rs v y none = []
 sentTo rs v y (some m) = Permit v m (shown rs v (y .state)) ∷ []
 
+-- one message at most
 unfoldable pub sentBytes : List Message → List ℕ
 sentBytes [] = []
 sentBytes (g ∷ gs) = messageBytes g
@@ -73,20 +75,19 @@ unfoldable pub stateAfter : Supervisor → Option ℕ → Supervisor
 stateAfter y none = y
 stateAfter y (some m) = afterSend y m
 
--- a whole call: its answer, the state after it, the buffer's final contents, and the messages sent
+-- a whole call: its answer, the state after it, and the buffer's final contents
 pub record ServeCall : Type 0 where
   pub answer : Served
   pub state : Supervisor
   pub buffer : List ℕ
-  pub sent : List Message
 
 abbrev pub stepRefused : Supervisor → List ℕ → ℕ → ℕ → ServeCall
-stepRefused y b n o = record { answer = StepRefused n o; state = y; buffer = b; sent = [] }
+stepRefused y b n o = record { answer = StepRefused n o; state = y; buffer = b }
 
 unfoldable pub stepIn : List Record → ℕ → Supervisor → List ℕ → Option ℕ → ServeCall
 stepIn rs v y b t =
     cond (short (sentBytes (sentTo rs v y t)) b) (stepRefused y b 15 0)
-    (record { answer = answerBy (sentBytes (sentTo rs v y t)) t; state = stateAfter y t; buffer = written (sentBytes (sentTo rs v y t)) b; sent = sentTo rs v y t })
+    (record { answer = answerBy (sentBytes (sentTo rs v y t)) t; state = stateAfter y t; buffer = written (sentBytes (sentTo rs v y t)) b })
 
 unfoldable pub stepBy : Verdict → List Record → ℕ → Supervisor → List ℕ → ServeCall
 stepBy Accepted rs v y b =
@@ -97,11 +98,7 @@ abbrev pub supervisorStep : List ℕ → ℕ → Supervisor → List ℕ → Ser
 supervisorStep image v y b = stepBy (verdictOf image) (recordsOf image) v y b
 
 -- a call without a buffer
-pub record SupervisorCall : Type 0 where
-  pub answer : Called
-  pub state : Supervisor
-
-abbrev pub callRefused : Supervisor → ℕ → ℕ → SupervisorCall
+abbrev pub callRefused : Supervisor → ℕ → ℕ → SupervisorCalled
 callRefused y n o = record { answer = CallRefused n o; state = y }
 
 -- "a bid is noted; a second noted bid of that module is 12"
@@ -120,24 +117,24 @@ heldBy Home m = false
 heldBy (Out n) m = eqb n m
 
 -- "A message that names another party than the one given it, or is of a kind that party never takes, is 12."
-unfoldable pub takenBy : List Record → ℕ → Supervisor → Message → SupervisorCall
+unfoldable pub takenBy : List Record → ℕ → Supervisor → Message → SupervisorCalled
 takenBy rs v y (Bid m w) = cond (eqb w v && not (bit (y .noted) m)) (record { answer = Done; state = afterNote y m }) (callRefused y 12 0)
 takenBy rs v y (Permit w m k) = callRefused y 12 0
 takenBy rs v y (Release m w e) = cond (eqb w v && heldBy (y .holder) m) (record { answer = Done; state = afterRelease rs v y e }) (callRefused y 12 0)
 
-unfoldable pub deliverIn : List Record → ℕ → Supervisor → Parsed → SupervisorCall
-deliverIn rs v y Misshapen = callRefused y 10 0
+unfoldable pub deliverIn : List Record → ℕ → Supervisor → Parsed → SupervisorCalled
+deliverIn rs v y Misshapen = callRefused y (parsedNumber Misshapen) 0
 deliverIn rs v y (Whole g) = cond (named rs g) (takenBy rs v y g) (callRefused y 11 0)
 
-unfoldable pub absent : Supervisor → Parsed → SupervisorCall
-absent y Misshapen = callRefused y 10 0
+unfoldable pub absent : Supervisor → Parsed → SupervisorCalled
+absent y Misshapen = callRefused y (parsedNumber Misshapen) 0
 absent y (Whole g) = callRefused y 11 0
 
-unfoldable pub deliverBy : Verdict → List Record → ℕ → Supervisor → Parsed → SupervisorCall
+unfoldable pub deliverBy : Verdict → List Record → ℕ → Supervisor → Parsed → SupervisorCalled
 deliverBy Accepted rs v y g = cond (ltb v (supervisorsOf rs)) (cond (supervisorFits rs v y) (deliverIn rs v y g) (callRefused y 9 0)) (absent y g)
 deliverBy (Refused n o) rs v y g = callRefused y n o
 
-abbrev pub supervisorDeliver : List ℕ → ℕ → Supervisor → List ℕ → SupervisorCall
+abbrev pub supervisorDeliver : List ℕ → ℕ → Supervisor → List ℕ → SupervisorCalled
 supervisorDeliver image v y bytes = deliverBy (verdictOf image) (recordsOf image) v y (parse bytes)
 
 -- "permits are home, nothing is noted"; "the last served (15 at the start)"
@@ -147,9 +144,9 @@ emptySupervisor = record { state = 0; noted = 0; holder = Home; last = 0 }
 abbrev pub startSupervisor : List Record → ℕ → Supervisor
 startSupervisor rs v = record { state = supervisorInitial rs v; noted = 0; holder = Home; last = 15 }
 
-unfoldable pub startBy : Verdict → List Record → ℕ → SupervisorCall
+unfoldable pub startBy : Verdict → List Record → ℕ → SupervisorCalled
 startBy Accepted rs v = cond (ltb v (supervisorsOf rs)) (record { answer = Done; state = startSupervisor rs v }) (callRefused emptySupervisor 11 0)
 startBy (Refused n o) rs v = callRefused emptySupervisor n o
 
-abbrev pub supervisorStart : List ℕ → ℕ → SupervisorCall
+abbrev pub supervisorStart : List ℕ → ℕ → SupervisorCalled
 supervisorStart image v = startBy (verdictOf image) (recordsOf image) v

@@ -1,0 +1,27 @@
+-- Document 01, "Numbers for what is turned down": the number and the offset of a turn's answer, 0 and 0 for a turn taken, and its event.
+use Prim.Native.Nat.{ℕ}
+use mathlib.Core.Option.{Option, none, some}
+use Rattle.modules.specs.declared.Turn.the-variants.{Event, Stray, Nothing}
+use Rattle.device.specs.declared.Turning.{Turning}
+use Rattle.device.specs.declared.Turning.the-variants.{Turned, Refused}
+
+abbrev pub turningNumber : Turning → ℕ
+turningNumber (Turned t) = 0
+turningNumber (Refused n o) = n
+
+abbrev pub turningOffset : Turning → ℕ
+turningOffset (Turned t) = 0
+turningOffset (Refused n o) = o
+
+-- "turn M event E", "turn M stray E" and "turn M none": the event that fired, and the one that was stray
+abbrev pub turningEvent : Turning → Option ℕ
+turningEvent (Turned (Event e)) = some e
+turningEvent (Turned (Stray e)) = none
+turningEvent (Turned Nothing) = none
+turningEvent (Refused n o) = none
+
+abbrev pub turningStray : Turning → Option ℕ
+turningStray (Turned (Event e)) = none
+turningStray (Turned (Stray e)) = some e
+turningStray (Turned Nothing) = none
+turningStray (Refused n o) = none
