@@ -229,6 +229,7 @@ demand image bytes plan acts n =
       module-fits = λ m l. module-fits rs L _ _ (w .inv) m _ l (r .sim .modules m l);
       supervisor-fits = λ v l. supervisor-fits rs L _ _ (w .inv) v _ l (r .sim .supervisors v l);
       module-steps = λ m b k o l c q. module-accepts rs m _ _ k o (sym (ap (λ z. z .answer) (module-call image plan L _ _ _ (r .sim) (w .inv) m b l c)) ∙ q);
+      device-fits = r .device-fits;
       absent-module-step = λ m b l. step-absent rs m _ (verdictOf image) b plan l;
       absent-supervisor-step = λ v b l. serve-absent rs v _ (verdictOf image) b plan l;
       absent-respond = λ m e l. reply-absent image plan L _ _ _ (r .sim) (w .inv) m _ l;

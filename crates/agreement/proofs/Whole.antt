@@ -16,6 +16,7 @@ use Rattle.modules.specs.declared.Own.{Own}
 use Rattle.modules.specs.declared.Replied.{Replied}
 use Rattle.modules.specs.Procedure.{calledBy, respondOf, tickOf}
 use Rattle.modules.specs.Fits.{ownFits}
+use Rattle.device.specs.Device.{deviceFits}
 use Rattle.device.specs.declared.Device.{Device}
 use Rattle.device.specs.declared.Turning.the-variants.{Turned}
 use Rattle.device.specs.Device as Dev
@@ -65,14 +66,15 @@ module _ (rs : List Record) (D : P.System) where
   fed-one (A.tick m f) = when m (R.deviceTicks m f) (unfold moduleOf in refl) (ltb m (modulesOf rs)) refl
 
 -- ---- the one device
-unfoldable deviceRun : List ℕ → Device → List C.DeviceAct → Device
-deviceRun image d [] = d
-deviceRun image d (a ∷ l) = deviceRun image (C.deviceStep image d a) l
-
-seen-append : (image : List ℕ) (d : Device) (l r : List C.DeviceAct) → C.deviceSeen image d (l ++ r) ≡ C.deviceSeen image d l ++ C.deviceSeen image (deviceRun image d l) r
-unfolding C.deviceSeen deviceRun
+seen-append : (image : List ℕ) (d : Device) (l r : List C.DeviceAct) → C.deviceSeen image d (l ++ r) ≡ C.deviceSeen image d l ++ C.deviceSeen image (C.deviceRun image d l) r
+unfolding C.deviceSeen C.deviceRun
 seen-append image d [] r = refl
 seen-append image d (a ∷ l) r = ap (λ (t : List C.Seen). C.deviceActSeen image d a ∷ t) (seen-append image (C.deviceStep image d a) l r)
+
+run-append : (image : List ℕ) (d : Device) (l r : List C.DeviceAct) → C.deviceRun image d (l ++ r) ≡ C.deviceRun image (C.deviceRun image d l) r
+unfolding C.deviceRun
+run-append image d [] r = refl
+run-append image d (a ∷ l) r = run-append image (C.deviceStep image d a) l r
 
 rules-append : (Q : Plan) (O : R.OneDevice) (l r : List R.DeviceAct) → P.deviceSeen Q O (l ++ r) ≡ P.deviceSeen Q O l ++ P.deviceSeen Q (P.deviceRun Q O l) r
 unfolding P.deviceSeen P.deviceRun
@@ -152,7 +154,7 @@ module _ (image : List ℕ) (plan : IsPlan image) (L : Laws (planOf (recordsOf i
 
   -- what a call feeds
   record FedAll (d : Device) (O : R.OneDevice) (os : List R.DeviceAct) : Type 0 where
-    same : Same rs (deviceRun image d (map fedOf os)) (P.deviceRun (planOf rs) O os)
+    same : Same rs (C.deviceRun image d (map fedOf os)) (P.deviceRun (planOf rs) O os)
     seen : C.deviceSeen image d (map fedOf os) ≡ map seenOf (P.deviceSeen (planOf rs) O os)
 
   fed-all : (d : Device) (O : R.OneDevice) (os : List R.DeviceAct) → Same rs d O → AtMostOne rs os
@@ -161,12 +163,12 @@ module _ (image : List ℕ) (plan : IsPlan image) (L : Laws (planOf (recordsOf i
   fed-all d O os s h f = go h
     where
       none-fed : FedAll d O []
-      none-fed = unfold deviceRun P.deviceRun C.deviceSeen P.deviceSeen in (record { same = s; seen = refl })
+      none-fed = unfold C.deviceRun P.deviceRun C.deviceSeen P.deviceSeen in (record { same = s; seen = refl })
 
       one-fed : (x : R.DeviceAct) → os ≡ x ∷ [] → moduleOf x < modulesOf rs → FedAll d O (x ∷ [])
       one-fed x e l =
           let g = fed-act d O x s l (unfold P.deviceRun in (subst (λ (t : List R.DeviceAct). ownFits rs (moduleOf x) (P.deviceRun (planOf rs) O t .owns (moduleOf x)) ≡ true) e (f (moduleOf x) l))) in
-          unfold deviceRun P.deviceRun C.deviceSeen P.deviceSeen in (record { same = g .same; seen = ap (λ (t : C.Seen). t ∷ []) (g .seen) })
+          unfold C.deviceRun P.deviceRun C.deviceSeen P.deviceSeen in (record { same = g .same; seen = ap (λ (t : C.Seen). t ∷ []) (g .seen) })
 
       go : (os ≡ []) ⊎ ((x : R.DeviceAct) × (os ≡ x ∷ []) × (moduleOf x < modulesOf rs)) → FedAll d O os
       go (inl e) = subst (FedAll d O) (sym e) none-fed
@@ -177,17 +179,18 @@ module _ (image : List ℕ) (plan : IsPlan image) (L : Laws (planOf (recordsOf i
     pub sim : Sim rs (A.run image B acts) (P.run (planOf rs) D (map actOf acts))
     pub seen : C.seen image B acts ≡ map seenOf (P.seen (planOf rs) D (map actOf acts))
     pub device : C.deviceSeen image d (C.fed image B acts) ≡ map seenOf (P.deviceSeen (planOf rs) O (P.fed (planOf rs) D (map actOf acts)))
+    pub device-fits : deviceFits rs (C.deviceRun image d (C.fed image B acts)) ≡ true
 
   pub ran : (acts : List A.Act) (B : A.System) (D : P.System) (O : R.OneDevice) (d : Device) → A.AllLent acts → Sim rs B D → Inv (planOf rs) D O → Same rs d O → Ran B D O d acts
   unfolding A.run P.run C.seen P.seen C.deviceSeen P.deviceSeen C.fed P.fed
-  ran [] B D O d n s I e = record { sim = s; seen = refl; device = refl }
+  ran [] B D O d n s I e = record { sim = s; seen = refl; device = refl; device-fits = unfold C.deviceRun in (e .fits) }
   ran (a ∷ l) B D O d n s I e =
       let c = act-done image plan L B D O s I a (n .0) in
       let g = good (planOf rs) L D O I (actOf a) in
       let os : List R.DeviceAct = P.actFed (planOf rs) D (actOf a) in
       let fits : (m : ℕ) → m < modulesOf rs → ownFits rs m (P.deviceRun (planOf rs) O os .owns m) ≡ true = λ m k. sym (ap (ownFits rs m) (g .inv .owns m)) ∙ fits-here (g .inv) m k in
       let h = fed-all d O os e (fed-one rs D a) fits in
-      let r = ran l (A.step image B a) (P.step (planOf rs) D (actOf a)) (P.deviceRun (planOf rs) O os) (deviceRun image d (map fedOf os)) (n .1) (c .sim) (g .inv) (h .same) in
+      let r = ran l (A.step image B a) (P.step (planOf rs) D (actOf a)) (P.deviceRun (planOf rs) O os) (C.deviceRun image d (map fedOf os)) (n .1) (c .sim) (g .inv) (h .same) in
       record {
         sim = r .sim;
         seen = ap₂ _++_ (c .seen) (r .seen) ∙ sym (map-append seenOf (P.actSeen (planOf rs) D (actOf a)) (P.seen (planOf rs) (P.step (planOf rs) D (actOf a)) (map actOf l)));
@@ -197,6 +200,10 @@ module _ (image : List ℕ) (plan : IsPlan image) (L : Laws (planOf (recordsOf i
             ∙ ap₂ _++_ (h .seen) (r .device)
             ∙ sym (map-append seenOf (P.deviceSeen (planOf rs) O os) (P.deviceSeen (planOf rs) (P.deviceRun (planOf rs) O os) (P.fed (planOf rs) (P.step (planOf rs) D (actOf a)) (map actOf l))))
             ∙ ap (map seenOf) (sym (rules-append (planOf rs) O os (P.fed (planOf rs) (P.step (planOf rs) D (actOf a)) (map actOf l))));
+        device-fits =
+            ap (λ (t : List C.DeviceAct). deviceFits rs (C.deviceRun image d (t ++ C.fed image (A.step image B a) l))) (c .fed)
+            ∙ ap (deviceFits rs) (run-append image d (map fedOf os) (C.fed image (A.step image B a) l))
+            ∙ r .device-fits;
       }
     where
       fits-here : {D′ : P.System} {O′ : R.OneDevice} → Inv (planOf rs) D′ O′ → (m : ℕ) → m < modulesOf rs → ownFits rs m (D′ .moduleAt m .own) ≡ true

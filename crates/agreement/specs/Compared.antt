@@ -75,6 +75,10 @@ deviceStep image d (deviceTurn m) = turnCall image d m .device
 deviceStep image d (deviceRespond m e) = respondCall image d m e .device
 deviceStep image d (deviceTick m f) = tickCall image d m f .device
 
+unfoldable pub deviceRun : List ℕ → Device → List DeviceAct → Device
+deviceRun image d [] = d
+deviceRun image d (a ∷ l) = deviceRun image (deviceStep image d a) l
+
 unfoldable pub turningSeen : ℕ → Turning → Own → Seen
 turningSeen m (DeviceTurned t) own = turnSeen m t own
 turningSeen m (DeviceRefused n o) own = refusalSeen m n own

@@ -11,7 +11,7 @@ use Rattle.rules.specs.LookUp.{modulesOf, supervisorsOf}
 use Rattle.rules.specs.Check.{IsPlan}
 use Rattle.water.specs.declared.Flow.{Flow}
 use Rattle.modules.specs.declared.Called.the-variants.{Done}
-use Rattle.device.specs.Device.{startCall}
+use Rattle.device.specs.Device.{deviceFits, startCall}
 use Rattle.messages.specs.Message.{parse}
 use Rattle.messages.specs.declared.Message.the-variants.{Bid, Permit, Release}
 use Rattle.messages.specs.declared.Parsed.{Parsed}
@@ -26,7 +26,7 @@ use Rattle.protocol.specs.System.{replay, startPosition, Legal}
 use Rattle.protocol.specs.Language.{Supervised}
 use Rattle.agreement.specs.PlanOf.{planOf}
 use Rattle.agreement.specs.System.{System, Act, bufferLength, AllLent, start, run}
-use Rattle.agreement.specs.Compared.{seen, fed, deviceSeen, recordOf, commandsOf}
+use Rattle.agreement.specs.Compared.{seen, fed, deviceRun, deviceSeen, recordOf, commandsOf}
 
 -- a message under way would be accepted by the party that it names
 unfoldable pub Taken : List ℕ → System → List ℕ → Parsed → Type 0
@@ -66,6 +66,7 @@ pub record Demand3 (image : List ℕ) (acts : List Act) : Type 0 where
   -- every reached state fits
   pub module-fits : (m : ℕ) → m < modulesOf (recordsOf image) → M.moduleFits (recordsOf image) m (run image (start image) acts .moduleAt m) ≡ true
   pub supervisor-fits : (v : ℕ) → v < supervisorsOf (recordsOf image) → S.supervisorFits (recordsOf image) v (run image (start image) acts .supervisorAt v) ≡ true
+  pub device-fits : deviceFits (recordsOf image) (deviceRun image (startCall image .device) (fed image (start image) acts)) ≡ true
   -- no step of a module or a supervisor of the plan is refused
   pub module-steps : (m : ℕ) (b : List ℕ) (n o : ℕ) → m < modulesOf (recordsOf image) → length b ≡ bufferLength
       → M.moduleStep image m (run image (start image) acts .moduleAt m) b .answer ≢ Refused n o
