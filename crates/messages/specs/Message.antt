@@ -1,6 +1,6 @@
 -- Document 01, "Permits and messages": "Messages: `01` bid (module, supervisor); `02` permit (supervisor, module, 8-byte mask); `03` release
 -- (module, supervisor, event, or FF for no event). Body lengths are 2, 10 and 3, and nothing may follow".
-use Prim.Native.Nat.{ℕ}
+use Prim.Native.Nat.{ℕ, suc}
 use mathlib.Core.List.{List, [], _∷_}
 use mathlib.Core.Bool.{Bool, cond, _&&_}
 use lib.ListN.{length, getD}
@@ -22,14 +22,14 @@ messageBytes (Release m v e) = 0x03 ∷ m ∷ v ∷ e ∷ []
 
 -- the kind 01, 02 or 03 and exactly its body's bytes after it
 abbrev pub shaped : ℕ → ℕ → List ℕ → Bool
-shaped kind body bs = eqb (getD bs 0 0) kind && eqb (length bs) body
+shaped kind body bs = eqb (getD bs 0 0) kind && eqb (length bs) (suc body)
 
 -- 10: "message .. misshapen"
 unfoldable pub parse : List ℕ → Parsed
 parse bs =
-    cond (shaped 0x01 3 bs) (Whole (Bid (getD bs 1 0) (getD bs 2 0)))
-    (cond (shaped 0x02 11 bs) (Whole (Permit (getD bs 1 0) (getD bs 2 0) (wordAt bs 3)))
-    (cond (shaped 0x03 4 bs) (Whole (Release (getD bs 1 0) (getD bs 2 0) (getD bs 3 0))) Misshapen))
+    cond (shaped 0x01 2 bs) (Whole (Bid (getD bs 1 0) (getD bs 2 0)))
+    (cond (shaped 0x02 10 bs) (Whole (Permit (getD bs 1 0) (getD bs 2 0) (wordAt bs 3)))
+    (cond (shaped 0x03 3 bs) (Whole (Release (getD bs 1 0) (getD bs 2 0) (getD bs 3 0))) Misshapen))
 
 -- 10 is "message .. misshapen"; 0 for a message
 abbrev pub parsedNumber : Parsed → ℕ

@@ -7,7 +7,7 @@ use lib.Dec.{eqb, leb, ltb}
 use Rattle.records.specs.declared.Record.{Record}
 use Rattle.rules.specs.LookUp.{found, moduleState}
 use Rattle.plan.specs.Plan.{stepIn, operationOf, operandOf, ownEvent, ownUncontrollable}
-use Rattle.water.specs.Water.{dry, running}
+use Rattle.water.specs.Water.{waterZero, running}
 use Rattle.modules.specs.declared.Own.{Own}
 use Rattle.modules.specs.declared.Procedure.{Procedure}
 use Rattle.modules.specs.Queue.{queueOf}
@@ -23,7 +23,7 @@ queueFits rs m own = leb (own .length) 8 && every (ownUncontrollable rs m) (queu
 
 -- idle: every field 0
 unfoldable pub idleFits : Procedure → Bool
-idleFits p = eqb (p .event) 0 && eqb (p .index) 0 && eqb (p .count) 0 && dry (p .water)
+idleFits p = eqb (p .event) 0 && eqb (p .index) 0 && eqb (p .count) 0 && waterZero (p .water)
 
 -- "at an existing step of an event of that module, fields not used there 0, the target being the plan's and the count or total from 0 to
 -- below it"
@@ -31,7 +31,7 @@ unfoldable pub stepFits : List Record → ℕ → Procedure → Bool
 stepFits rs m p =
     found (stepIn rs (p .event) (p .index)) && ownEvent rs m (p .event)
     && cond (eqb (operationOf rs (p .event) (p .index)) 3) (ltb (p .count) (operandOf rs (p .event) (p .index))) (eqb (p .count) 0)
-    && cond (eqb (operationOf rs (p .event) (p .index)) 4) (running (operandOf rs (p .event) (p .index)) (p .water)) (dry (p .water))
+    && cond (eqb (operationOf rs (p .event) (p .index)) 4) (running (operandOf rs (p .event) (p .index)) (p .water)) (waterZero (p .water))
 
 unfoldable pub procedureFits : List Record → ℕ → Procedure → Bool
 procedureFits rs m p = cond (p .running) (stepFits rs m p) (idleFits p)

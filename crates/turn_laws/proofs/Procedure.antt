@@ -15,14 +15,14 @@ use Rattle.rules.specs.LookUp.{found, moduleState, ownerOf}
 use Rattle.plan.specs.Plan.{ownEvent, stepIn, operationOf, operandOf}
 use Rattle.accepted.specs.Plan.{StepLaw, Sound}
 use Rattle.rules.proofs.Valid.{both}
-use Rattle.water.specs.Water.{noWater, waterOf, dry, running}
+use Rattle.water.specs.Water.{noWater, waterOf, waterZero, running}
 use Rattle.modules.specs.declared.Own.{Own}
 use Rattle.modules.specs.declared.Procedure.{Procedure}
 use Rattle.modules.specs.Procedure.{idle, arriveAt, withProcedure}
 use Rattle.modules.specs.Fits.{queueFits, idleFits, stepFits, procedureFits, ownFits}
 use Rattle.turn_laws.specs.Laws.{operationAt, operandAt, AtStep}
 use Rattle.turn_laws.proofs.Found.{step-law}
-use Rattle.turn_laws.proofs.Water.{dry-none, starts, total-small}
+use Rattle.turn_laws.proofs.Water.{waterZero-none, starts, total-small}
 
 -- a test chosen by another one
 pub chosen : (a b c : Bool) → (a ≡ true → T b) → (a ≡ false → T c) → T (cond a b c)
@@ -71,7 +71,7 @@ pub record StepParts (rs : List Record) (m : ℕ) (p : Procedure) : Type 0 where
   pub there : T (found (stepIn rs (p .event) (p .index)))
   pub own-event : T (ownEvent rs m (p .event))
   pub ticks : T (cond (eqb (operationAt rs p) 3) (ltb (p .count) (operandAt rs p)) (eqb (p .count) 0))
-  pub water : T (cond (eqb (operationAt rs p) 4) (running (operandAt rs p) (p .water)) (dry (p .water)))
+  pub water : T (cond (eqb (operationAt rs p) 4) (running (operandAt rs p) (p .water)) (waterZero (p .water)))
 
 module _ (rs : List Record) (m : ℕ) where
   pub parts : (own : Own) → T (ownFits rs m own) → Parts rs m own
@@ -104,7 +104,7 @@ module _ (rs : List Record) (m : ℕ) where
 
   pub idle-fits : T (procedureFits rs m idle)
   unfolding procedureFits idleFits
-  idle-fits = dry-none
+  idle-fits = waterZero-none
 
   pub with-procedure : (own : Own) (p : Procedure) → Parts rs m own → T (procedureFits rs m p) → Parts rs m (withProcedure own p)
   unfolding queueFits
@@ -124,9 +124,9 @@ module _ (rs : List Record) (plan : Sound rs) (m : ℕ) where
       begun : Procedure
       begun = record { running = true; event = e; index = i; count = 0; water = cond (eqb o 4) (waterOf x) noWater }
 
-      begins : (r : operandInRange o x ≡ true) (b : Bool) → eqb o 4 ≡ b → T (cond b (running x (cond b (waterOf x) noWater)) (dry (cond b (waterOf x) noWater)))
+      begins : (r : operandInRange o x ≡ true) (b : Bool) → eqb o 4 ≡ b → T (cond b (running x (cond b (waterOf x) noWater)) (waterZero (cond b (waterOf x) noWater)))
       begins r true q = starts x (litres-range o x r (eqb-true o 4 q))
-      begins r false q = dry-none
+      begins r false q = waterZero-none
 
       go : (b : Bool) → found (stepIn rs e i) ≡ b → T (procedureFits rs m (cond b begun idle))
       go true f =
@@ -150,5 +150,5 @@ module _ (rs : List Record) (plan : Sound rs) (m : ℕ) where
         owner = eqb→eq (ownerOf rs (p .event)) m (search both);
         step = l;
         ticks = ticks-small o x (p .count) (l .operand) (s .ticks);
-        eighths = λ q. let t = litres-range o x (l .operand) q in total-small x (p .water) t (if-so (eqb o 4) (running x (p .water)) (dry (p .water)) (eq-eqb o 4 q) (s .water));
+        eighths = λ q. let t = litres-range o x (l .operand) q in total-small x (p .water) t (if-so (eqb o 4) (running x (p .water)) (waterZero (p .water)) (eq-eqb o 4 q) (s .water));
       }

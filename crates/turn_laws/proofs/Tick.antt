@@ -12,7 +12,7 @@ use Rattle.records.specs.declared.Record.{Record}
 use Rattle.rules.specs.LookUp.{eventsOf, ownerOf, controllable}
 use Rattle.plan.specs.Plan.{ownEvent, ownUncontrollable}
 use Rattle.accepted.specs.Plan.{Sound}
-use Rattle.water.specs.Water.{flowOk, added, reached, dry, running}
+use Rattle.water.specs.Water.{flowOk, added, reached, waterZero, running}
 use Rattle.water.specs.declared.Flow.{Flow}
 use Rattle.water.specs.declared.Water.{Water}
 use Rattle.modules.specs.declared.Own.{Own}
@@ -125,13 +125,13 @@ module _ (rs : List Record) (own : Own) where
 
       poured-fits : (f : Flow) → eqb o 4 ≡ true → flowOk f ≡ true → reached (added w f) ≡ false → T (ownFits rs m (withWater own (added w f)))
       poured-fits f d k q =
-          let before : T (running x w) = if-so (eqb o 4) (running x w) (dry w) d (now .water) in
+          let before : T (running x w) = if-so (eqb o 4) (running x w) (waterZero w) d (now .water) in
           let after : T (running x (added w f)) = goes-on x w f (litres-range o x (here .step .operand) (eqb-true o 4 d)) before (holds _ k) q in
           stays-at (withWater own (added w f) .procedure) refl (record {
             there = now .there;
             own-event = now .own-event;
             ticks = now .ticks;
-            water = so (eqb o 4) (running x (added w f)) (dry (added w f)) d after;
+            water = so (eqb o 4) (running x (added w f)) (waterZero (added w f)) d after;
           })
 
       response-own : o ≡ 5 → T (ownUncontrollable rs m x)

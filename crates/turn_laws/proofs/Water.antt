@@ -10,13 +10,13 @@ use borrow.Author.Tests.{leb-false}
 use Rattle.litres.specs.Eighths.{eighths, isEighths, count, targetOk}
 use Rattle.litres.proofs.Laws.{eighths-is-eighths, count-eighths}
 use Rattle.rules.proofs.Valid.{both}
-use Rattle.water.specs.Water.{flowOk, noWater, waterOf, added, reached, dry, running}
+use Rattle.water.specs.Water.{flowOk, noWater, waterOf, added, reached, waterZero, running}
 use Rattle.water.specs.declared.Water.{Water}
 use Rattle.water.specs.declared.Flow.{Flow}
 use Rattle.water.specs.declared.Flow.the-variants.{Litres, NoSensor}
 
-pub dry-none : T (dry noWater)
-dry-none =
+pub waterZero-none : T (waterZero noWater)
+waterZero-none =
     let a : T (isEighths (eighths 0)) = eighths-is-eighths 0 (lit< tt) in
     let b : T (eqb (count (eighths 0)) 0) = eq→eqb (count-eighths 0 (lit< tt)) in
     search and-i

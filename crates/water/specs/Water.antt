@@ -36,8 +36,8 @@ reached w = leb (count (w .target)) (count (w .total))
 abbrev pub isZero : Float → Bool
 isZero x = isEighths x && eqb (count x) 0
 
-abbrev pub dry : Water → Bool
-dry w = isZero (w .target) && isZero (w .total)
+abbrev pub waterZero : Water → Bool
+waterZero w = isZero (w .target) && isZero (w .total)
 
 -- "the target being the plan's and the .. total from 0 to below it, a total a multiple of 1/8 and not minus zero"
 abbrev pub running : ℕ → Water → Bool
