@@ -1,3 +1,2 @@
 pub mod Sheet
 pub mod Table
-pub mod Run
