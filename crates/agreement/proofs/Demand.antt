@@ -46,6 +46,7 @@ use Rattle.agreement.proofs.Names.{messageOf, choiceOf}
 use Rattle.agreement.proofs.Fit.{SameModule, holderOf, module-fits, supervisor-fits}
 use Rattle.agreement.proofs.Steps.{afterOf, after-is, step-absent, serve-absent}
 use Rattle.agreement.proofs.Deliveries.{read-back, bid-supervisor, bid-call, permit-module, permit-call, release-supervisor, release-call}
+use Rattle.agreement.proofs.Permit.{permit-holder}
 use Rattle.agreement.proofs.Simulation.{bytesOf, Sim, actOf, seenOf, pickedOf, pick-map, module-call, supervisor-call, reply-absent}
 use Rattle.agreement.proofs.Laws.{laws}
 use Rattle.agreement.proofs.Start.{start-sim, start-same}
@@ -223,8 +224,9 @@ demand image bytes plan acts n =
       commands = ap (λ l. C.commandsOf rs (C.recordOf l)) same;
       legal = rw e (d .legal);
       supervised = rw e (d .supervised);
-      home = λ v l h. r .sim .supervisors v l .state ∙ d .home v l (home-none _ _ (r .sim .supervisors v l .holder) h) ∙ rw e;
-      out = λ v m l h. progress-same image plan L _ _ _ (r .sim) (w .inv) (d .out v m l (out-some _ _ m (r .sim .supervisors v l .holder) h));
+      home = λ v l h. r .sim .supervisors v l .state ∙ d .home v l (home-none _ _ (r .sim .supervisors v l .holder) (sym (permit-holder image v acts) ∙ h)) ∙ rw e;
+      out = λ v m l h. progress-same image plan L _ _ _ (r .sim) (w .inv) (d .out v m l (out-some _ _ m (r .sim .supervisors v l .holder) (sym (permit-holder image v acts) ∙ h)));
+      holder = λ v. permit-holder image v acts;
       taken = all-taken image plan L _ _ _ (r .sim) (w .inv);
       module-fits = λ m l. module-fits rs L _ _ (w .inv) m _ l (r .sim .modules m l);
       supervisor-fits = λ v l. supervisor-fits rs L _ _ (w .inv) v _ l (r .sim .supervisors v l);

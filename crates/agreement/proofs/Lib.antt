@@ -8,4 +8,5 @@ pub mod Simulation
 pub mod Laws
 pub mod Whole
 pub mod Start
+pub mod Permit
 pub mod Demand

@@ -1,8 +1,9 @@
 -- Document 01, "What demand 3 compares": what is taken from a list of calls, and what from the one-device controller.
 use Prim.Native.Nat.{ℕ}
 use mathlib.Core.List.{List, [], _∷_, _++_}
+use mathlib.Core.Option.{Option, none, some}
 use mathlib.Core.Bool.{cond}
-use lib.Dec.{ltb}
+use lib.Dec.{eqb, ltb}
 use Rattle.records.specs.declared.Record.{Record}
 use Rattle.reader.specs.Walk.{recordsOf}
 use Rattle.rules.specs.LookUp.{modulesOf, controllable}
@@ -11,14 +12,25 @@ use Rattle.modules.specs.declared.Own.{Own}
 use Rattle.modules.specs.declared.Turn.{Turn}
 use Rattle.modules.specs.declared.Turn.the-variants.{Event, Stray, Nothing}
 use Rattle.modules.specs.declared.Called.{Called}
+use Rattle.modules.specs.declared.Called.the-variants.{Done, Refused as CallRefused}
 use Rattle.device.specs.Device.{ownAt, turnCall, respondCall, tickCall}
 use Rattle.device.specs.declared.Device.{Device}
 use Rattle.device.specs.declared.Turning.{Turning}
 use Rattle.device.specs.declared.Turning.the-variants.{Turned as DeviceTurned, Refused as DeviceRefused}
 use Rattle.permits.specs.declared.Stepped.{Stepped}
 use Rattle.permits.specs.declared.Stepped.the-variants.{Turned, Bids, Waits, Refused}
+use Rattle.permits.specs.declared.Served.{Served}
+use Rattle.permits.specs.declared.Served.the-variants.{Sends, Waits as SupervisorWaits, Refused as SupervisorRefused}
+use Rattle.permits.specs.declared.Holder.{Holder}
+use Rattle.permits.specs.declared.Holder.the-variants.{Home, Out}
+use Rattle.messages.specs.Message.{parse}
+use Rattle.messages.specs.declared.Message.the-variants.{Bid, Permit, Release}
+use Rattle.messages.specs.declared.Parsed.{Parsed}
+use Rattle.messages.specs.declared.Parsed.the-variants.{Whole, Misshapen}
 use Rattle.permits.specs.Module as M
-use Rattle.agreement.specs.System.{System, Act, moduleStep, supervisorStep, deliver, respond, tick, step}
+use Rattle.permits.specs.Supervisor as S
+use Rattle.protocol.specs.Generic.{Picked, pick}
+use Rattle.agreement.specs.System.{System, Act, moduleStep, supervisorStep, deliver, respond, tick, start, step}
 
 -- "Equal are a turn's event, stray event or none, any refusal's number, and after each the module's state, queue, procedure, water and
 -- outputs."
@@ -107,3 +119,37 @@ recordOf (callSeen m r own ∷ l) = recordOf l
 unfoldable pub commandsOf : List Record → List ℕ → List ℕ
 commandsOf rs [] = []
 commandsOf rs (e ∷ w) = cond (controllable rs e) (e ∷ commandsOf rs w) (commandsOf rs w)
+
+-- "A permit is out from the step that sends it until its release is accepted, else home.": supervisor v's, by the answers of the calls
+unfoldable pub afterServing : Served → Holder → Holder
+afterServing (Sends m n) h = Out m
+afterServing SupervisorWaits h = h
+afterServing (SupervisorRefused n o) h = h
+
+unfoldable pub afterRelease : Called → Holder → Holder
+afterRelease Done h = Home
+afterRelease (CallRefused n o) h = h
+
+unfoldable pub afterMessage : List ℕ → System → ℕ → List ℕ → Parsed → Holder → Holder
+afterMessage image D v bytes (Whole (Bid m w)) h = h
+afterMessage image D v bytes (Whole (Permit w m k)) h = h
+afterMessage image D v bytes (Whole (Release m w e)) h = cond (eqb w v) (afterRelease (S.supervisorDeliver image w (D .supervisorAt w) bytes .answer) h) h
+afterMessage image D v bytes Misshapen h = h
+
+unfoldable pub afterDelivery : List ℕ → System → ℕ → Option (Picked (List ℕ)) → Holder → Holder
+afterDelivery image D v none h = h
+afterDelivery image D v (some q) h = afterMessage image D v (q .item) (parse (q .item)) h
+
+unfoldable pub actPermit : List ℕ → System → ℕ → Act → Holder → Holder
+actPermit image D v (moduleStep m b) h = h
+actPermit image D v (supervisorStep w b) h = cond (eqb w v) (afterServing (S.supervisorStep image w (D .supervisorAt w) b .answer) h) h
+actPermit image D v (deliver k) h = afterDelivery image D v (pick k (D .underWay)) h
+actPermit image D v (respond m e) h = h
+actPermit image D v (tick m f) h = h
+
+unfoldable pub permitAfter : List ℕ → System → ℕ → List Act → Holder → Holder
+permitAfter image D v [] h = h
+permitAfter image D v (a ∷ l) h = permitAfter image (step image D a) v l (actPermit image D v a h)
+
+abbrev pub permitOf : List ℕ → ℕ → List Act → Holder
+permitOf image v acts = permitAfter image (start image) v acts Home

@@ -26,7 +26,7 @@ use Rattle.protocol.specs.System.{replay, startPosition, Legal}
 use Rattle.protocol.specs.Language.{Supervised}
 use Rattle.agreement.specs.PlanOf.{planOf}
 use Rattle.agreement.specs.System.{System, Act, bufferLength, AllLent, start, run}
-use Rattle.agreement.specs.Compared.{seen, fed, deviceRun, deviceSeen, recordOf, commandsOf}
+use Rattle.agreement.specs.Compared.{seen, fed, deviceRun, deviceSeen, recordOf, commandsOf, permitOf}
 
 -- a message under way would be accepted by the party that it names
 unfoldable pub Taken : List ℕ → System → List ℕ → Parsed → Type 0
@@ -54,12 +54,14 @@ pub record Demand3 (image : List ℕ) (acts : List Act) : Type 0 where
   pub legal : Legal (planOf (recordsOf image)) (startPosition (planOf (recordsOf image))) (recordOf (seen image (start image) acts))
   pub supervised : Supervised (planOf (recordsOf image)) (startPosition (planOf (recordsOf image))) (recordOf (seen image (start image) acts))
   -- "at the list's end every supervisor with its permit at home stands exactly where the record's replay puts it"
-  pub home : (v : ℕ) → v < supervisorsOf (recordsOf image) → run image (start image) acts .supervisorAt v .holder ≡ Home
+  pub home : (v : ℕ) → v < supervisorsOf (recordsOf image) → permitOf image v acts ≡ Home
       → run image (start image) acts .supervisorAt v .state
       ≡ replay (planOf (recordsOf image)) (startPosition (planOf (recordsOf image))) (recordOf (seen image (start image) acts)) .supervisorStates v
   -- "if any permit is out, some message under way would be accepted or some module or supervisor step would change a state"
-  pub out : (v m : ℕ) → v < supervisorsOf (recordsOf image) → run image (start image) acts .supervisorAt v .holder ≡ Out m
+  pub out : (v m : ℕ) → v < supervisorsOf (recordsOf image) → permitOf image v acts ≡ Out m
       → Progress image (run image (start image) acts)
+  -- the supervisor's state tells where its permit is
+  pub holder : (v : ℕ) → permitOf image v acts ≡ run image (start image) acts .supervisorAt v .holder
   -- no delivery of a sent message is refused
   pub taken : (k : ℕ) (q : Picked (List ℕ)) → pick k (run image (start image) acts .underWay) ≡ some q
       → Taken image (run image (start image) acts) (q .item) (parse (q .item))

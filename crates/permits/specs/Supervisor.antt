@@ -13,7 +13,6 @@ use Rattle.rules.specs.Check.{verdictOf}
 use Rattle.rules.specs.declared.Verdict.{Verdict}
 use Rattle.rules.specs.declared.Verdict.the-variants.{Accepted, Refused}
 use Rattle.plan.specs.Plan.{supervisorMove, supervisorInitial, shown, stateBy}
-use Rattle.modules.specs.declared.Called.{Called}
 use Rattle.modules.specs.declared.Called.the-variants.{Done, Refused as CallRefused}
 use Rattle.messages.specs.Message.{noEvent, messageBytes, parse, parsedNumber}
 use Rattle.messages.specs.declared.Message.{Message}
