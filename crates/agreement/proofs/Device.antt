@@ -26,11 +26,11 @@ use Rattle.modules.specs.declared.Turn.the-variants.{Event, Stray, Nothing}
 use Rattle.modules.specs.declared.Turned.{Turned}
 use Rattle.modules.specs.declared.Replied.{Replied}
 use Rattle.modules.specs.Procedure.{calledBy}
-use Rattle.modules.specs.Turn.{turnOf}
+use Rattle.modules.specs.Turn.{turnOf, emptyOwn}
 use Rattle.modules.specs.Fits.{ownFits, ownEmpty}
 use Rattle.device.specs.declared.Device.{Device}
 use Rattle.device.specs.declared.Turning.the-variants.{Turned as DeviceTurned}
-use Rattle.device.specs.Device.{emptyOwn, ownAt, stateAt, listFrom, deviceFits, shownBy, ledBy, withOwn, turned, afterTurn, deviceNumber, turnIn, turnBy, replyIn, replyBy}
+use Rattle.device.specs.Device.{ownAt, stateAt, listFrom, deviceFits, shownBy, ledBy, withOwn, turned, afterTurn, deviceNumber, turnIn, turnBy, replyIn, replyBy}
 use Rattle.protocol.specs.Generic.{update}
 use Rattle.protocol.specs.Rules as R
 use Rattle.protocol.proofs.Tools.{update-same, update-other}

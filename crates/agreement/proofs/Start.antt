@@ -14,7 +14,7 @@ use Rattle.rules.specs.LookUp.{modulesOf, supervisorsOf, supervisorState}
 use Rattle.rules.specs.Check.{IsPlan}
 use Rattle.plan.specs.Plan.{supervisorInitial}
 use Rattle.modules.specs.declared.Own.{Own}
-use Rattle.modules.specs.Turn.{startOwn}
+use Rattle.modules.specs.Turn.{startOwn, emptyOwn}
 use Rattle.modules.specs.Fits.{every, idleFits, ownFits, ownEmpty}
 use Rattle.device.specs.Device as Dev
 use Rattle.device.specs.declared.Device.{Device}
@@ -30,7 +30,7 @@ use Rattle.agreement.proofs.Device.{Same, OwnSlot, StateSlot, fits-of, 
 use Rattle.agreement.proofs.Fit.{SameModule, SameSupervisor, holderOf, few}
 use Rattle.agreement.proofs.Simulation.{Sim}
 
-empty-is : ownEmpty Dev.emptyOwn ≡ true
+empty-is : ownEmpty emptyOwn ≡ true
 unfolding ownEmpty every idleFits isEighths count eighths round
 empty-is = refl
 
@@ -60,8 +60,8 @@ module _ (image : List ℕ) (plan : IsPlan image) (L : Laws (planOf (recordsOf i
   unfolding Dev.startBy
   device-is = rw plan
 
-  own-at : (m : ℕ) → m < 16 → Dev.ownAt (Dev.startDevice rs) m ≡ cond (ltb m (modulesOf rs)) (startOwn rs m) Dev.emptyOwn
-  own-at m l = from-at (λ n. cond (ltb n (modulesOf rs)) (startOwn rs n) Dev.emptyOwn) 0 16 m Dev.emptyOwn l ∙ ap (λ (n : ℕ). cond (ltb n (modulesOf rs)) (startOwn rs n) Dev.emptyOwn) (let e : 0 + m ≡ m = omega arith in e)
+  own-at : (m : ℕ) → m < 16 → Dev.ownAt (Dev.startDevice rs) m ≡ cond (ltb m (modulesOf rs)) (startOwn rs m) emptyOwn
+  own-at m l = from-at (λ n. cond (ltb n (modulesOf rs)) (startOwn rs n) emptyOwn) 0 16 m emptyOwn l ∙ ap (λ (n : ℕ). cond (ltb n (modulesOf rs)) (startOwn rs n) emptyOwn) (let e : 0 + m ≡ m = omega arith in e)
 
   state-at : (v : ℕ) → v < 32 → Dev.stateAt (Dev.startDevice rs) v ≡ cond (ltb v (supervisorsOf rs)) (supervisorInitial rs v) 0
   state-at v l = from-at (λ n. cond (ltb n (supervisorsOf rs)) (supervisorInitial rs n) 0) 0 32 v 0 l ∙ ap (λ (n : ℕ). cond (ltb n (supervisorsOf rs)) (supervisorInitial rs n) 0) (let e : 0 + v ≡ v = omega arith in e)
@@ -72,7 +72,7 @@ module _ (image : List ℕ) (plan : IsPlan image) (L : Laws (planOf (recordsOf i
   own-fits : (m : ℕ) → m < 16 → OwnSlot rs (Dev.startDevice rs) m ≡ true
   own-fits m l = ap (λ (o : Own). cond (ltb m (modulesOf rs)) (ownFits rs m o) (ownEmpty o)) (own-at m l) ∙ go (ltb m (modulesOf rs)) refl
     where
-      go : (b : Bool) → ltb m (modulesOf rs) ≡ b → cond b (ownFits rs m (cond b (startOwn rs m) Dev.emptyOwn)) (ownEmpty (cond b (startOwn rs m) Dev.emptyOwn)) ≡ true
+      go : (b : Bool) → ltb m (modulesOf rs) ≡ b → cond b (ownFits rs m (cond b (startOwn rs m) emptyOwn)) (ownEmpty (cond b (startOwn rs m) emptyOwn)) ≡ true
       go true q = unfold planOf in (L .start-fits m (ltb-true m (modulesOf rs) q))
       go false q = empty-is
 
@@ -86,9 +86,9 @@ module _ (image : List ℕ) (plan : IsPlan image) (L : Laws (planOf (recordsOf i
   start-device : Same rs (Dev.startDevice rs) (P.startDevice (planOf rs))
   unfolding P.startDevice planOf
   start-device = record {
-    owns = λ m l. own-at m (let k : modulesOf rs ≤ 16 = few-modules in omega arith) ∙ ap (λ (b : Bool). cond b (startOwn rs m) Dev.emptyOwn) (lt-ltb m (modulesOf rs) l);
+    owns = λ m l. own-at m (let k : modulesOf rs ≤ 16 = few-modules in omega arith) ∙ ap (λ (b : Bool). cond b (startOwn rs m) emptyOwn) (lt-ltb m (modulesOf rs) l);
     states = λ v l. state-at v (let k : supervisorsOf rs ≤ 32 = few rs L in omega arith) ∙ ap (λ (b : Bool). cond b (supervisorInitial rs v) 0) (lt-ltb v (supervisorsOf rs) l);
-    slots = from-length (λ n. cond (ltb n (modulesOf rs)) (startOwn rs n) Dev.emptyOwn) 0 16;
+    slots = from-length (λ n. cond (ltb n (modulesOf rs)) (startOwn rs n) emptyOwn) 0 16;
     fits = fits-of rs (Dev.startDevice rs) own-fits state-fits;
   }
 

@@ -21,17 +21,13 @@ use Rattle.modules.specs.declared.Turn.the-variants.{Event, Stray, Nothing}
 use Rattle.modules.specs.declared.Turned.{Turned}
 use Rattle.modules.specs.declared.Replied.{Replied}
 use Rattle.modules.specs.declared.Called.the-variants.{Done, Refused as CallRefused}
-use Rattle.modules.specs.Procedure.{idle, calledBy, tickOf, respondOf}
-use Rattle.modules.specs.Turn.{turnOf, startOwn}
+use Rattle.modules.specs.Procedure.{calledBy, tickOf, respondOf}
+use Rattle.modules.specs.Turn.{turnOf, startOwn, emptyOwn}
 use Rattle.modules.specs.Fits.{ownFits, ownEmpty}
 use Rattle.device.specs.declared.Device.{Device}
 use Rattle.device.specs.declared.Turning.the-variants.{Turned as Turns, Refused as TurnRefused}
 use Rattle.device.specs.declared.DeviceTurned.{DeviceTurned}
 use Rattle.device.specs.declared.DeviceCalled.{DeviceCalled}
-
--- the own part of a slot that the plan lacks
-abbrev pub emptyOwn : Own
-emptyOwn = record { state = 0; queue = replicate 8 0; length = 0; procedure = idle; outputs = 0 }
 
 abbrev pub ownAt : Device → ℕ → Own
 ownAt d m = getD (d .modules) m emptyOwn

@@ -59,3 +59,7 @@ wish rs m own =
 -- "At the start all are in their initial states, .. nothing is .. queued .., procedures are idle and outputs off."
 unfoldable pub startOwn : List Record → ℕ → Own
 startOwn rs m = record { state = moduleInitial rs m; queue = replicate 8 0; length = 0; procedure = idle; outputs = 0 }
+
+-- the own part with every number 0
+abbrev pub emptyOwn : Own
+emptyOwn = record { state = 0; queue = replicate 8 0; length = 0; procedure = idle; outputs = 0 }

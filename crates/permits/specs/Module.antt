@@ -3,7 +3,7 @@ use Prim.Native.Nat.{ℕ, zero, suc}
 use mathlib.Core.List.{List, [], _∷_, _++_}
 use mathlib.Core.Option.{Option, none, some}
 use mathlib.Core.Bool.{Bool, true, false, cond, not, _&&_, _||_}
-use lib.ListN.{length, replicate}
+use lib.ListN.{length}
 use lib.Bits.{bitOr}
 use lib.Dec.{eqb, ltb}
 use Rattle.bits.specs.Bit.{bit, allBelow, least, putBit, isSome}
@@ -21,8 +21,8 @@ use Rattle.modules.specs.declared.Turn.the-variants.{Event, Stray, Nothing}
 use Rattle.modules.specs.declared.Turned.{Turned}
 use Rattle.modules.specs.declared.Replied.{Replied}
 use Rattle.modules.specs.declared.Called.the-variants.{Done, Refused as CallRefused}
-use Rattle.modules.specs.Procedure.{idle, calledBy, tickOf, respondOf}
-use Rattle.modules.specs.Turn.{turnOf, wish, startOwn}
+use Rattle.modules.specs.Procedure.{calledBy, tickOf, respondOf}
+use Rattle.modules.specs.Turn.{turnOf, wish, startOwn, emptyOwn}
 use Rattle.modules.specs.Fits.{ownFits}
 use Rattle.messages.specs.Message.{noEvent, messageBytes, parse, parsedNumber}
 use Rattle.messages.specs.declared.Message.{Message}
@@ -194,7 +194,7 @@ moduleTick image m x f = replyBy (verdictOf image) (recordsOf image) m x (tickOf
 
 -- "At the start all are in their initial states, permits are home, nothing is noted, queued or bid"
 abbrev pub emptyModule : Module
-emptyModule = record { own = record { state = 0; queue = replicate 8 0; length = 0; procedure = idle; outputs = 0 }; held = 0; received = 0; bid = false }
+emptyModule = record { own = emptyOwn; held = 0; received = 0; bid = false }
 
 abbrev pub startModule : List Record → ℕ → Module
 startModule rs m = record { own = startOwn rs m; held = 0; received = 0; bid = false }

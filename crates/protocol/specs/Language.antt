@@ -35,6 +35,6 @@ pub record Supervised (P : Plan) (p : Position) (w : List ℕ) : Type 0 where
   pub letters : (e : ℕ) → List·Memᴰ e w → e < P .events
   -- 004, 2.2, (2.12), by (2.5) and (2.11): the plant is the synchronous product of the modules
   pub plant : (m : ℕ) → m < P .modules → Generates (P .move m) (p .moduleStates m) (project (λ e. eqb (P .owner e) m) w)
-  -- 004, 2.3 and 2.4.1: no event is disabled by a supervisor, led along the word before it
+  -- 004, 2.3 and 2.4.2: no event is disabled by a supervisor, led along the word before it by the events of its own alphabet
   pub enabled : (s : ℕ) → s < P .supervisors → (u v : List ℕ) (e x : ℕ) → w ≡ u ++ (e ∷ v)
       → along (staying P s) (some (p .supervisorStates s)) (project (P .alphabet s) u) ≡ some x → bit (P .shown s x) e ≡ false
