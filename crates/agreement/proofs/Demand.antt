@@ -1,5 +1,5 @@
 -- Demand 3.
-use mathlib.Core.Path.{_≡_, refl, sym, ap, ap₂, _∙_, subst}
+use mathlib.Core.Path.{_≡_, refl, sym, ap, _∙_, subst}
 use mathlib.Core.Logic.{_≢_}
 use mathlib.Core.Bool.{Bool, true, false, true≢false}
 use mathlib.Core.List.{List, [], _∷_, _++_, map}
@@ -14,8 +14,6 @@ use Rattle.reader.specs.Walk.{recordsOf}
 use Rattle.rules.specs.LookUp.{modulesOf, supervisorsOf}
 use Rattle.rules.specs.Check.{verdictOf, IsPlan}
 use Rattle.accepted.proofs.Accepted.{every-plan}
-use Rattle.modules.specs.declared.Turn.{Turn}
-use Rattle.modules.specs.declared.Turn.the-variants.{Event, Stray, Nothing}
 use Rattle.device.specs.Device.{startCall}
 use Rattle.messages.specs.Message.{parse}
 use Rattle.messages.specs.declared.Parsed.the-variants.{Whole}
@@ -53,16 +51,10 @@ use Rattle.agreement.proofs.Start.{start-sim, start-same}
 use Rattle.agreement.proofs.Whole.{ran}
 
 -- the record is the rules' record
-events-same : (t : Turn) → C.turnEvents t ≡ P.turnEvents t
-unfolding C.turnEvents P.turnEvents
-events-same (Event e) = refl
-events-same (Stray e) = refl
-events-same Nothing = refl
-
 record-same : (l : List P.Seen) → C.recordOf (map seenOf l) ≡ P.recordOf l
 unfolding C.recordOf P.recordOf seenOf
 record-same [] = refl
-record-same (P.turnSeen m t o ∷ l) = ap₂ _++_ (events-same t) (record-same l)
+record-same (P.turnSeen m t o ∷ l) = ap (λ (w : List ℕ). P.turnEvents t ++ w) (record-same l)
 record-same (P.replySeen m r o ∷ l) = record-same l
 
 home-none : (h : Holder) (o : Option ℕ) → holderOf h ≡ o → h ≡ Home → o ≡ none
@@ -221,7 +213,7 @@ demand image bytes plan acts n =
     record {
       equal = same;
       records = ap C.recordOf same;
-      commands = ap (λ l. C.commandsOf rs (C.recordOf l)) same;
+      commands = ap (λ l. P.commandsOf (planOf rs) (C.recordOf l)) same;
       legal = rw e (d .legal);
       supervised = rw e (d .supervised);
       home = λ v l h. r .sim .supervisors v l .state ∙ d .home v l (home-none _ _ (r .sim .supervisors v l .holder) (sym (permit-holder image v acts) ∙ h)) ∙ rw e;

@@ -6,11 +6,10 @@ use mathlib.Core.Bool.{cond}
 use lib.Dec.{eqb, ltb}
 use Rattle.records.specs.declared.Record.{Record}
 use Rattle.reader.specs.Walk.{recordsOf}
-use Rattle.rules.specs.LookUp.{modulesOf, controllable}
+use Rattle.rules.specs.LookUp.{modulesOf}
 use Rattle.water.specs.declared.Flow.{Flow}
 use Rattle.modules.specs.declared.Own.{Own}
 use Rattle.modules.specs.declared.Turn.{Turn}
-use Rattle.modules.specs.declared.Turn.the-variants.{Event, Stray, Nothing}
 use Rattle.modules.specs.declared.Called.{Called}
 use Rattle.modules.specs.declared.Called.the-variants.{Done, Refused as CallRefused}
 use Rattle.device.specs.Device.{ownAt, turnCall, respondCall, tickCall}
@@ -30,6 +29,7 @@ use Rattle.messages.specs.declared.Parsed.the-variants.{Whole, Misshapen}
 use Rattle.permits.specs.Module as M
 use Rattle.permits.specs.Supervisor as S
 use Rattle.protocol.specs.Generic.{Picked, pick}
+use Rattle.protocol.specs.System.{turnEvents}
 use Rattle.agreement.specs.System.{System, Act, moduleStep, supervisorStep, deliver, respond, tick, start, step}
 
 -- "Equal are a turn's event, stray event or none, any refusal's number, and after each the module's state, queue, procedure, water and
@@ -104,21 +104,12 @@ unfoldable pub deviceSeen : List ℕ → Device → List DeviceAct → List Seen
 deviceSeen image d [] = []
 deviceSeen image d (a ∷ l) = deviceActSeen image d a ∷ deviceSeen image (deviceStep image d a) l
 
--- "The record lists the events fired, in order; commands are its controllable ones."
-unfoldable pub turnEvents : Turn → List ℕ
-turnEvents (Event e) = e ∷ []
-turnEvents (Stray e) = []
-turnEvents Nothing = []
-
+-- "The record lists the events fired, in order"
 unfoldable pub recordOf : List Seen → List ℕ
 recordOf [] = []
 recordOf (turnSeen m t own ∷ l) = turnEvents t ++ recordOf l
 recordOf (refusalSeen m n own ∷ l) = recordOf l
 recordOf (callSeen m r own ∷ l) = recordOf l
-
-unfoldable pub commandsOf : List Record → List ℕ → List ℕ
-commandsOf rs [] = []
-commandsOf rs (e ∷ w) = cond (controllable rs e) (e ∷ commandsOf rs w) (commandsOf rs w)
 
 -- "A permit is out from the step that sends it until its release is accepted, else home.": supervisor v's, by the answers of the calls
 unfoldable pub afterServing : Served → Holder → Holder

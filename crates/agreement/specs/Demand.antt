@@ -22,11 +22,11 @@ use Rattle.permits.specs.declared.Served.the-variants.{Refused as SupervisorRef
 use Rattle.permits.specs.Module as M
 use Rattle.permits.specs.Supervisor as S
 use Rattle.protocol.specs.Generic.{Picked, pick}
-use Rattle.protocol.specs.System.{replay, startPosition, Legal}
+use Rattle.protocol.specs.System.{commandsOf, replay, startPosition, Legal}
 use Rattle.protocol.specs.Language.{Supervised}
 use Rattle.agreement.specs.PlanOf.{planOf}
 use Rattle.agreement.specs.System.{System, Act, bufferLength, AllLent, start, run}
-use Rattle.agreement.specs.Compared.{seen, fed, deviceRun, deviceSeen, recordOf, commandsOf, permitOf}
+use Rattle.agreement.specs.Compared.{seen, fed, deviceRun, deviceSeen, recordOf, permitOf}
 
 -- a message under way would be accepted by the party that it names
 unfoldable pub Taken : List ℕ → System → List ℕ → Parsed → Type 0
@@ -48,8 +48,8 @@ pub record Demand3 (image : List ℕ) (acts : List Act) : Type 0 where
   -- same order, so that records and commands are equal"
   pub equal : seen image (start image) acts ≡ deviceSeen image (startCall image .device) (fed image (start image) acts)
   pub records : recordOf (seen image (start image) acts) ≡ recordOf (deviceSeen image (startCall image .device) (fed image (start image) acts))
-  pub commands : commandsOf (recordsOf image) (recordOf (seen image (start image) acts))
-      ≡ commandsOf (recordsOf image) (recordOf (deviceSeen image (startCall image .device) (fed image (start image) acts)))
+  pub commands : commandsOf (planOf (recordsOf image)) (recordOf (seen image (start image) acts))
+      ≡ commandsOf (planOf (recordsOf image)) (recordOf (deviceSeen image (startCall image .device) (fed image (start image) acts)))
   -- "every event of the record is a listed move of its module, and no supervisor, led along that record, disables it there"
   pub legal : Legal (planOf (recordsOf image)) (startPosition (planOf (recordsOf image))) (recordOf (seen image (start image) acts))
   pub supervised : Supervised (planOf (recordsOf image)) (startPosition (planOf (recordsOf image))) (recordOf (seen image (start image) acts))
