@@ -4,10 +4,10 @@ use mathlib.Core.List.{List, [], _∷_}
 use mathlib.Core.Option.{Option, none, some}
 use mathlib.Core.Bool.{Bool, true, false, cond, not, _&&_, _||_}
 use lib.ListN.{replicate}
-use Rattle.bits.specs.Bit.{bit, least, someBelow}
+use Rattle.bits.specs.Bit.{bit, least, someBelow, isSome}
 use Rattle.records.specs.declared.Record.{Record}
 use Rattle.rules.specs.LookUp.{eventsOf, controllable}
-use Rattle.plan.specs.Plan.{moduleMove, listed, moduleInitial}
+use Rattle.plan.specs.Plan.{moduleMove, moduleInitial}
 use Rattle.modules.specs.declared.Own.{Own}
 use Rattle.modules.specs.declared.Procedure.{Procedure}
 use Rattle.modules.specs.declared.Turn.the-variants.{Event, Stray, Nothing}
@@ -30,7 +30,7 @@ byCommand rs m own e none = record { turn = Nothing; own = own }
 
 -- a "controllable event .. that has a move here and stands in no shown mask", k being the union of the masks
 unfoldable pub enabled : List Record → ℕ → ℕ → ℕ → ℕ → Bool
-enabled rs m k st e = controllable rs e && listed (moduleMove rs m st e) && not (bit k e)
+enabled rs m k st e = controllable rs e && isSome (moduleMove rs m st e) && not (bit k e)
 
 -- the event chosen fires, if there is one
 unfoldable pub byChoice : List Record → ℕ → Own → Option ℕ → Turned
@@ -54,7 +54,7 @@ queuedAny (e ∷ q) = true
 
 unfoldable pub wish : List Record → ℕ → Own → Bool
 wish rs m own =
-    queuedAny (queueOf own) || (not (own .procedure .running) && someBelow (λ e. controllable rs e && listed (moduleMove rs m (own .state) e)) (eventsOf rs))
+    queuedAny (queueOf own) || (not (own .procedure .running) && someBelow (λ e. controllable rs e && isSome (moduleMove rs m (own .state) e)) (eventsOf rs))
 
 -- "At the start all are in their initial states, .. nothing is .. queued .., procedures are idle and outputs off."
 unfoldable pub startOwn : List Record → ℕ → Own

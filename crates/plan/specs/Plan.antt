@@ -3,7 +3,7 @@
 use Prim.Native.Nat.{ℕ}
 use mathlib.Core.List.{List}
 use mathlib.Core.Option.{Option, none, some}
-use mathlib.Core.Bool.{Bool, true, false, not, _&&_}
+use mathlib.Core.Bool.{Bool, not, _&&_}
 use lib.Count.{ones}
 use lib.Dec.{eqb, ltb}
 use Rattle.bits.specs.Bit.{bit, someBelow, maskOf}
@@ -38,11 +38,6 @@ moduleMove rs m st e = target (findIn (keyBy 0x13 m st e) rs)
 
 abbrev pub supervisorMove : List Record → ℕ → ℕ → ℕ → Option ℕ
 supervisorMove rs v st e = target (findIn (keyBy 0x15 v st e) rs)
-
--- a move is listed
-unfoldable pub listed : Option ℕ → Bool
-listed none = false
-listed (some t) = true
 
 -- the state after a move, which stays where none is listed
 unfoldable pub stateBy : Option ℕ → ℕ → ℕ

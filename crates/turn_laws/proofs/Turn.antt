@@ -10,11 +10,11 @@ use lib.ListN.{length}
 use lib.Dec.{T, eqb, ltb, lt→ltb}
 use lib.Ieee.Fits.{and-i, eq→eqb}
 use borrow.Author.Tests.{not-true, lt-ltb}
-use Rattle.bits.specs.Bit.{bit, least}
+use Rattle.bits.specs.Bit.{bit, least, isSome}
 use denote.Floats.{passes as holds, is-true}
 use Rattle.records.specs.declared.Record.{Record}
 use Rattle.rules.specs.LookUp.{modulesOf, eventsOf, moduleState, ownerOf, controllable}
-use Rattle.plan.specs.Plan.{moduleMove, listed, ownEvent, ownUncontrollable}
+use Rattle.plan.specs.Plan.{moduleMove, ownEvent, ownUncontrollable}
 use Rattle.accepted.specs.Plan.{Sound}
 use Rattle.rules.proofs.Valid.{both}
 use Rattle.modules.specs.declared.Own.{Own}
@@ -77,14 +77,14 @@ module _ (rs : List Record) (m : ℕ) (own : Own) where
     by-own e st g = module-move rs plan m (own .state) e st g .own-event
 
     pub turn-same : (k k′ : ℕ) → ((e : ℕ) → ownerOf rs e ≡ m → bit k e ≡ bit k′ e) → turnOf rs m k own ≡ turnOf rs m k′ own
-    unfolding turnOf turnOn enabled listed
+    unfolding turnOf turnOn enabled
     turn-same k k′ h = queue (queueOf own)
       where
         unlisted : (a b c : Bool) → (a && false && b) ≡ (a && false && c)
         unlisted true b c = refl
         unlisted false b c = refl
 
-        able : (e : ℕ) (o : Option ℕ) → moduleMove rs m (own .state) e ≡ o → (controllable rs e && listed o && not (bit k e)) ≡ (controllable rs e && listed o && not (bit k′ e))
+        able : (e : ℕ) (o : Option ℕ) → moduleMove rs m (own .state) e ≡ o → (controllable rs e && isSome o && not (bit k e)) ≡ (controllable rs e && isSome o && not (bit k′ e))
         able e (some st) g = ap (λ (b : Bool). controllable rs e && true && not b) (h e (by-own e st g))
         able e none g = unlisted (controllable rs e) (not (bit k e)) (not (bit k′ e))
 
