@@ -19,7 +19,7 @@ use Rattle.records.specs.declared.Record.{Record}
 use Rattle.rules.specs.LookUp.{modulesOf, supervisorsOf, supervisorState}
 use Rattle.rules.specs.declared.Verdict.{Verdict}
 use Rattle.rules.specs.declared.Verdict.the-variants.{Accepted}
-use Rattle.plan.specs.Plan.{supervisorMove, stateBy, shown, inAlphabet}
+use Rattle.plan.specs.Plan.{supervisorMove, stateBy, supervisorAfter, shown, inAlphabet}
 use Rattle.modules.specs.declared.Own.{Own}
 use Rattle.modules.specs.declared.Turn.{Turn}
 use Rattle.modules.specs.declared.Turn.the-variants.{Event, Stray, Nothing}
@@ -91,7 +91,7 @@ module _ (rs : List Record) (few-modules : modulesOf rs ≤ 16) (few : superviso
 
   -- where firing leads a supervisor
   led-same : (v x : ℕ) (t : Turn) → ledBy rs v x t ≡ R.stateAfter (planOf rs) v x t
-  unfolding ledBy R.stateAfter planOf stateBy
+  unfolding ledBy supervisorAfter R.stateAfter planOf stateBy
   led-same v x (Event e) = ap (λ (y : ℕ). cond (inAlphabet rs v e) y x) (go (supervisorMove rs v x e))
     where
       go : (o : Option ℕ) → stateBy o x ≡ Option·getD o x
@@ -102,7 +102,7 @@ module _ (rs : List Record) (few-modules : modulesOf rs ≤ 16) (few : superviso
 
   -- a state stays fit
   led-fits : (v x : ℕ) (t : Turn) → supervisorState rs v x ≡ true → supervisorState rs v (ledBy rs v x t) ≡ true
-  unfolding ledBy stateBy
+  unfolding ledBy supervisorAfter stateBy
   led-fits v x (Event e) h = go (inAlphabet rs v e) (supervisorMove rs v x e) refl
     where
       go : (b : Bool) (o : Option ℕ) → supervisorMove rs v x e ≡ o → supervisorState rs v (cond b (stateBy o x) x) ≡ true
@@ -114,7 +114,7 @@ module _ (rs : List Record) (few-modules : modulesOf rs ≤ 16) (few : superviso
 
   -- a supervisor that the plan lacks stays
   led-stays : (v x : ℕ) (t : Turn) → supervisorsOf rs ≤ v → ledBy rs v x t ≡ x
-  unfolding ledBy
+  unfolding ledBy supervisorAfter
   led-stays v x (Event e) h = go (inAlphabet rs v e) refl
     where
       go : (b : Bool) → inAlphabet rs v e ≡ b → cond b (stateBy (supervisorMove rs v x e) x) x ≡ x

@@ -16,12 +16,11 @@ use Rattle.water.specs.declared.Flow.{Flow}
 use Rattle.modules.specs.declared.Own.{Own}
 use Rattle.modules.specs.declared.Replied.{Replied}
 use Rattle.modules.specs.Procedure.{calledBy, tickOf, respondOf}
-use Rattle.messages.specs.Message.{messageBytes}
+use Rattle.messages.specs.Message.{messageBytes, written}
 use Rattle.messages.specs.declared.Message.{Message}
 use Rattle.messages.specs.declared.Parsed.the-variants.{Whole}
 use Rattle.permits.specs.declared.Module.{Module}
 use Rattle.permits.specs.declared.Supervisor.{Supervisor}
-use Rattle.permits.specs.Names.{written}
 use Rattle.permits.specs.Module as M
 use Rattle.permits.specs.Supervisor as S
 use Rattle.protocol.specs.Generic.{update, Picked, pick, behind}

@@ -18,14 +18,13 @@ use Rattle.rules.specs.declared.Verdict.the-variants.{Accepted}
 use Rattle.plan.specs.Plan.{neighbours, shown}
 use Rattle.modules.specs.declared.Turn.{Turn}
 use Rattle.modules.specs.Turn.{turnOf}
-use Rattle.messages.specs.Message.{messageBytes}
+use Rattle.messages.specs.Message.{messageBytes, written}
 use Rattle.messages.specs.declared.Message.{Message}
 use Rattle.messages.specs.declared.Message.the-variants.{Bid, Permit, Release}
 use Rattle.permits.specs.declared.Module.{Module}
 use Rattle.permits.specs.declared.Supervisor.{Supervisor}
 use Rattle.permits.specs.declared.Holder.{Holder}
 use Rattle.permits.specs.declared.Holder.the-variants.{Home, Out}
-use Rattle.permits.specs.Names.{written}
 use Rattle.permits.specs.Module as M
 use Rattle.permits.specs.Supervisor as S
 use Rattle.protocol.specs.Plan.{Plan, Laws}

@@ -4,6 +4,8 @@ use mathlib.Core.Bool.{Bool, true, false, cond, not, _&&_, _||_}
 use mathlib.Core.Option.{Option, none, some}
 use lib.Dec.{eqb, ltb}
 use lib.Bits.{bitAnd, bitOr}
+use Rattle.bits.specs.declared.Maybe.{Maybe}
+use Rattle.bits.specs.declared.Maybe.the-variants.{Just, Nothing}
 
 -- bit e of the mask m
 unfoldable pub bit : ℕ → ℕ → Bool
@@ -31,6 +33,11 @@ orElse none false n = none
 unfoldable pub least : (ℕ → Bool) → ℕ → Option ℕ
 least p zero = none
 least p (suc n) = orElse (least p n) (p n) n
+
+-- an answer of the code that is a number or none
+abbrev pub optionOf : Maybe → Option ℕ
+optionOf (Just i) = some i
+optionOf Nothing = none
 
 -- a number is there
 abbrev pub isSome : Option ℕ → Bool

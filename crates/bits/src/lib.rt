@@ -2,6 +2,12 @@
 ghost use mathlib.Core.Path.{_≡_};
 ghost use Rattle.bits.specs.Bit.{bit, allBelow, everyEvent, putBit};
 
+// A number, or the word that there is none.
+pub enum Maybe {
+    Just(u8),
+    Nothing,
+}
+
 // Whether a mask has a bit. No mask has one at 64 or above.
 pub fn has(m: u64, e: u8) -> bool
     ensures { λ r. ⌜ r ≡ bit m e ⌝ }

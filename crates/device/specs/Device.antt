@@ -13,7 +13,7 @@ use Rattle.rules.specs.LookUp.{modulesOf, supervisorsOf, supervisorState}
 use Rattle.rules.specs.Check.{verdictOf}
 use Rattle.rules.specs.declared.Verdict.{Verdict}
 use Rattle.rules.specs.declared.Verdict.the-variants.{Accepted, Refused}
-use Rattle.plan.specs.Plan.{supervisorMove, stateBy, supervisorInitial, shown, inAlphabet}
+use Rattle.plan.specs.Plan.{supervisorAfter, supervisorInitial, shown}
 use Rattle.water.specs.declared.Flow.{Flow}
 use Rattle.modules.specs.declared.Own.{Own}
 use Rattle.modules.specs.declared.Turn.{Turn}
@@ -53,7 +53,7 @@ shownBy rs st (suc n) = bitOr (shownBy rs st n) (shown rs n (st n))
 
 -- "Firing moves the module and every supervisor with the event in its alphabet; a supervisor without a listed move stays."
 unfoldable pub ledBy : List Record → ℕ → ℕ → Turn → ℕ
-ledBy rs v st (Event e) = cond (inAlphabet rs v e) (stateBy (supervisorMove rs v st e) st) st
+ledBy rs v st (Event e) = supervisorAfter rs v st e
 ledBy rs v st (Stray e) = st
 ledBy rs v st Nothing = st
 

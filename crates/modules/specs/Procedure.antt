@@ -1,13 +1,13 @@
 -- Document 01, "Procedures and water", and the responses: what a response and a tick do to a module's own part.
 use Prim.Native.Nat.{ℕ, suc, _-_, _^_}
 use mathlib.Core.List.{List}
-use mathlib.Core.Bool.{true, false, cond}
+use mathlib.Core.Bool.{true, false, cond, _&&_}
 use lib.Bits.{bitOr, bitAnd}
-use lib.Dec.{eqb}
+use lib.Dec.{eqb, ltb}
 use Rattle.records.specs.declared.Record.{Record}
 use Rattle.rules.specs.LookUp.{found}
 use Rattle.plan.specs.Plan.{stepIn, operationOf, operandOf, ownUncontrollable}
-use Rattle.water.specs.Water.{flowOk, noWater, waterOf, added, reached}
+use Rattle.water.specs.Water.{flowOk, noWater, waterOf, added, reached, running}
 use Rattle.water.specs.declared.Water.{Water}
 use Rattle.water.specs.declared.Flow.{Flow}
 use Rattle.modules.specs.declared.Procedure.{Procedure}
@@ -58,20 +58,24 @@ outputOn o i = bitOr o (2 ^ i)
 abbrev pub outputOff : ℕ → ℕ → ℕ
 outputOff o i = bitAnd o (2 ^ 32 - 1 - 2 ^ i)
 
+-- the reading added, or the step ended
+abbrev pub poured : List Record → Flow → Own → Own
+poured rs f own = cond (reached (added (own .procedure .water) f)) (onward rs own) (withWater own (added (own .procedure .water) f))
+
 -- "A tick .. performs one step, or one tick of a wait." The step has operation o and operand x.
--- 3: "A wait of n ends at its nth tick." 4: the reading is added, and "the step ends when it reaches the target". 5: "Respond stays put
--- while the queue is full."
+-- 3: "A wait of n ends at its nth tick." 4: the reading is added to the water of the running step, and "the step ends when it reaches the
+-- target". 5: "Respond stays put while the queue is full."
 unfoldable pub performed : List Record → ℕ → ℕ → Flow → Own → Own
 performed rs o x f own =
     cond (eqb o 1) (onward rs (withOutputs own (outputOn (own .outputs) x)))
     (cond (eqb o 2) (onward rs (withOutputs own (outputOff (own .outputs) x)))
-    (cond (eqb o 3) (cond (eqb (suc (own .procedure .count)) x) (onward rs own) (counted own))
-    (cond (eqb o 4) (cond (reached (added (own .procedure .water) f)) (onward rs own) (withWater own (added (own .procedure .water) f)))
+    (cond (eqb o 3) (cond (ltb (suc (own .procedure .count)) x) (counted own) (onward rs own))
+    (cond (eqb o 4) (cond (running x (own .procedure .water)) (poured rs f own) own)
     (cond (full own) own (onward rs (queued own x))))))
 
 abbrev pub ticked : List Record → Flow → Own → Own
 ticked rs f own =
-    cond (own .procedure .running)
+    cond (own .procedure .running && found (stepIn rs (own .procedure .event) (own .procedure .index)))
     (performed rs (operationOf rs (own .procedure .event) (own .procedure .index)) (operandOf rs (own .procedure .event) (own .procedure .index)) f own)
     own
 

@@ -3,7 +3,7 @@ use Prim.Native.Nat.{ℕ, _-_}
 use mathlib.Core.List.{List, [], _∷_, _++_}
 use mathlib.Core.Bool.{Bool}
 use lib.ListN.{length, take, replicate}
-use lib.Dec.{eqb}
+use lib.Dec.{leb}
 use Rattle.modules.specs.declared.Own.{Own}
 
 -- the responses, the head first
@@ -16,7 +16,7 @@ places q = q ++ replicate (8 - length q) 0
 
 -- "response queue holds 8"
 abbrev pub full : Own → Bool
-full own = eqb (own .length) 8
+full own = leb 8 (own .length)
 
 abbrev pub withQueue : Own → List ℕ → Own
 withQueue own q = record { state = own .state; queue = places q; length = length q; procedure = own .procedure; outputs = own .outputs }

@@ -4,10 +4,9 @@ use mathlib.Core.List.{List, [], _∷_}
 use mathlib.Core.Option.{Option, none, some}
 use mathlib.Core.Bool.{Bool, true, false, cond, not, _&&_, _||_}
 use lib.ListN.{replicate}
-use Rattle.bits.specs.Bit.{bit, least, someBelow, isSome}
+use Rattle.bits.specs.Bit.{bit, least, someBelow}
 use Rattle.records.specs.declared.Record.{Record}
-use Rattle.rules.specs.LookUp.{eventsOf, controllable}
-use Rattle.plan.specs.Plan.{moduleMove, moduleInitial}
+use Rattle.plan.specs.Plan.{moduleMove, moduleInitial, hasCommand}
 use Rattle.modules.specs.declared.Own.{Own}
 use Rattle.modules.specs.declared.Procedure.{Procedure}
 use Rattle.modules.specs.declared.Turn.the-variants.{Event, Stray, Nothing}
@@ -30,7 +29,7 @@ byCommand rs m own e none = record { turn = Nothing; own = own }
 
 -- a "controllable event .. that has a move here and stands in no shown mask", k being the union of the masks
 unfoldable pub enabled : List Record → ℕ → ℕ → ℕ → ℕ → Bool
-enabled rs m k st e = controllable rs e && isSome (moduleMove rs m st e) && not (bit k e)
+enabled rs m k st e = hasCommand rs m st e && not (bit k e)
 
 -- the event chosen fires, if there is one
 unfoldable pub byChoice : List Record → ℕ → Own → Option ℕ → Turned
@@ -38,11 +37,11 @@ byChoice rs m own (some e) = byCommand rs m own e (moduleMove rs m (own .state) 
 byChoice rs m own none = record { turn = Nothing; own = own }
 
 -- "1. If its response queue holds anything, the head is removed. .. 2. Otherwise, if its procedure is idle, the lowest-numbered controllable
--- event fires that has a move here and stands in no shown mask. 3. Otherwise none."
+-- event fires that has a move here and stands in no shown mask. 3. Otherwise none." No event is numbered 64 or above.
 unfoldable pub turnOn : List Record → ℕ → ℕ → Own → List ℕ → Turned
 turnOn rs m k own (e ∷ q) = byResponse (withQueue own q) e (moduleMove rs m (own .state) e)
 turnOn rs m k own [] =
-    cond (own .procedure .running) (record { turn = Nothing; own = own }) (byChoice rs m own (least (enabled rs m k (own .state)) (eventsOf rs)))
+    cond (own .procedure .running) (record { turn = Nothing; own = own }) (byChoice rs m own (least (enabled rs m k (own .state)) 64))
 
 unfoldable pub turnOf : List Record → ℕ → ℕ → Own → Turned
 turnOf rs m k own = turnOn rs m k own (queueOf own)
@@ -54,7 +53,7 @@ queuedAny (e ∷ q) = true
 
 unfoldable pub wish : List Record → ℕ → Own → Bool
 wish rs m own =
-    queuedAny (queueOf own) || (not (own .procedure .running) && someBelow (λ e. controllable rs e && isSome (moduleMove rs m (own .state) e)) (eventsOf rs))
+    queuedAny (queueOf own) || (not (own .procedure .running) && someBelow (hasCommand rs m (own .state)) 64)
 
 -- "At the start all are in their initial states, .. nothing is .. queued .., procedures are idle and outputs off."
 unfoldable pub startOwn : List Record → ℕ → Own

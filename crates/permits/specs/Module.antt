@@ -24,7 +24,7 @@ use Rattle.modules.specs.declared.Called.the-variants.{Done, Refused as CallRef
 use Rattle.modules.specs.Procedure.{calledBy, tickOf, respondOf}
 use Rattle.modules.specs.Turn.{turnOf, wish, startOwn, emptyOwn}
 use Rattle.modules.specs.Fits.{ownFits}
-use Rattle.messages.specs.Message.{noEvent, messageBytes, parse, parsedNumber}
+use Rattle.messages.specs.Message.{noEvent, messageBytes, short, written, parse, parsedNumber}
 use Rattle.messages.specs.declared.Message.{Message}
 use Rattle.messages.specs.declared.Message.the-variants.{Bid, Permit, Release}
 use Rattle.messages.specs.declared.Parsed.{Parsed}
@@ -33,7 +33,7 @@ use Rattle.permits.specs.declared.Module.{Module}
 use Rattle.permits.specs.declared.ModuleCalled.{ModuleCalled}
 use Rattle.permits.specs.declared.Stepped.{Stepped}
 use Rattle.permits.specs.declared.Stepped.the-variants.{Turned as Turns, Bids, Waits, Refused as StepRefused}
-use Rattle.permits.specs.Names.{named, short, written}
+use Rattle.permits.specs.Names.{named}
 
 -- the lowest neighbour whose permit is not held
 unfoldable pub missing : List Record → ℕ → ℕ → Option ℕ

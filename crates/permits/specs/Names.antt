@@ -1,8 +1,7 @@
--- What a message names, and room for an answer. Document 01, "Numbers for what is turned down", 11, 12 and 15.
+-- What a message names. Document 01, "Numbers for what is turned down", 11 and 12.
 use Prim.Native.Nat.{ℕ}
-use mathlib.Core.List.{List, _++_}
+use mathlib.Core.List.{List}
 use mathlib.Core.Bool.{Bool, _&&_, _||_}
-use lib.ListN.{length, drop}
 use lib.Dec.{eqb, ltb}
 use Rattle.records.specs.declared.Record.{Record}
 use Rattle.rules.specs.LookUp.{modulesOf, supervisorsOf, eventsOf, ownerOf}
@@ -24,11 +23,3 @@ unfoldable pub named : List Record → Message → Bool
 named rs (Bid m v) = neighbours? rs m v
 named rs (Permit v m k) = neighbours? rs m v
 named rs (Release m v e) = neighbours? rs m v && (eqb e noEvent || eventNamed rs m v e)
-
--- 15: "output buffer shorter than the answer"
-abbrev pub short : List ℕ → List ℕ → Bool
-short answer buffer = ltb (length buffer) (length answer)
-
--- "An accepted call writes its answer from the buffer's start and nothing else."
-abbrev pub written : List ℕ → List ℕ → List ℕ
-written answer buffer = answer ++ drop (length answer) buffer

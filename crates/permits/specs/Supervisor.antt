@@ -14,7 +14,7 @@ use Rattle.rules.specs.declared.Verdict.{Verdict}
 use Rattle.rules.specs.declared.Verdict.the-variants.{Accepted, Refused}
 use Rattle.plan.specs.Plan.{supervisorMove, supervisorInitial, shown, stateBy}
 use Rattle.modules.specs.declared.Called.the-variants.{Done, Refused as CallRefused}
-use Rattle.messages.specs.Message.{noEvent, messageBytes, parse, parsedNumber}
+use Rattle.messages.specs.Message.{noEvent, messageBytes, short, written, parse, parsedNumber}
 use Rattle.messages.specs.declared.Message.{Message}
 use Rattle.messages.specs.declared.Message.the-variants.{Bid, Permit, Release}
 use Rattle.messages.specs.declared.Parsed.{Parsed}
@@ -25,7 +25,7 @@ use Rattle.permits.specs.declared.Holder.{Holder}
 use Rattle.permits.specs.declared.Holder.the-variants.{Home, Out}
 use Rattle.permits.specs.declared.Served.{Served}
 use Rattle.permits.specs.declared.Served.the-variants.{Sends, Waits, Refused as StepRefused}
-use Rattle.permits.specs.Names.{neighbours?, named, short, written}
+use Rattle.permits.specs.Names.{neighbours?, named}
 
 -- "a supervisor's noted modules and holder are its neighbours, its last-served place is 0 to 15"
 unfoldable pub holderFits : List Record → ℕ → Holder → Bool

@@ -3,11 +3,12 @@
 use Prim.Native.Nat.{ℕ}
 use mathlib.Core.List.{List}
 use mathlib.Core.Option.{Option, none, some}
-use mathlib.Core.Bool.{Bool, not, _&&_}
+use mathlib.Core.Bool.{Bool, cond, not, _&&_, _||_}
 use lib.Count.{ones}
 use lib.Dec.{eqb, ltb}
-use Rattle.bits.specs.Bit.{bit, someBelow, maskOf}
+use Rattle.bits.specs.Bit.{bit, someBelow, maskOf, isSome}
 use Rattle.records.specs.Key.{keyBy}
+use Rattle.records.specs.Range.{inRange}
 use Rattle.records.specs.declared.Record.{Record}
 use Rattle.records.specs.declared.Record.the-variants.{Head, Event, Module, ModuleMove, Supervisor, SupervisorMove, Disabling, Step, End}
 use Rattle.reader.specs.declared.Found.{Found}
@@ -65,6 +66,17 @@ shown rs v st = fieldOf wordField (findIn (keyBy 0x16 v st 0) rs)
 abbrev pub inAlphabet : List Record → ℕ → ℕ → Bool
 inAlphabet rs v e = bit (alphabetOf rs v) e
 
+-- "Firing moves .. every supervisor with the event in its alphabet; a supervisor without a listed move stays."
+unfoldable pub supervisorAfter : List Record → ℕ → ℕ → ℕ → ℕ
+supervisorAfter rs v st e = cond (inAlphabet rs v e) (stateBy (supervisorMove rs v st e) st) st
+
+-- the controllable events that have a move from a module's state; no event is numbered 64 or above
+abbrev pub hasCommand : List Record → ℕ → ℕ → ℕ → Bool
+hasCommand rs m st e = controllable rs e && isSome (moduleMove rs m st e)
+
+abbrev pub commands : List Record → ℕ → ℕ → ℕ
+commands rs m st = maskOf (hasCommand rs m st) 64
+
 -- "A supervisor is a module's neighbour if its alphabet has an event of that module."
 abbrev pub neighbour : List Record → ℕ → ℕ → Bool
 neighbour rs m v = someBelow (λ e. eqb (ownerOf rs e) m && inAlphabet rs v e) (eventsOf rs)
@@ -77,9 +89,17 @@ neighbours rs m = maskOf (λ v. ltb v (supervisorsOf rs) && neighbour rs m v) 32
 abbrev pub neighbourCount : List Record → ℕ → ℕ
 neighbourCount rs m = ones (neighbours rs m)
 
+-- A step counts with its fields in range and, where it is a respond, with the number of an event. In an accepted plan every step does.
+abbrev pub counts : Record → Bool
+counts r = inRange r && (not (eqb (field3 r) 5) || ltb (wordField r) 64)
+
+unfoldable pub counting : Found → Found
+counting (It r) = cond (counts r) (It r) Missing
+counting Missing = Missing
+
 -- a step of an event's procedure
 abbrev pub stepIn : List Record → ℕ → ℕ → Found
-stepIn rs e i = findIn (keyBy 0x17 e i 0) rs
+stepIn rs e i = counting (findIn (keyBy 0x17 e i 0) rs)
 
 abbrev pub operationOf : List Record → ℕ → ℕ → ℕ
 operationOf rs e i = fieldOf field3 (stepIn rs e i)

@@ -4,8 +4,12 @@ use native.Mathlib.Omega.{arith}
 use mathlib.Core.Path.{_≡_, refl, sym, ap, _∙_, subst}
 use mathlib.Core.List.{List, Memᴰ·cast}
 use mathlib.Core.Option.{some}
-use mathlib.Core.Bool.{cond}
-use lib.Dec.{T, eqb}
+use mathlib.Core.Bool.{Bool, true, false, cond, not, _||_, false≢true}
+use lib.Dec.{T, eqb, ltb, lt→ltb}
+use lib.Ieee.Fits.{and-i}
+use borrow.Author.Tests.{eqb-true}
+use denote.Floats.{passes as holds, is-true}
+use Rattle.records.specs.Range.{inRange}
 use Rattle.records.specs.Key.{keyBy, keyOf}
 use Rattle.records.specs.declared.Record.{Record}
 use Rattle.records.specs.declared.Record.the-variants.{Head, Event, Module, ModuleMove, Supervisor, SupervisorMove, Disabling, Step, End}
@@ -14,7 +18,7 @@ use Rattle.reader.specs.Find.{findIn}
 use Rattle.reader.specs.declared.Found.{Found}
 use Rattle.reader.specs.declared.Found.the-variants.{It, Missing}
 use Rattle.rules.specs.LookUp.{field2, field3, wordField, found, fieldOf, moduleIn, supervisorIn, alphabetOf}
-use Rattle.plan.specs.Plan.{field4, target, moduleMove, supervisorMove, shown, stepIn, operationOf, operandOf}
+use Rattle.plan.specs.Plan.{field4, target, moduleMove, supervisorMove, shown, counts, counting, stepIn, operationOf, operandOf}
 use Rattle.accepted.specs.Plan.{_∈_, ModuleLaw, ModuleMoveLaw, SupervisorLaw, SupervisorMoveLaw, DisablingLaw, StepLaw, Sound}
 use Rattle.accepted.proofs.Look.{some-found}
 
@@ -48,6 +52,16 @@ led Missing y e = let z : _≡_ {A = ℕ} 0 1 = cc in absurd (omega arith)
 
 leads : (P : ℕ → Type 0) (x y : ℕ) → some x ≡ some y → P x → P y
 leads P x y e p = let h : x ≡ y = cc in subst P h p
+
+-- a step that counts is the one found
+counted : (l : Found) → T (found (counting l)) → counting l ≡ l
+unfolding counting found
+counted Missing t = refl
+counted (It r) t = go (counts r) t
+  where
+    go : (b : Bool) → T (found (cond b (It r) Missing)) → cond b (It r) Missing ≡ It r
+    go true u = refl
+    go false u = absurd u
 
 module _ (rs : List Record) (plan : Sound rs) where
   -- what holds of the record of a kind and key holds of what the look-up finds
@@ -87,4 +101,30 @@ module _ (rs : List Record) (plan : Sound rs) where
 
   pub step-law : (e i : ℕ) → T (found (stepIn rs e i)) → StepLaw rs e i (operationOf rs e i) (operandOf rs e i)
   unfolding fieldOf field3 wordField
-  step-law e i = at (keyBy 0x17 e i 0) (λ l. StepLaw rs e i (fieldOf field3 l) (fieldOf wordField l)) (λ r. plan .laws (keyed (keyBy 0x17 e i 0) r))
+  step-law e i t =
+      let p : RecordKey = keyBy 0x17 e i 0 in
+      let c : stepIn rs e i ≡ findIn p rs = counted (findIn p rs) t in
+      subst (λ (l : Found). StepLaw rs e i (fieldOf field3 l) (fieldOf wordField l)) (sym c)
+      (at p (λ l. StepLaw rs e i (fieldOf field3 l) (fieldOf wordField l)) (λ r. plan .laws (keyed p r)) (subst (λ (l : Found). T (found l)) c t))
+
+  -- every listed step counts: its fields are in range, and what it responds with is an event's number
+  pub step-listed : (e i : ℕ) → stepIn rs e i ≡ findIn (keyBy 0x17 e i 0) rs
+  unfolding counting found field3 wordField
+  step-listed e i = go (findIn p rs) refl (found (findIn p rs)) refl
+    where
+      p : RecordKey
+      p = keyBy 0x17 e i 0
+
+      respond : (r : Record) → keyed p r ∈ rs → (b : Bool) → eqb (field3 r) 5 ≡ b → T (not b || ltb (wordField r) 64)
+      respond r n true q =
+          let l = plan .laws (keyed p r) n .respond (eqb-true (field3 r) 5 q) in
+          lt→ltb (wordField r) 64 (omega (arith, l .event, plan .events .1))
+      respond r n false q = tt
+
+      go : (l : Found) → findIn p rs ≡ l → (b : Bool) → found (findIn p rs) ≡ b → counting (findIn p rs) ≡ findIn p rs
+      go l q true f =
+          at p (λ l. counting l ≡ l)
+          (λ r n. ap (λ (b : Bool). cond b (It (keyed p r)) Missing) (is-true (counts (keyed p r)) (and-i (inRange (keyed p r)) _ (holds _ (plan .ranges (keyed p r) n)) (respond r n (eqb (field3 r) 5) refl))))
+          (holds _ f)
+      go Missing q false f = rw q refl
+      go (It r) q false f = absurd (false≢true (sym f ∙ ap found q))

@@ -51,6 +51,7 @@ turn-laws rs s w = record {
   event-owner = plan.event-owner rs s;
   supervisor-start = plan.supervisor-start rs s;
   supervisor-moved = plan.supervisor-moved rs s;
+  step-listed = found.step-listed rs s;
   step-law = λ e i f. found.step-law rs s e i (holds _ f);
   start-state = λ m. refl;
   start-fits = λ m. asked (ltb m (modulesOf rs)) (ownFits rs m (startOwn rs m)) (λ h. is-true _ (own.start-fits rs s m (ltb-true m (modulesOf rs) h)));

@@ -5,7 +5,7 @@ use mathlib.Core.Path.{_≡_, refl}
 use mathlib.Core.List.{List, [], _∷_, _++_}
 use mathlib.Core.Bool.{Bool, true, false, cond}
 use lib.Dec.{T}
-use borrow.Author.Tests.{eqb-false}
+use borrow.Author.Tests.{leb-false}
 use denote.Floats.{passes as holds}
 use Rattle.records.specs.declared.Record.{Record}
 use Rattle.plan.specs.Plan.{ownUncontrollable}
@@ -21,11 +21,11 @@ use Rattle.turn_laws.proofs.Procedure.{Parts, parts, whole}
 
 module _ (own : Own) (e : ℕ) (room : full own ≡ false) where
   pub queued-places : own .length ≤ 8 → EightPlaces (queued own e)
-  queued-places h = eight (queueOf own ++ (e ∷ [])) (omega (arith, one-more (queueOf own) e, at-most own, eqb-false (own .length) 8 room))
+  queued-places h = eight (queueOf own ++ (e ∷ [])) (omega (arith, one-more (queueOf own) e, at-most own, leb-false 8 (own .length) room))
 
   pub queued-parts : (rs : List Record) (m : ℕ) → T (ownUncontrollable rs m e) → Parts rs m own → Parts rs m (queued own e)
   queued-parts rs m u a =
-      let h : own .length < 8 = omega (arith, short rs m own (a .queue), eqb-false (own .length) 8 room) in
+      let h : own .length < 8 = omega (arith, short rs m own (a .queue), leb-false 8 (own .length) room) in
       record { state = a .state; queue = more-fits rs m own e h u (a .queue); procedure = a .procedure }
 
 -- ---- a response

@@ -3,14 +3,14 @@ use Prim.Native.Nat.{ℕ, suc, _≤_, _<_}
 use native.Mathlib.Omega.{arith}
 use mathlib.Core.Path.{_≡_, refl, sym, ap, _∙_, subst}
 use mathlib.Core.List.{List}
-use mathlib.Core.Bool.{Bool, true, false, cond, not}
+use mathlib.Core.Bool.{Bool, true, false, cond, not, _&&_}
 use lib.Dec.{T, eqb, ltb, lt→ltb, ltb→lt}
 use lib.Ieee.Fits.{and-i, eq→eqb}
 use borrow.Author.Tests.{eqb-true, eqb-false}
 use denote.Floats.{passes as holds}
 use Rattle.records.specs.declared.Record.{Record}
-use Rattle.rules.specs.LookUp.{eventsOf, ownerOf, controllable}
-use Rattle.plan.specs.Plan.{ownEvent, ownUncontrollable}
+use Rattle.rules.specs.LookUp.{found, eventsOf, ownerOf, controllable}
+use Rattle.plan.specs.Plan.{ownEvent, ownUncontrollable, stepIn}
 use Rattle.accepted.specs.Plan.{Sound}
 use Rattle.water.specs.Water.{flowOk, added, reached, waterZero, running}
 use Rattle.water.specs.declared.Flow.{Flow}
@@ -18,7 +18,7 @@ use Rattle.water.specs.declared.Water.{Water}
 use Rattle.modules.specs.declared.Own.{Own}
 use Rattle.modules.specs.declared.Procedure.{Procedure}
 use Rattle.modules.specs.Queue.{full, queued}
-use Rattle.modules.specs.Procedure.{withProcedure, withOutputs, onward, counted, withWater, outputOn, outputOff, performed, ticked, taken, refused, tickOf}
+use Rattle.modules.specs.Procedure.{withProcedure, withOutputs, onward, counted, withWater, outputOn, outputOff, poured, performed, ticked, taken, refused, tickOf}
 use Rattle.modules.specs.Fits.{ownFits, queueFits}
 use Rattle.turn_laws.specs.Laws.{EightPlaces, operationAt, operandAt, AtStep}
 use Rattle.turn_laws.proofs.Water.{goes-on}
@@ -47,20 +47,24 @@ module _ (rs : List Record) (own : Own) where
   tick-cases : (f : Flow) (P : Own → Type 0)
       → P own
       → (Runs → (outputs : ℕ) → P (onward rs (withOutputs own outputs)))
-      → (Runs → eqb o 3 ≡ true → eqb (suc n) x ≡ false → P (counted own))
+      → (Runs → eqb o 3 ≡ true → ltb (suc n) x ≡ true → P (counted own))
       → (Runs → eqb o 4 ≡ true → flowOk f ≡ true → reached (added w f) ≡ false → P (withWater own (added w f)))
       → (Runs → eqb o 1 ≡ false → eqb o 2 ≡ false → eqb o 3 ≡ false → eqb o 4 ≡ false → full own ≡ false → P (onward rs (queued own x)))
       → P (tickOf rs f own .own)
   unfolding tickOf performed
   tick-cases f P stay next wait pour respond = reading (flowOk f) refl
     where
-      waited : Runs → eqb o 3 ≡ true → (b : Bool) → eqb (suc n) x ≡ b → P (cond b (onward rs own) (counted own))
-      waited r c true q = next r (own .outputs)
-      waited r c false q = wait r c q
+      waited : Runs → eqb o 3 ≡ true → (b : Bool) → ltb (suc n) x ≡ b → P (cond b (counted own) (onward rs own))
+      waited r c true q = wait r c q
+      waited r c false q = next r (own .outputs)
 
-      poured : Runs → eqb o 4 ≡ true → flowOk f ≡ true → (b : Bool) → reached (added w f) ≡ b → P (cond b (onward rs own) (withWater own (added w f)))
-      poured r d k true q = next r (own .outputs)
-      poured r d k false q = pour r d k q
+      ends : Runs → eqb o 4 ≡ true → flowOk f ≡ true → (b : Bool) → reached (added w f) ≡ b → P (cond b (onward rs own) (withWater own (added w f)))
+      ends r d k true q = next r (own .outputs)
+      ends r d k false q = pour r d k q
+
+      pours : Runs → eqb o 4 ≡ true → flowOk f ≡ true → (b : Bool) → P (cond b (poured rs f own) own)
+      pours r d k true = ends r d k (reached (added w f)) refl
+      pours r d k false = stay
 
       responded : Runs → eqb o 1 ≡ false → eqb o 2 ≡ false → eqb o 3 ≡ false → eqb o 4 ≡ false → (b : Bool) → full own ≡ b → P (cond b own (onward rs (queued own x)))
       responded r a b c d true q = stay
@@ -69,21 +73,22 @@ module _ (rs : List Record) (own : Own) where
       operation : Runs → flowOk f ≡ true → (a b c d : Bool) → eqb o 1 ≡ a → eqb o 2 ≡ b → eqb o 3 ≡ c → eqb o 4 ≡ d
           → P (cond a (onward rs (withOutputs own (outputOn (own .outputs) x)))
           (cond b (onward rs (withOutputs own (outputOff (own .outputs) x)))
-          (cond c (cond (eqb (suc n) x) (onward rs own) (counted own))
-          (cond d (cond (reached (added w f)) (onward rs own) (withWater own (added w f)))
+          (cond c (cond (ltb (suc n) x) (counted own) (onward rs own))
+          (cond d (cond (running x w) (poured rs f own) own)
           (cond (full own) own (onward rs (queued own x)))))))
       operation r k true b c d ea eb ec ed = next r (outputOn (own .outputs) x)
       operation r k false true c d ea eb ec ed = next r (outputOff (own .outputs) x)
-      operation r k false false true d ea eb ec ed = waited r ec (eqb (suc n) x) refl
-      operation r k false false false true ea eb ec ed = poured r ed k (reached (added w f)) refl
+      operation r k false false true d ea eb ec ed = waited r ec (ltb (suc n) x) refl
+      operation r k false false false true ea eb ec ed = pours r ed k (running x w)
       operation r k false false false false ea eb ec ed = responded r ea eb ec ed (full own) refl
 
-      run : flowOk f ≡ true → (b : Bool) → own .procedure .running ≡ b → P (cond b (performed rs o x f own) own)
-      run k true r = operation r k (eqb o 1) (eqb o 2) (eqb o 3) (eqb o 4) refl refl refl refl
-      run k false r = stay
+      run : flowOk f ≡ true → (b c : Bool) → own .procedure .running ≡ b → P (cond (b && c) (performed rs o x f own) own)
+      run k true true r = operation r k (eqb o 1) (eqb o 2) (eqb o 3) (eqb o 4) refl refl refl refl
+      run k true false r = stay
+      run k false c r = stay
 
       reading : (b : Bool) → flowOk f ≡ b → P (cond b (taken (ticked rs f own)) (refused 14 own) .own)
-      reading true k = run k (own .procedure .running) refl
+      reading true k = run k (own .procedure .running) (found (stepIn rs (own .procedure .event) (own .procedure .index))) refl
       reading false k = stay
 
   pub tick-state : (f : Flow) → tickOf rs f own .own .state ≡ own .state
@@ -113,13 +118,12 @@ module _ (rs : List Record) (own : Own) where
       stays-at : (p : Procedure) → p .running ≡ true → StepParts rs m p → T (ownFits rs m (withProcedure own p))
       stays-at p e s = whole rs m (withProcedure own p) (with-procedure rs m own p clauses (step-whole rs m p e s))
 
-      counted-fits : eqb o 3 ≡ true → eqb (suc n) x ≡ false → T (ownFits rs m (counted own))
+      counted-fits : eqb o 3 ≡ true → ltb (suc n) x ≡ true → T (ownFits rs m (counted own))
       counted-fits c q =
-          let l : n < x = ltb→lt n x (if-so (eqb o 3) (ltb n x) (eqb n 0) c (now .ticks)) in
           stays-at (counted own .procedure) refl (record {
             there = now .there;
             own-event = now .own-event;
-            ticks = so (eqb o 3) (ltb (suc n) x) (eqb (suc n) 0) c (lt→ltb (suc n) x (omega (arith, eqb-false (suc n) x q)));
+            ticks = so (eqb o 3) (ltb (suc n) x) (eqb (suc n) 0) c (holds _ q);
             water = now .water;
           })
 

@@ -36,7 +36,7 @@ module _ (rs : List Record) (m : ℕ) (own : Own) where
       → ((e : ℕ) (q : List ℕ) (st : ℕ) → queueOf own ≡ e ∷ q → moduleMove rs m (own .state) e ≡ some st
       → P (record { turn = Event e; own = moved (withQueue own q) st (own .procedure) }))
       → ((e : ℕ) (q : List ℕ) → queueOf own ≡ e ∷ q → P (record { turn = Stray e; own = withQueue own q }))
-      → ((e st : ℕ) → queueOf own ≡ [] → own .procedure .running ≡ false → Lowest (enabled rs m k (own .state)) (eventsOf rs) e → moduleMove rs m (own .state) e ≡ some st
+      → ((e st : ℕ) → queueOf own ≡ [] → own .procedure .running ≡ false → Lowest (enabled rs m k (own .state)) 64 e → moduleMove rs m (own .state) e ≡ some st
       → P (record { turn = Event e; own = moved own st (arriveAt rs e 0) }))
       → P (record { turn = Nothing; own = own })
       → P (turnOf rs m k own)
@@ -47,19 +47,19 @@ module _ (rs : List Record) (m : ℕ) (own : Own) where
       fires e q h (some st) g = response e q st h g
       fires e q h none g = stray e q h
 
-      commands : (e : ℕ) → queueOf own ≡ [] → own .procedure .running ≡ false → Lowest (enabled rs m k (own .state)) (eventsOf rs) e
+      commands : (e : ℕ) → queueOf own ≡ [] → own .procedure .running ≡ false → Lowest (enabled rs m k (own .state)) 64 e
           → (o : Option ℕ) → moduleMove rs m (own .state) e ≡ o → P (byCommand rs m own e o)
       commands e h r l (some st) g = command e st h r l g
       commands e h r l none g = nothing
 
-      chooses : queueOf own ≡ [] → own .procedure .running ≡ false → (o : Option ℕ) → least (enabled rs m k (own .state)) (eventsOf rs) ≡ o → P (byChoice rs m own o)
-      chooses h r (some e) g = commands e h r (least-some (enabled rs m k (own .state)) (eventsOf rs) e g) (moduleMove rs m (own .state) e) refl
+      chooses : queueOf own ≡ [] → own .procedure .running ≡ false → (o : Option ℕ) → least (enabled rs m k (own .state)) 64 ≡ o → P (byChoice rs m own o)
+      chooses h r (some e) g = commands e h r (least-some (enabled rs m k (own .state)) 64 e g) (moduleMove rs m (own .state) e) refl
       chooses h r none g = nothing
 
       rests : queueOf own ≡ [] → (b : Bool) → own .procedure .running ≡ b
-          → P (cond b (record { turn = Nothing; own = own }) (byChoice rs m own (least (enabled rs m k (own .state)) (eventsOf rs))))
+          → P (cond b (record { turn = Nothing; own = own }) (byChoice rs m own (least (enabled rs m k (own .state)) 64)))
       rests h true r = nothing
-      rests h false r = chooses h r (least (enabled rs m k (own .state)) (eventsOf rs)) refl
+      rests h false r = chooses h r (least (enabled rs m k (own .state)) 64) refl
 
       queue : (q : List ℕ) → queueOf own ≡ q → P (turnOn rs m k own q)
       queue (e ∷ q) h = fires e q h (moduleMove rs m (own .state) e) refl
@@ -92,7 +92,7 @@ module _ (rs : List Record) (m : ℕ) (own : Own) where
         queue (e ∷ q) = refl
         queue [] =
             ap (λ (o : Option ℕ). cond (own .procedure .running) (record { turn = Nothing; own = own }) (byChoice rs m own o))
-            (least-same (enabled rs m k (own .state)) (enabled rs m k′ (own .state)) (eventsOf rs) (λ e l. able e (moduleMove rs m (own .state) e) refl))
+            (least-same (enabled rs m k (own .state)) (enabled rs m k′ (own .state)) 64 (λ e l. able e (moduleMove rs m (own .state) e) refl))
 
     pub turn-fits : (k : ℕ) → T (ownFits rs m own) → T (ownFits rs m (turnOf rs m k own .own))
     unfolding queueFits
@@ -100,7 +100,7 @@ module _ (rs : List Record) (m : ℕ) (own : Own) where
         turn-cases k (λ y. T (ownFits rs m (y .own)))
         (λ e q st h g. whole rs m (moved (withQueue own q) st (own .procedure)) (record { state = leads e st g; queue = rest-fits rs m own e q h (a .queue); procedure = a .procedure }))
         (λ e q h. whole rs m (withQueue own q) (record { state = a .state; queue = rest-fits rs m own e q h (a .queue); procedure = a .procedure }))
-        (λ e st h r l g. whole rs m (moved own st (arriveAt rs e 0)) (record { state = leads e st g; queue = a .queue; procedure = arrives rs plan m e 0 (mine e st (l .below) g) }))
+        (λ e st h r l g. whole rs m (moved own st (arriveAt rs e 0)) (record { state = leads e st g; queue = a .queue; procedure = arrives rs plan m e 0 (mine e st g) }))
         t
       where
         a : Parts rs m own
@@ -109,9 +109,9 @@ module _ (rs : List Record) (m : ℕ) (own : Own) where
         leads : (e st : ℕ) → moduleMove rs m (own .state) e ≡ some st → T (moduleState rs m st)
         leads e st g = holds _ (lt-ltb st _ (module-move rs plan m (own .state) e st g .to))
 
-        mine : (e st : ℕ) → e < eventsOf rs → moduleMove rs m (own .state) e ≡ some st → T (ownEvent rs m e)
-        mine e st h g =
-            let l : T (ltb e (eventsOf rs)) = lt→ltb e (eventsOf rs) h in
+        mine : (e st : ℕ) → moduleMove rs m (own .state) e ≡ some st → T (ownEvent rs m e)
+        mine e st g =
+            let l : T (ltb e (eventsOf rs)) = lt→ltb e (eventsOf rs) (module-move rs plan m (own .state) e st g .event) in
             let o : T (eqb (ownerOf rs e) m) = eq→eqb (by-own e st g) in
             search and-i
 

@@ -8,7 +8,9 @@ use mathlib.Core.Bool.{Bool, true, false, cond}
 use lib.ListN.{length, drop, set}
 use lib.Dec.{ltb}
 use Rattle.bits.specs.Bit.{bit}
+use Rattle.records.specs.Key.{keyBy}
 use Rattle.records.specs.declared.Record.{Record}
+use Rattle.reader.specs.Find.{findIn}
 use Rattle.roundtrip.specs.Fits.{Fits}
 use Rattle.rules.specs.LookUp.{found, modulesOf, supervisorsOf, eventsOf, supervisorState, ownerOf, controllable}
 use Rattle.plan.specs.Plan.{moduleMove, supervisorMove, moduleInitial, supervisorInitial, shown, inAlphabet, stepIn, operationOf, operandOf}
@@ -106,7 +108,8 @@ pub record TurnLaws (rs : List Record) : Type 0 where
   -- a supervisor's state fits at the start and after a move
   pub supervisor-start : (v : ℕ) → stateFitsAt rs v (supervisorInitial rs v) ≡ true
   pub supervisor-moved : (v x e y : ℕ) → supervisorMove rs v x e ≡ some y → stateFitsAt rs v y ≡ true
-  -- what is asked of a step that is there
+  -- every listed step counts, and what is asked of one that is there
+  pub step-listed : (e i : ℕ) → stepIn rs e i ≡ findIn (keyBy 0x17 e i 0) rs
   pub step-law : (e i : ℕ) → found (stepIn rs e i) ≡ true → StepLaw rs e i (operationOf rs e i) (operandOf rs e i)
   -- ---- the start
   pub start-state : (m : ℕ) → startOwn rs m .state ≡ moduleInitial rs m

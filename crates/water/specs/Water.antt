@@ -1,9 +1,10 @@
 -- Document 01, "Procedures and water".
 use Prim.Native.Nat.{ℕ, _+_}
-use mathlib.Core.Bool.{Bool, true, _&&_}
-use lib.Dec.{eqb, leb, ltb}
-use lib.Ieee.{Float, binary64, ofBits}
-use Rattle.litres.specs.Eighths.{eighths, isEighths, count, litresOk}
+use mathlib.Core.Path.{_≡_}
+use mathlib.Core.Bool.{Bool, true, cond, _&&_}
+use lib.Dec.{T, eqb, leb, ltb}
+use lib.Ieee.{Float, binary64, ofBits, add, le}
+use Rattle.litres.specs.Eighths.{eighths, isEighths, count, litresOk, targetOk}
 use Rattle.water.specs.declared.Water.{Water}
 use Rattle.water.specs.declared.Flow.{Flow}
 use Rattle.water.specs.declared.Flow.the-variants.{Litres, NoSensor}
@@ -19,9 +20,9 @@ abbrev pub noWater : Water
 noWater = record { target = eighths 0; total = eighths 0 }
 
 -- "The water total of a running litres step is one small record of target and total"; "The total starts at 0". The target's bits are the
--- plan's.
-abbrev pub waterOf : ℕ → Water
-waterOf bits = record { target = ofBits binary64 bits; total = eighths 0 }
+-- plan's; bits that are no target give no water.
+unfoldable pub waterOf : ℕ → Water
+waterOf bits = cond (targetOk bits) (record { target = ofBits binary64 bits; total = eighths 0 }) noWater
 
 -- "The total .. equals the exact sum in eighths"; "Without a sensor the total stays."
 unfoldable pub added : Water → Flow → Water
@@ -42,4 +43,22 @@ waterZero w = isZero (w .target) && isZero (w .total)
 -- "the target being the plan's and the .. total from 0 to below it, a total a multiple of 1/8 and not minus zero"
 abbrev pub running : ℕ → Water → Bool
 running bits w =
-    isEighths (w .target) && eqb (count (w .target)) (count (ofBits binary64 bits)) && isEighths (w .total) && ltb (count (w .total)) (count (w .target))
+    targetOk bits && isEighths (w .target) && eqb (count (w .target)) (count (ofBits binary64 bits))
+    && isEighths (w .total) && ltb (count (w .total)) (count (w .target))
+
+-- ---- the same in f64
+
+-- the f64 sum of total and reading
+unfoldable pub sum : Water → Flow → Water
+sum w (Litres x) = record { target = w .target; total = add binary64 (w .total) x }
+sum w NoSensor = w
+
+-- r is the water with the reading added in f64, and of a total in eighths that is the exact sum
+pub record Summed (w : Water) (f : Flow) (r : Water) : Type 0 where
+  pub is : r ≡ sum w f
+  pub exact : T (isEighths (w .total)) → T (flowOk f) → r ≡ added w f
+
+-- b tells whether the total is at or above the target in f64, and in eighths that is whether the target is reached
+pub record Compared (w : Water) (b : Bool) : Type 0 where
+  pub is : b ≡ le (w .target) (w .total)
+  pub exact : T (isEighths (w .target)) → T (isEighths (w .total)) → b ≡ reached w
