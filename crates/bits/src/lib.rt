@@ -1,6 +1,6 @@
 // Masks of events and of automata.
 ghost use mathlib.Core.Path.{_≡_};
-ghost use Rattle.bits.specs.Bit.{bit, allBelow, everyEvent, putBit};
+ghost use Rattle.bits.specs.Bit.{bit, allBelow, everyEvent, putBit, least, optionOf};
 
 // A number, or the word that there is none.
 pub enum Maybe {
@@ -47,5 +47,18 @@ pub fn has_below(m: u64, n: u8) -> bool
         } else {
             false
         }
+    }
+}
+
+// The lowest bit of a mask.
+pub fn lowest(m: u64) -> Maybe
+    ensures { λ r. ⌜ optionOf r ≡ least (bit m) 64 ⌝ }
+{
+    let e = u64::trailing_zeros(m);
+    if e < 64 {
+        let n = e as u8;
+        Maybe::Just(n)
+    } else {
+        Maybe::Nothing
     }
 }

@@ -7,9 +7,9 @@ use native.Mathlib.Omega.{arith}
 use lib.ListN.{length, getD, set, length-set}
 use lib.Seq.{getD-set-same, getD-set-other}
 use lib.Dec.{eqb, ltb}
-use borrow.Author.Tests.{ltb-true, ltb-false, eqb-true, eqb-false, eq-eqb, ne-eqb}
+use borrow.Author.Tests.{ltb-false, eqb-true, eqb-false}
 use Rattle.bits.specs.Bit.{bit, putBit}
-use Rattle.bits.proofs.Laws.{put-bits, put-fits}
+use Rattle.bits.proofs.Laws.{put-at, put-fits}
 use Rattle.context.specs.Context.{withEntry, withBit}
 
 pub with-entry-length : (k : ℕ) (t : List ℕ) (i x : ℕ) → length t ≡ k → length (withEntry k t i x) ≡ k
@@ -39,21 +39,12 @@ with-bit-fits k m i on h = go (ltb i k)
     go true = put-fits m i on h
     go false = h
 
-eqb-swap : (i j : ℕ) → eqb j i ≡ eqb i j
-eqb-swap i j = go (eqb i j) refl
-  where
-    go : (d : Bool) → eqb i j ≡ d → eqb j i ≡ d
-    go true q = eq-eqb j i (sym (eqb-true i j q))
-    go false q = ne-eqb j i (λ e. eqb-false i j q (sym e))
-
 -- the bit at j: on or off where j is i, else as it was
 pub with-bit-at : (k m i : ℕ) (on : Bool) (j : ℕ) → k ≤ 64 → m < 2 ^ 64 → j < k → bit (withBit k m i on) j ≡ cond (eqb i j) on (bit m j)
 unfolding withBit
 with-bit-at k m i on j w h l = go (ltb i k) refl (eqb i j) refl
   where
     go : (b : Bool) → ltb i k ≡ b → (d : Bool) → eqb i j ≡ d → bit (cond b (putBit m i on) m) j ≡ cond d on (bit m j)
-    go true p d q =
-        let g : i < k = ltb-true i k p in
-        put-bits m i on j h (omega arith) (omega arith) ∙ ap (λ (t : Bool). cond t on (bit m j)) (eqb-swap i j ∙ q)
+    go true p d q = put-at m i on j h (omega arith) ∙ ap (λ (t : Bool). cond t on (bit m j)) q
     go false p true q = let e : i ≡ j = eqb-true i j q in let g : k ≤ i = ltb-false i k p in absurd (omega arith)
     go false p false q = refl

@@ -14,7 +14,7 @@ use Rattle.protocol.specs.Generic.{update, isNumber}
 use Rattle.protocol.specs.Plan.{Plan, Laws}
 use Rattle.protocol.specs.Rules.{OneDevice, neighbour, Message, bid, permit, release, ModuleState, lacks, missing, bidsTo, afterBid, afterPermit, takePermit, withOwn, SupervisorState, afterSending, afterNoting, takeBid, applied, afterRelease, takeRelease}
 use Rattle.protocol.specs.System.{System, afterModuleStep, afterSupervisorStep, afterMessage, afterOwn}
-use Rattle.bits.proofs.Lowest.{Lowest}
+use Rattle.bits.proofs.Least.{Lowest}
 use Rattle.protocol.proofs.Tools.{clash, eqb-self, digit, digit-false, oneAt, oneAt-most, oneAt-some, update-each, count, count-one, nil, cons, All-append, Inserted, inserted-count, inserted-all}
 use Rattle.protocol.proofs.Masks.{put-on, put-self, put-keep, put-cases, put-off, or-left, or-right, or-cases}
 use Rattle.protocol.proofs.Neighbours.{neighbour-below, neighbour-module, lacks-parts, lacks-not, missing-some, missing-neighbour}

@@ -8,7 +8,7 @@ use borrow.Author.Tests.{eqb-true, not-true, not-false}
 use Rattle.bits.specs.Bit.{bit, least}
 use Rattle.protocol.specs.Plan.{Plan, Laws}
 use Rattle.protocol.specs.Rules.{neighbour, lacks, missing}
-use Rattle.bits.proofs.Lowest.{Lowest, least-some, least-find}
+use Rattle.bits.proofs.Least.{Lowest, least-some, least-find}
 use Rattle.protocol.proofs.Tools.{and-true, and-intro, eqb-self, isSome-is}
 
 pub neighbour-event : (P : Plan) (m s : ℕ) → neighbour P m s ≡ true → (e : ℕ) × (P .owner e ≡ m) × (P .alphabet s e ≡ true)

@@ -15,7 +15,7 @@ use Rattle.protocol.specs.Generic.{Picked, pick}
 use Rattle.protocol.specs.Plan.{Plan, Laws}
 use Rattle.protocol.specs.Rules.{OneDevice, neighbour, hasNeighbour, Message, bid, permit, release, ModuleState, lacks, missing, Choice, takesTurn, bidsTo, choiceOn, choice, afterTurn, afterBid, afterPermit, SupervisorState, placeAfter, firstNoted, servedOn, served, afterSending, afterNoting, afterRelease}
 use Rattle.protocol.specs.System.{System, moduleStep, supervisorStep, withModule, withSupervisor, afterModuleStep, afterSupervisorStep, afterMessage, afterDelivery, step, Accepts, Changes, of-module, of-supervisor, Progress, by-delivery, by-module-step, by-supervisor-step}
-use Rattle.bits.proofs.Lowest.{Lowest, least-find}
+use Rattle.bits.proofs.Least.{Lowest, least-find}
 use Rattle.protocol.proofs.Tools.{clash, either-way, digit-true, oneAt-is, update-same, count, count-nil, Inserted, here, pick-inserted, inserted-all}
 use Rattle.protocol.proofs.Neighbours.{neighbour-below, neighbour-module, lacks-parts, missing-some}
 use Rattle.protocol.proofs.Invariant.{bidOf, permitOf, releaseOf, Inv}

@@ -21,7 +21,7 @@ use Rattle.protocol.specs.Plan.{Plan, Fired, TurnLaw, OwnLaws, Laws}
 use Rattle.protocol.specs.Rules.{OneDevice, stateAfter, shownBelow, deviceTurn, DeviceAct, deviceResponds, deviceTicks, deviceStep, Message, bid, permit, release, missing, Choice, takesTurn, waits, bidsTo, choiceOn, choice, SupervisorState, placeAfter, firstNoted, servedOn, served}
 use Rattle.protocol.specs.System.{System, Act, moduleStep, supervisorStep, deliver, respond, tick, afterModuleStep, afterSupervisorStep, afterMessage, afterDelivery, afterOwn, step, run, startSystem, startDevice, Seen, turnSeen, replySeen, repliedSeen, stepSeen, actSeen, seen, stepFed, actFed, fed, deviceActSeen, deviceRun, deviceSeen, turnEvents, recordOf, commandsOf, Position, startPosition, lead, replay, LegalEvent, Legal, none-left, next}
 use Rattle.protocol.specs.Demand.{Demand3}
-use Rattle.bits.proofs.Lowest.{least-some}
+use Rattle.bits.proofs.Least.{least-some}
 use Rattle.protocol.proofs.Tools.{clash, either-way, digit, oneAt, update-same, update-other, update-each, count-nil, nil, Inserted, pick-inserted}
 use Rattle.protocol.proofs.Invariant.{bidOf, permitOf, releaseOf, Inv}
 use Rattle.protocol.proofs.Keep.{sending-keeps, bidding-keeps, bid-keeps, permit-keeps, release-keeps, own-keeps}

@@ -19,7 +19,7 @@ use Rattle.modules.specs.declared.Turned.{Turned}
 use Rattle.protocol.specs.Plan.{Plan, TurnLaw, OwnLaws, Laws}
 use Rattle.protocol.specs.Rules.{OneDevice, stateAfter, shownBelow, deviceTurn, deviceTurns, deviceStep, neighbour, Message, release, ModuleState, lacks, missing, takesTurn, afterTurn, eventFor, releases, eventOfBoth, applied}
 use Rattle.protocol.specs.System.{System, afterModuleStep}
-use Rattle.bits.proofs.Lowest.{least-none}
+use Rattle.bits.proofs.Least.{least-none}
 use Rattle.protocol.proofs.Tools.{clash, either-way, bool-ext, and-intro, eqb-self, digit, oneAt, oneAt-most, oneAt-some, update-each, count, count-nil, count-cons, count-append, All, nil, cons, All-append}
 use Rattle.protocol.proofs.Masks.{or-left, or-right, or-cases}
 use Rattle.protocol.proofs.Neighbours.{neighbour-by, neighbour-below, lacks-not}

@@ -26,7 +26,7 @@ use Rattle.modules.specs.Turn.{moved, byResponse, byCommand, enabled, byChoice,
 use Rattle.modules.specs.Fits.{queueFits, ownFits}
 use Rattle.turn_laws.specs.Laws.{fitsAt, EightPlaces, TurnOk, Command}
 use Rattle.turn_laws.proofs.Found.{module-move}
-use Rattle.bits.proofs.Lowest.{Lowest, least-some, least-same}
+use Rattle.bits.proofs.Least.{Lowest, least-some, least-same}
 use Rattle.turn_laws.proofs.Queue.{rest-fits, head-own, in-places, eight}
 use Rattle.turn_laws.proofs.Procedure.{Parts, parts, whole, arrives}
 

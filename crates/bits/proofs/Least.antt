@@ -1,12 +1,16 @@
--- The lowest number that passes a test.
+-- The lowest number that passes a test, and the lowest bit of a mask.
 use Prim.Native.Nat.{ℕ, zero, suc, _+_, _≤_, _<_}
-use native.Mathlib.Nat.{not-suc-le-zero, le-of-suc-le-suc, eq-or-lt-of-le}
+use native.Mathlib.Nat.{not-suc-le-zero, le-of-suc-le-suc, eq-or-lt-of-le, lt-of-lt-of-le}
 use native.Mathlib.Omega.{arith}
 use mathlib.Core.Path.{_≡_, refl, sym, ap, ap₂, _∙_, subst}
 use mathlib.Core.Logic.{⊎-elim}
+use lib.Count.{trailingZeros}
+use lib.Dec.{ltb}
+use borrow.Author.Tests.{ltb-true, ltb-false}
 use mathlib.Core.Option.{Option, none, some}
 use mathlib.Core.Bool.{Bool, true, false, _||_, true≢false}
-use Rattle.bits.specs.Bit.{least, orElse, someBelow, isSome}
+use Rattle.bits.specs.Bit.{bit, least, orElse, someBelow, isSome}
+use Rattle.bits.proofs.Laws.{lowest}
 
 pub record Lowest (p : ℕ → Bool) (n e : ℕ) : Type 0 where
   pub below : e < n
@@ -41,6 +45,34 @@ least-find p n j h e = go (least p n) refl
     go : (o : Option ℕ) → least p n ≡ o → (i : ℕ) × (least p n ≡ some i)
     go none q = absurd (true≢false (sym e ∙ least-none p n q j h))
     go (some i) q = (i, q)
+
+-- a lowest number is the lowest, and where none passes there is none
+pub least-of : (p : ℕ → Bool) (n e : ℕ) → Lowest p n e → least p n ≡ some e
+least-of p n e l = go (least-find p n e (l .below) (l .passes))
+  where
+    same : (i : ℕ) → Lowest p n i → (a b : Bool) → ltb i e ≡ a → ltb e i ≡ b → i ≡ e
+    same i k true b g h = absurd (true≢false (sym (k .passes) ∙ l .first i (ltb-true i e g)))
+    same i k false true g h = absurd (true≢false (sym (l .passes) ∙ k .first e (ltb-true e i h)))
+    same i k false false g h = omega (arith, ltb-false i e g, ltb-false e i h)
+
+    go : (i : ℕ) × (least p n ≡ some i) → least p n ≡ some e
+    go (i, q) = q ∙ ap some (same i (least-some p n i q) (ltb i e) (ltb e i) refl refl)
+
+pub least-absent : (p : ℕ → Bool) (n : ℕ) → ((j : ℕ) → j < n → p j ≡ false) → least p n ≡ none
+least-absent p n h = go (least p n) refl
+  where
+    go : (o : Option ℕ) → least p n ≡ o → least p n ≡ none
+    go none q = q
+    go (some i) q = let l = least-some p n i q in absurd (true≢false (sym (l .passes) ∙ h i (l .below)))
+
+-- the lowest bit of a mask of k bits is the count of trailing zeros, which is k where there is none
+pub lowest-some : (k m : ℕ) → trailingZeros k m < k → some (trailingZeros k m) ≡ least (bit m) k
+lowest-some k m h =
+    let l = lowest k m in
+    sym (least-of (bit m) k (trailingZeros k m) (record { below = h; passes = l .set h; first = l .below }))
+
+pub lowest-none : (k m : ℕ) → k ≤ trailingZeros k m → none ≡ least (bit m) k
+lowest-none k m h = sym (least-absent (bit m) k (λ j b. lowest k m .below j (lt-of-lt-of-le b h)))
 
 -- tests that agree below n have the same lowest
 pub least-same : (p q : ℕ → Bool) (n : ℕ) → ((j : ℕ) → j < n → p j ≡ q j) → least p n ≡ least q n
