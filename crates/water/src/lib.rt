@@ -1,4 +1,7 @@
 // The water of a running litres step, and a flow reading. Their rules are specs/Water.antt.
+ghost use mathlib.Core.Path.{_≡_};
+ghost use Rattle.water.specs.Water as Rules;
+ghost use Rattle.water.specs.Water.{flowOk, noWater, waterOf, Summed, Compared, isZero, waterZero};
 
 // One small record of target and total, in litres.
 pub struct Water {
@@ -10,4 +13,85 @@ pub struct Water {
 pub enum Flow {
     Litres(f64),
     NoSensor,
+}
+
+// Whether a reading is taken.
+pub fn flow_ok(f: Flow) -> bool
+    ensures { λ r. ⌜ r ≡ flowOk f ⌝ }
+{
+    match f {
+        Flow::Litres(x) => litres::litres_ok(x),
+        Flow::NoSensor => true,
+    }
+}
+
+// The water where no litres step runs.
+pub fn none() -> Water
+    ensures { λ r. ⌜ r ≡ noWater ⌝ }
+{
+    Water {
+        target: 0.0,
+        total: 0.0,
+    }
+}
+
+// The water as a litres step begins, by the bits of its target.
+pub fn started(bits: u64) -> Water
+    ensures { λ r. ⌜ r ≡ waterOf bits ⌝ }
+{
+    if litres::target_ok(bits) {
+        let t = f64::from_bits(bits);
+        Water {
+            target: t,
+            total: 0.0,
+        }
+    } else {
+        none()
+    }
+}
+
+// The water with one reading added.
+pub fn add_reading(w: Water, f: Flow) -> Water
+    ensures { λ r. ⌜ Summed w f r ⌝ }
+{
+    match f {
+        Flow::Litres(x) => Water {
+            target: w.target,
+            total: w.total + x,
+        },
+        Flow::NoSensor => w,
+    }
+}
+
+// Whether the total is at the target or above.
+pub fn reached(w: Water) -> bool
+    ensures { λ r. ⌜ Compared w r ⌝ }
+{
+    w.target <= w.total
+}
+
+fn zero(x: f64) -> bool
+    ensures { λ r. ⌜ r ≡ isZero x ⌝ }
+{
+    litres::is_eighths(x) & (x == 0.0)
+}
+
+// Whether target and total are 0 and not minus zero.
+pub fn is_zero(w: Water) -> bool
+    ensures { λ r. ⌜ r ≡ waterZero w ⌝ }
+{
+    zero(w.target) & zero(w.total)
+}
+
+// Whether it is the water of a litres step that has begun and not ended, by the bits of the plan's target.
+pub fn running(bits: u64, w: Water) -> bool
+    ensures { λ r. ⌜ r ≡ Rules.running bits w ⌝ }
+{
+    if litres::target_ok(bits) {
+        let t = f64::from_bits(bits);
+        let whole = litres::is_eighths(w.target) & litres::is_eighths(w.total);
+        whole & (w.target == t) & (w.total < w.target)
+    } else {
+        false
+    }
 }
