@@ -1,1 +1,230 @@
-// Look-ups on a plan: specs/Plan.antt.
+// Look-ups on a plan: specs/Plan.antt. They take any bytes and go by the first record of a kind and key.
+ghost use mathlib.Core.Path.{_≡_};
+ghost use Rattle.bits.specs.Bit.{optionOf};
+ghost use Rattle.records.specs.Key.{keyBy};
+ghost use Rattle.reader.specs.Walk.{recordsOf};
+ghost use Rattle.reader.specs.Find.{findIn};
+ghost use Rattle.rules.specs.LookUp.{modulesOf, supervisorsOf, eventsOf, moduleState, supervisorState, alphabetOf};
+ghost use Rattle.plan.specs.Plan.{target, moduleInitial, supervisorInitial, ownEvent, ownUncontrollable, inAlphabet, shown, moduleMove, supervisorAfter, stepIn};
+ghost use Rattle.plan.specs.Fields.{fieldsOf, Looked};
+use bits::Maybe;
+use reader::Found;
+use records::Record;
+use records::RecordKey;
+
+// The fields of a record in their order, the one of eight bytes last, and 0 for those that it lacks.
+pub struct Fields {
+    pub first: u8,
+    pub second: u8,
+    pub third: u8,
+    pub fourth: u8,
+    pub word: u64,
+}
+
+fn fields_by(first: u8, second: u8, third: u8, fourth: u8, word: u64) -> Fields
+    ensures { λ f. ⌜ f ≡ record { first = first; second = second; third = third; fourth = fourth; word = word } ⌝ }
+{
+    Fields {
+        first,
+        second,
+        third,
+        fourth,
+        word,
+    }
+}
+
+pub fn fields_of(r: Record) -> Fields
+    ensures { λ f. ⌜ f ≡ fieldsOf r ⌝ }
+{
+    match r {
+        Record::Head {
+            modules,
+            supervisors,
+            events,
+        } => fields_by(modules, supervisors, events, 0, 0),
+        Record::Event {
+            number,
+            owner,
+            class,
+        } => fields_by(number, owner, class, 0, 0),
+        Record::Module {
+            number,
+            states,
+            initial,
+        } => fields_by(number, states, initial, 0, 0),
+        Record::ModuleMove {
+            owner,
+            from,
+            event,
+            to,
+        } => fields_by(owner, from, event, to, 0),
+        Record::Supervisor {
+            number,
+            states,
+            initial,
+            alphabet,
+        } => fields_by(number, states, initial, 0, alphabet),
+        Record::SupervisorMove {
+            supervisor,
+            from,
+            event,
+            to,
+        } => fields_by(supervisor, from, event, to, 0),
+        Record::Disabling {
+            supervisor,
+            state,
+            mask,
+        } => fields_by(supervisor, state, 0, 0, mask),
+        Record::Step {
+            event,
+            index,
+            operation,
+            operand,
+        } => fields_by(event, index, operation, 0, operand),
+        Record::End => fields_by(0, 0, 0, 0, 0),
+    }
+}
+
+fn find(image: &[u8], kind: u8, first: u8, second: u8, third: u8) -> Found
+    ensures { λ f. ⌜ f ≡ findIn (keyBy kind first second third) (recordsOf (now (image .entry))) ⌝ }
+{
+    let key = RecordKey {
+        kind,
+        first,
+        second,
+        third,
+    };
+    reader::find(image, key)
+}
+
+fn look(image: &[u8], kind: u8, first: u8, second: u8) -> Fields
+    ensures { λ f. ⌜ Looked (findIn (keyBy kind first second 0) (recordsOf (now (image .entry)))) f ⌝ }
+{
+    let Found::It(r) = find(image, kind, first, second, 0) else {
+        return fields_by(0, 0, 0, 0, 0);
+    };
+    fields_of(r)
+}
+
+// The head's counts.
+pub fn modules_of(image: &[u8]) -> u8
+    ensures { λ r. ⌜ r ≡ modulesOf (recordsOf (now (image .entry))) ⌝ }
+{
+    look(image, 0x10, 0, 0).first
+}
+
+pub fn supervisors_of(image: &[u8]) -> u8
+    ensures { λ r. ⌜ r ≡ supervisorsOf (recordsOf (now (image .entry))) ⌝ }
+{
+    look(image, 0x10, 0, 0).second
+}
+
+pub fn events_of(image: &[u8]) -> u8
+    ensures { λ r. ⌜ r ≡ eventsOf (recordsOf (now (image .entry))) ⌝ }
+{
+    look(image, 0x10, 0, 0).third
+}
+
+// Whether a module or a supervisor has a state.
+pub fn module_state(image: &[u8], m: u8, st: u8) -> bool
+    ensures { λ r. ⌜ r ≡ moduleState (recordsOf (now (image .entry))) m st ⌝ }
+{
+    st < look(image, 0x12, m, 0).second
+}
+
+pub fn supervisor_state(image: &[u8], v: u8, st: u8) -> bool
+    ensures { λ r. ⌜ r ≡ supervisorState (recordsOf (now (image .entry))) v st ⌝ }
+{
+    st < look(image, 0x14, v, 0).second
+}
+
+pub fn module_initial(image: &[u8], m: u8) -> u8
+    ensures { λ r. ⌜ r ≡ moduleInitial (recordsOf (now (image .entry))) m ⌝ }
+{
+    look(image, 0x12, m, 0).third
+}
+
+pub fn supervisor_initial(image: &[u8], v: u8) -> u8
+    ensures { λ r. ⌜ r ≡ supervisorInitial (recordsOf (now (image .entry))) v ⌝ }
+{
+    look(image, 0x14, v, 0).third
+}
+
+// Whether an event is the module's, and whether it is an uncontrollable one of it.
+pub fn own_event(image: &[u8], m: u8, e: u8) -> bool
+    ensures { λ r. ⌜ r ≡ ownEvent (recordsOf (now (image .entry))) m e ⌝ }
+{
+    (e < events_of(image)) & (look(image, 0x11, e, 0).second == m)
+}
+
+pub fn own_uncontrollable(image: &[u8], m: u8, e: u8) -> bool
+    ensures { λ r. ⌜ r ≡ ownUncontrollable (recordsOf (now (image .entry))) m e ⌝ }
+{
+    own_event(image, m, e) & !(look(image, 0x11, e, 0).third == 1)
+}
+
+// A supervisor's alphabet, and whether it has an event.
+pub fn alphabet_of(image: &[u8], v: u8) -> u64
+    ensures { λ r. ⌜ r ≡ alphabetOf (recordsOf (now (image .entry))) v ⌝ }
+{
+    look(image, 0x14, v, 0).word
+}
+
+pub fn in_alphabet(image: &[u8], v: u8, e: u8) -> bool
+    ensures { λ r. ⌜ r ≡ inAlphabet (recordsOf (now (image .entry))) v e ⌝ }
+{
+    bits::has(alphabet_of(image, v), e)
+}
+
+// The mask that a supervisor shows in a state.
+pub fn shown(image: &[u8], v: u8, st: u8) -> u64
+    ensures { λ r. ⌜ r ≡ shown (recordsOf (now (image .entry))) v st ⌝ }
+{
+    look(image, 0x16, v, st).word
+}
+
+// Where a listed move of a kind leads.
+fn target_of(image: &[u8], kind: u8, owner: u8, from: u8, event: u8) -> Maybe
+    ensures { λ r. ⌜ optionOf r ≡ target (findIn (keyBy kind owner from event) (recordsOf (now (image .entry)))) ⌝ }
+{
+    let Found::It(r) = find(image, kind, owner, from, event) else {
+        return Maybe::Nothing;
+    };
+    let f = fields_of(r);
+    Maybe::Just(f.fourth)
+}
+
+pub fn module_move(image: &[u8], m: u8, st: u8, e: u8) -> Maybe
+    ensures { λ r. ⌜ optionOf r ≡ moduleMove (recordsOf (now (image .entry))) m st e ⌝ }
+{
+    target_of(image, 0x13, m, st, e)
+}
+
+// A supervisor's state after an event.
+pub fn supervisor_after(image: &[u8], v: u8, st: u8, e: u8) -> u8
+    ensures { λ r. ⌜ r ≡ supervisorAfter (recordsOf (now (image .entry))) v st e ⌝ }
+{
+    if in_alphabet(image, v, e) {
+        let Maybe::Just(t) = target_of(image, 0x15, v, st, e) else {
+            return st;
+        };
+        t
+    } else {
+        st
+    }
+}
+
+// A step of an event's procedure, which counts with its fields in range and, where it is a respond, with the number of an event.
+pub fn step(image: &[u8], e: u8, i: u8) -> Found
+    ensures { λ r. ⌜ r ≡ stepIn (recordsOf (now (image .entry))) e i ⌝ }
+{
+    let Found::It(r) = find(image, 0x17, e, i, 0) else {
+        return Found::Missing;
+    };
+    let f = fields_of(r);
+    if records::in_range(r) & (!(f.third == 5) | (f.word < 64)) {
+        Found::It(r)
+    } else {
+        Found::Missing
+    }
+}

@@ -139,28 +139,36 @@ module _ (s : List ℕ) (i : ℕ) {r : Read} where
   pub less-by : {t : Record} (n : ℕ) → r ≡ readAt s i → r ≡ Whole t n → length s - n < length s - i
   less-by n e g = let w = told-by e g in omega arith
 
--- a look-up among the records from i, by the same
-module _ (p : RecordKey) (s : List ℕ) (i : ℕ) {r : Read} {x : Found} where
-  pub finds-by : {t : Record} {n : ℕ} {q : RecordKey} {b : Bool} → r ≡ readAt s i → r ≡ Whole t n → q ≡ keyOf t → b ≡ sameKey q p → b ≡ true
-      → findIn p (recordsIn (walkFrom s i)) ≡ x → It t ≡ x
-  unfolding findIn recordsIn
-  finds-by {t = t} e g h m f v =
-      let a : sameKey (keyOf t) p ≡ true = cc in
-      sym (ap (λ (w : Walk). findIn p (recordsIn w)) (walks-by s i e g) ∙ simp a) ∙ v
+  pub records-by : {t : Record} {n : ℕ} → r ≡ readAt s i → r ≡ Whole t n → recordsIn (walkFrom s i) ≡ t ∷ recordsIn (walkFrom s n)
+  unfolding recordsIn
+  records-by e g = ap recordsIn (walks-by e g)
 
-  pub again-by : {t : Record} (n : ℕ) {q : RecordKey} {b : Bool} → r ≡ readAt s i → r ≡ Whole t n → q ≡ keyOf t → b ≡ sameKey q p → b ≡ false
-      → findIn p (recordsIn (walkFrom s i)) ≡ x → findIn p (recordsIn (walkFrom s n)) ≡ x
-  unfolding findIn recordsIn
-  again-by {t = t} n e g h m f v =
-      let a : sameKey (keyOf t) p ≡ false = cc in
-      sym (ap (λ (w : Walk). findIn p (recordsIn w)) (walks-by s i e g) ∙ simp a) ∙ v
-
-  pub missing-by : r ≡ readAt s i → OneOf (1 ∷ 2 ∷ 3 ∷ []) (tagOf the-type r) → findIn p (recordsIn (walkFrom s i)) ≡ x → Missing ≡ x
-  unfolding findIn recordsIn
-  missing-by e t v = sym (ap (λ (w : Walk). findIn p (recordsIn w)) (walks s i ∙ ap (next s i) (sym e)) ∙ none r t) ∙ v
+  pub no-records-by : r ≡ readAt s i → OneOf (1 ∷ 2 ∷ 3 ∷ []) (tagOf the-type r) → recordsIn (walkFrom s i) ≡ []
+  unfolding recordsIn
+  no-records-by e t = ap recordsIn (walks s i ∙ ap (next s i) (sym e)) ∙ none r t
     where
-      none : (r : Read) → OneOf (1 ∷ 2 ∷ 3 ∷ []) (tagOf the-type r) → findIn p (recordsIn (next s i r)) ≡ Missing
+      none : (r : Read) → OneOf (1 ∷ 2 ∷ 3 ∷ []) (tagOf the-type r) → recordsIn (next s i r) ≡ []
       none (Whole t n) o = absurd (miss (1 ∷ 2 ∷ 3 ∷ []) 0 tt o)
       none Unknown o = refl
       none Cut o = refl
       none Nothing o = refl
+
+-- a look-up among the records from i, by the same
+module _ (p : RecordKey) (s : List ℕ) (i : ℕ) {r : Read} {x : Found} where
+  pub finds-by : {t : Record} {n : ℕ} {q : RecordKey} {b : Bool} → r ≡ readAt s i → r ≡ Whole t n → q ≡ keyOf t → b ≡ sameKey q p → b ≡ true
+      → findIn p (recordsIn (walkFrom s i)) ≡ x → It t ≡ x
+  unfolding findIn
+  finds-by {t = t} e g h m f v =
+      let a : sameKey (keyOf t) p ≡ true = cc in
+      sym (ap (findIn p) (records-by s i e g) ∙ simp a) ∙ v
+
+  pub again-by : {t : Record} (n : ℕ) {q : RecordKey} {b : Bool} → r ≡ readAt s i → r ≡ Whole t n → q ≡ keyOf t → b ≡ sameKey q p → b ≡ false
+      → findIn p (recordsIn (walkFrom s i)) ≡ x → findIn p (recordsIn (walkFrom s n)) ≡ x
+  unfolding findIn
+  again-by {t = t} n e g h m f v =
+      let a : sameKey (keyOf t) p ≡ false = cc in
+      sym (ap (findIn p) (records-by s i e g) ∙ simp a) ∙ v
+
+  pub missing-by : r ≡ readAt s i → OneOf (1 ∷ 2 ∷ 3 ∷ []) (tagOf the-type r) → findIn p (recordsIn (walkFrom s i)) ≡ x → Missing ≡ x
+  unfolding findIn
+  missing-by e t v = sym (ap (findIn p) (no-records-by s i e t)) ∙ v

@@ -1,0 +1,37 @@
+use borrow.Author.Needs.{needs}
+use Rattle.plan.proofs.Answers.{looked-none, looked-it}
+use Rattle.plan.proofs.look.Statement.{statement}
+use Rattle.plan.proofs.look.Tie as tie
+
+find-requires : tie.Need-find-requires
+find-requires c κs = search needs
+
+enum-known-r : tie.Need-enum-known-r
+enum-known-r c = search needs
+
+enum-told : tie.Need-enum-told
+enum-told c = search needs
+
+fields-by-requires : tie.Need-fields-by-requires
+fields-by-requires c κs = search needs
+
+returns : tie.Need-returns
+returns c = search looked-none
+
+fields-of-requires : tie.Need-fields-of-requires
+fields-of-requires c κs = search needs
+
+returns-2 : tie.Need-returns-2
+returns-2 c = search looked-it
+
+pub look-spec : {M : Type 1} → statement M
+look-spec =
+    tie.close
+    (tie.spec
+    find-requires
+    enum-known-r
+    enum-told
+    fields-by-requires
+    returns
+    fields-of-requires
+    returns-2)
