@@ -1,0 +1,134 @@
+// Masks of a plan: the commands of a module's state, and a module's neighbours.
+ghost use mathlib.Core.Path.{_≡_};
+ghost use Prim.Native.Nat.{ℕ, _<_, _^_};
+ghost use mathlib.Core.Bool.{cond, _&&_};
+ghost use lib.Bits.{bitOr};
+ghost use lib.Dec.{ltb};
+ghost use Rattle.bits.specs.Bit.{maskOf};
+ghost use Rattle.reader.specs.Walk.{recordsOf};
+ghost use Rattle.rules.specs.LookUp.{supervisorsOf};
+ghost use Rattle.plan.specs.Plan.{commands, ownEvent, neighbour, neighbours, neighbourCount};
+ghost use Rattle.masks.specs.Seen.{putIf, seenBy, seenIn, noneSeen};
+use reader::Read;
+use records::Record;
+
+// The events that have a record, by the first of each the controllable ones and those of a module, and the events by which that
+// module moves from a state.
+struct Seen {
+    known: u64,
+    controllable: u64,
+    owned: u64,
+    moves: u64,
+}
+
+fn put_if(now: bool, mask: u64, e: u8, on: bool) -> u64
+    ensures { λ r. ⌜ r ≡ putIf now mask e on ⌝ }
+{
+    if now { bits::put(mask, e, on) } else { mask }
+}
+
+// With one record more.
+fn seen_by(m: u8, st: u8, s: Seen, r: Record) -> Seen
+    ensures { λ t. ⌜ t ≡ seenBy m st s r ⌝ }
+{
+    let kind = records::kind_of(r);
+    let f = plan::fields_of(r);
+    let fresh = (kind == 0x11) & !bits::has(s.known, f.first);
+    let here = (kind == 0x13) & (f.first == m) & (f.second == st);
+    Seen {
+        known: put_if(fresh, s.known, f.first, true),
+        controllable: put_if(fresh, s.controllable, f.first, f.third == 1),
+        owned: put_if(fresh, s.owned, f.first, f.second == m),
+        moves: put_if(here, s.moves, f.third, true),
+    }
+}
+
+// One pass over the image.
+fn scan(image: &[u8], m: u8, st: u8) -> Seen
+    ensures { λ s. ⌜ s ≡ seenIn m st noneSeen (recordsOf (now (image .entry))) ⌝ }
+{
+    let mut i: usize = 0;
+    let mut s = Seen {
+        known: 0,
+        controllable: 0,
+        owned: 0,
+        moves: 0,
+    };
+    loop {
+        let Read::Whole(r, next) = reader::read_at(image, i) else {
+            return s;
+        };
+        s = seen_by(m, st, s, r);
+        i = next;
+    }
+}
+
+// The controllable events that have a move from a module's state.
+pub fn commands(image: &[u8], m: u8, st: u8) -> u64
+    ensures { λ r. ⌜ r ≡ commands (recordsOf (now (image .entry))) m st ⌝ }
+{
+    let s = scan(image, m, st);
+    s.known & s.controllable & s.moves
+}
+
+// The mask of the numbers below n.
+fn below(n: u8) -> u64
+    ensures { λ r. ⌜ r ≡ maskOf (λ e. ltb e n) 64 ⌝ }
+{
+    if n < 64 {
+        let b = 1u64 << n;
+        b - 1
+    } else {
+        0xffff_ffff_ffff_ffff
+    }
+}
+
+// The events of a module. A look-up that finds no record gives module 0.
+fn own_events(image: &[u8], m: u8) -> u64
+    ensures { λ r. ⌜ r ≡ maskOf (ownEvent (recordsOf (now (image .entry))) m) 64 ⌝ }
+{
+    let low = below(plan::events_of(image));
+    let s = scan(image, m, 0);
+    if m == 0 {
+        low & ((s.known & s.owned) | !s.known)
+    } else {
+        low & (s.known & s.owned)
+    }
+}
+
+// Whether a supervisor is a neighbour of the module that owns the events.
+fn near(image: &[u8], own: u64, v: u8) -> bool
+    ensures { λ r. ⌜ ((m : ℕ) → own ≡ maskOf (ownEvent (recordsOf (now (image .entry))) m) 64 → r ≡ (ltb v (supervisorsOf (recordsOf (now (image .entry)))) && neighbour (recordsOf (now (image .entry))) m v)) ⌝ }
+{
+    if v < plan::supervisors_of(image) {
+        plan::alphabet_of(image, v) & own != 0
+    } else {
+        false
+    }
+}
+
+fn with_bit(mask: u32, v: u8, on: bool) -> u32
+    requires { ⌜ v < 32 ⌝ }
+    ensures { λ r. ⌜ r ≡ cond on (bitOr mask (2 ^ v)) mask ⌝ }
+{
+    if on { mask | (1u32 << v) } else { mask }
+}
+
+// The neighbours of a module: the supervisors whose alphabet has an event of it.
+pub fn neighbours(image: &[u8], m: u8) -> u32
+    ensures { λ r. ⌜ r ≡ neighbours (recordsOf (now (image .entry))) m ⌝ }
+{
+    let own = own_events(image, m);
+    let mut mask: u32 = 0;
+    for v in 0..32 {
+        mask = with_bit(mask, v, near(image, own, v));
+    }
+    mask
+}
+
+pub fn neighbour_count(image: &[u8], m: u8) -> u32
+    ensures { λ r. ⌜ r ≡ neighbourCount (recordsOf (now (image .entry))) m ⌝ }
+{
+    let mask = neighbours(image, m);
+    u32::count_ones(mask)
+}
