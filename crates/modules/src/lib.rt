@@ -1,4 +1,21 @@
-// The module's own part: the same struct on one device and on many.
+// The module's own part: the same struct on one device and on many. What a response and a tick do to it, and its parts of a turn.
+ghost use mathlib.Core.Path.{_≡_};
+ghost use mathlib.Core.Bool.{true, false, cond};
+ghost use Prim.Native.Nat.{suc, _<_};
+ghost use lib.Dec.{eqb, ltb};
+ghost use lib.ListN.{getD, take, drop};
+ghost use Rattle.reader.specs.Walk.{recordsOf};
+ghost use Rattle.plan.specs.Plan.{counts};
+ghost use Rattle.water.specs.Water as Rules;
+ghost use Rattle.water.specs.Water.{flowOk, noWater, waterOf};
+ghost use Rattle.modules.specs.Queue.{queueOf, places, full, withQueue, queued};
+ghost use Rattle.modules.specs.Procedure.{idle, arriveAt, withOutputs, outputOn, outputOff, counted, calledBy, respondOf, tickOf};
+ghost use Rattle.modules.specs.Procedure as Steps;
+ghost use Rattle.modules.specs.Work.{workOf};
+ghost use Rattle.modules.specs.Turn.{emptyOwn, startOwn};
+use reader::Found;
+use records::Record;
+use water::Flow;
 use water::Water;
 
 // The procedure that runs: idle, with every field 0, or at a step of an event. A wait's ticks so far are counted; a litres step has its
@@ -49,4 +66,351 @@ pub struct Replied {
 pub enum Called {
     Done,
     Refused(u8, usize),
+}
+
+// ---- the queue
+
+// What stands at a place of a queue of n responses, and 0 past them.
+fn place(q: [u8; 8], n: u8, i: usize) -> u8
+    ensures { λ r. ⌜ r ≡ getD (take n q) i 0 ⌝ }
+{
+    if i < words::wide(n) {
+        if i < 8 { q[i] } else { 0 }
+    } else {
+        0
+    }
+}
+
+// The eight places of a queue of n responses without its first k.
+fn places_after(q: [u8; 8], n: u8, k: u8) -> [u8; 8]
+    ensures { λ r. ⌜ r ≡ places (drop k (take n q)) ⌝ }
+{
+    let from = words::wide(k);
+    let mut r = [0u8; 8];
+    let mut i: usize = 0;
+    while i < 8 {
+        r[i] = place(q, n, from + i);
+        i += 1;
+    }
+    r
+}
+
+// The own part with one response more, at the end of its queue.
+fn with_response(own: Own, e: u8) -> Own
+    requires { ⌜ own .length < 8 ⌝ }
+    ensures { λ r. ⌜ r ≡ queued own e ⌝ }
+{
+    let n = own.length;
+    let i = words::wide(n);
+    let q = own.queue;
+    let mut after = places_after(q, n, 0);
+    after[i] = e;
+    let mut next = own;
+    next.queue = after;
+    next.length = n + 1;
+    next
+}
+
+// The own part without the head of its queue.
+pub fn without_head(own: Own) -> Own
+    ensures { λ r. ⌜ r ≡ withQueue own (drop 1 (queueOf own)) ⌝ }
+{
+    let n = own.length;
+    let q = own.queue;
+    let after = places_after(q, n, 1);
+    let mut next = own;
+    next.queue = after;
+    if n == 0 {
+        return next;
+    }
+    if n < 8 {
+        next.length = n - 1;
+        next
+    } else {
+        next.length = 7;
+        next
+    }
+}
+
+// A response of module m by the event e.
+pub fn respond(image: &[u8], m: u8, e: u8, own: Own) -> Replied
+    ensures { λ r. ⌜ r ≡ respondOf (recordsOf (now (image .entry))) m e own ⌝ }
+{
+    if plan::own_uncontrollable(image, m, e) {
+        if own.length < 8 {
+            let next = with_response(own, e);
+            Replied {
+                reply: Reply::Taken,
+                own: next,
+            }
+        } else {
+            Replied {
+                reply: Reply::Refused(13),
+                own,
+            }
+        }
+    } else {
+        Replied {
+            reply: Reply::Refused(11),
+            own,
+        }
+    }
+}
+
+// A reply as a call's answer.
+pub fn answer(reply: Reply) -> Called
+    ensures { λ r. ⌜ r ≡ calledBy reply ⌝ }
+{
+    match reply {
+        Reply::Taken => Called::Done,
+        Reply::Refused(n) => Called::Refused(n, 0),
+    }
+}
+
+// ---- procedures
+
+fn idle() -> Procedure
+    ensures { λ r. ⌜ r ≡ idle ⌝ }
+{
+    let w = water::none();
+    Procedure {
+        running: false,
+        event: 0,
+        index: 0,
+        count: 0,
+        water: w,
+    }
+}
+
+// Whether an event has a step of an index, and its operation and operand.
+pub struct Work {
+    pub there: bool,
+    pub operation: u8,
+    pub operand: u64,
+}
+
+fn no_work() -> Work
+    ensures { λ w. ⌜ w ≡ record { there = false; operation = 0; operand = 0 } ⌝ }
+{
+    Work {
+        there: false,
+        operation: 0,
+        operand: 0,
+    }
+}
+
+pub fn work_of(image: &[u8], e: u8, i: u8) -> Work
+    ensures { λ w. ⌜ w ≡ workOf (recordsOf (now (image .entry))) e i ⌝ }
+{
+    let Found::It(r) = plan::step(image, e, i) else {
+        return no_work();
+    };
+    // No other record is found by the key of a step.
+    let Record::Step {
+        event: _,
+        index: _,
+        operation,
+        operand,
+    } = r
+    else {
+        return no_work();
+    };
+    Work {
+        there: true,
+        operation,
+        operand,
+    }
+}
+
+// The water at the beginning of a step of operation o and operand x.
+fn water_at(o: u8, x: u64) -> Water
+    ensures { λ r. ⌜ r ≡ cond (eqb o 4) (waterOf x) noWater ⌝ }
+{
+    if o == 4 {
+        water::started(x)
+    } else {
+        water::none()
+    }
+}
+
+// The procedure as it arrives at a step of an event.
+pub fn arrive_at(image: &[u8], e: u8, i: u8) -> Procedure
+    ensures { λ r. ⌜ r ≡ arriveAt (recordsOf (now (image .entry))) e i ⌝ }
+{
+    let w = work_of(image, e, i);
+    if w.there {
+        let v = water_at(w.operation, w.operand);
+        Procedure {
+            running: true,
+            event: e,
+            index: i,
+            count: 0,
+            water: v,
+        }
+    } else {
+        idle()
+    }
+}
+
+// On to the next step of the event.
+fn onward(image: &[u8], own: Own) -> Own
+    requires { ⌜ own .procedure .index < 64 ⌝ }
+    ensures { λ r. ⌜ r ≡ Steps.onward (recordsOf (now (image .entry))) own ⌝ }
+{
+    let p = own.procedure;
+    let after = arrive_at(image, p.event, p.index + 1);
+    let mut next = own;
+    next.procedure = after;
+    next
+}
+
+// The own part with an output on or off.
+fn switched(own: Own, x: u64, on: bool) -> Own
+    requires { ⌜ x < 32 ⌝ }
+    ensures { λ r. ⌜ r ≡ withOutputs own (cond on (outputOn (own .outputs) x) (outputOff (own .outputs) x)) ⌝ }
+{
+    let b = 1u32 << x;
+    let mut next = own;
+    if on {
+        next.outputs = own.outputs | b;
+        next
+    } else {
+        next.outputs = own.outputs & !b;
+        next
+    }
+}
+
+// One tick of a wait of x ticks.
+fn waited(image: &[u8], x: u64, own: Own) -> Own
+    requires { ⌜ own .procedure .index < 64 ⌝ }
+    requires { ⌜ x < 65536 ⌝ }
+    ensures { λ r. ⌜ r ≡ cond (ltb (suc (own .procedure .count)) x) (counted own) (Steps.onward (recordsOf (now (image .entry))) own) ⌝ }
+{
+    let mut p = own.procedure;
+    let n = p.count as u64 + 1;
+    if n < x {
+        p.running = true;
+        p.count = p.count + 1;
+        let mut next = own;
+        next.procedure = p;
+        next
+    } else {
+        onward(image, own)
+    }
+}
+
+// One reading of a wait for litres, by the bits x of its target.
+fn poured(image: &[u8], x: u64, f: Flow, own: Own) -> Own
+    requires { ⌜ own .procedure .index < 64 ⌝ }
+    requires { ⌜ flowOk f ≡ true ⌝ }
+    ensures { λ r. ⌜ r ≡ cond (Rules.running x (own .procedure .water)) (Steps.poured (recordsOf (now (image .entry))) f own) own ⌝ }
+{
+    let mut p = own.procedure;
+    let w = p.water;
+    if water::running(x, w) {
+        let v = water::add_reading(w, f);
+        if water::reached(v) {
+            onward(image, own)
+        } else {
+            p.running = true;
+            p.water = v;
+            let mut next = own;
+            next.procedure = p;
+            next
+        }
+    } else {
+        own
+    }
+}
+
+// A respond step by the event x: it stays put while the queue is full.
+fn answered(image: &[u8], x: u64, own: Own) -> Own
+    requires { ⌜ own .procedure .index < 64 ⌝ }
+    requires { ⌜ x < 64 ⌝ }
+    ensures { λ r. ⌜ r ≡ cond (full own) own (Steps.onward (recordsOf (now (image .entry))) (queued own x)) ⌝ }
+{
+    if 8 <= own.length {
+        own
+    } else {
+        let e = x as u8;
+        let after = with_response(own, e);
+        onward(image, after)
+    }
+}
+
+// The step of operation o and operand x performed, or one tick of it.
+fn performed(image: &[u8], o: u8, x: u64, f: Flow, own: Own) -> Own
+    requires { ⌜ counts (Record.Step (own .procedure .event) (own .procedure .index) o x) ≡ true ⌝ }
+    requires { ⌜ flowOk f ≡ true ⌝ }
+    ensures { λ r. ⌜ r ≡ Steps.performed (recordsOf (now (image .entry))) o x f own ⌝ }
+{
+    match o {
+        1 => {
+            let next = switched(own, x, true);
+            onward(image, next)
+        }
+        2 => {
+            let next = switched(own, x, false);
+            onward(image, next)
+        }
+        3 => waited(image, x, own),
+        4 => poured(image, x, f, own),
+        _ => answered(image, x, own),
+    }
+}
+
+fn ticked(image: &[u8], f: Flow, own: Own) -> Own
+    requires { ⌜ flowOk f ≡ true ⌝ }
+    ensures { λ r. ⌜ r ≡ Steps.ticked (recordsOf (now (image .entry))) f own ⌝ }
+{
+    let p = own.procedure;
+    let w = work_of(image, p.event, p.index);
+    if p.running & w.there {
+        performed(image, w.operation, w.operand, f, own)
+    } else {
+        own
+    }
+}
+
+// A tick with a flow reading.
+pub fn tick(image: &[u8], f: Flow, own: Own) -> Replied
+    ensures { λ r. ⌜ r ≡ tickOf (recordsOf (now (image .entry))) f own ⌝ }
+{
+    if water::flow_ok(f) {
+        let next = ticked(image, f, own);
+        Replied {
+            reply: Reply::Taken,
+            own: next,
+        }
+    } else {
+        Replied {
+            reply: Reply::Refused(14),
+            own,
+        }
+    }
+}
+
+// ---- the start
+
+// The own part with every number 0.
+pub fn empty() -> Own
+    ensures { λ r. ⌜ r ≡ emptyOwn ⌝ }
+{
+    let p = idle();
+    Own {
+        state: 0,
+        queue: [0u8; 8],
+        length: 0,
+        procedure: p,
+        outputs: 0,
+    }
+}
+
+// The own part of module m at the start.
+pub fn started(image: &[u8], m: u8) -> Own
+    ensures { λ r. ⌜ r ≡ startOwn (recordsOf (now (image .entry))) m ⌝ }
+{
+    let mut own = empty();
+    own.state = plan::module_initial(image, m);
+    own
 }

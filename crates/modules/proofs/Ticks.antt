@@ -1,0 +1,151 @@
+-- What the steps of a procedure answer, from what the code is told.
+use Prim.Native.Nat.{ℕ, suc, _+_, _-_, _*_, _%_, _^_, _≤_, _<_}
+use native.Mathlib.Omega.{arith}
+use native.Mathlib.Numerals.{add-one}
+use mathlib.Core.Path.{_≡_, sym, ap, ap₂, _∙_}
+use mathlib.Core.List.{List}
+use mathlib.Core.Bool.{Bool, true, false, cond, _&&_, false≢true}
+use lib.Dec.{eqb, ltb}
+use lib.Bits.{bitOr, bitAnd}
+use borrow.Author.Tests.{lt-ltb, le-ltb, lt-leb, le-leb, ne-eqb}
+use Rattle.bits.proofs.Laws.{shl-one}
+use Rattle.records.specs.declared.Record.{Record}
+use Rattle.records.specs.declared.Record.the-variants.{Step}
+use Rattle.plan.specs.Plan.{counts}
+use Rattle.water.specs.Water.{flowOk, noWater, waterOf, added, reached, running, Summed, Compared}
+use Rattle.water.specs.declared.Water.{Water}
+use Rattle.water.specs.declared.Flow.{Flow}
+use Rattle.water.proofs.Laws.{reading-exact}
+use Rattle.modules.specs.declared.Own.{Own}
+use Rattle.modules.specs.declared.Procedure.{Procedure}
+use Rattle.modules.specs.declared.Work.{Work}
+use Rattle.modules.specs.Queue.{full, queued}
+use Rattle.modules.specs.Procedure.{idle, arriveAt, withProcedure, withOutputs, onward, counted, withWater, outputOn, outputOff, poured, performed, ticked, taken, refused, tickOf}
+use Rattle.modules.specs.Work.{workOf}
+use Rattle.modules.proofs.Steps.{step-counts}
+
+-- ---- arriving at a step
+
+module _ (rs : List Record) (e i : ℕ) {w : Work} (p : w ≡ workOf rs e i) where
+  pub arrived-by : {v : Water} → w .there ≡ true → v ≡ cond (eqb (w .operation) 4) (waterOf (w .operand)) noWater
+      → record { running = true; event = e; index = i; count = 0; water = v } ≡ arriveAt rs e i
+  unfolding arriveAt
+  arrived-by {v} h q =
+      simp (sym (ap (λ (u : Work). u .there) p) ∙ h)
+      (ap (λ (u : Water). record { running = true; event = e; index = i; count = 0; water = u })
+      (q ∙ ap (λ (u : Work). cond (eqb (u .operation) 4) (waterOf (u .operand)) noWater) p))
+
+  pub arrived-idle : {q : Procedure} → w .there ≡ false → q ≡ idle → q ≡ arriveAt rs e i
+  unfolding arriveAt
+  arrived-idle h q = simp (sym (ap (λ (u : Work). u .there) p) ∙ h) q
+
+pub onward-by : (rs : List Record) (own : Own) {p : Procedure} → p ≡ arriveAt rs (own .procedure .event) (own .procedure .index + 1) → withProcedure own p ≡ onward rs own
+onward-by rs own h = ap (withProcedure own) (h ∙ ap (arriveAt rs (own .procedure .event)) (add-one (own .procedure .index)))
+
+-- the index after a change elsewhere
+pub kept-small : (own : Own) (o : ℕ) {next : Own} → next ≡ withOutputs own o → own .procedure .index < 64 → next .procedure .index < 64
+kept-small own o p h = omega (arith, ap (λ (n : Own). n .procedure .index) p)
+
+-- ---- outputs
+
+module _ (own : Own) (x : ℕ) {on : Bool} (h : x < 32) where
+  pub on-by : on ≡ true → withOutputs own (bitOr (own .outputs) ((1 * 2 ^ x) % 2 ^ 32)) ≡ withOutputs own (cond on (outputOn (own .outputs) x) (outputOff (own .outputs) x))
+  on-by q = rw (q, shl-one 32 x h)
+
+  pub off-by : on ≡ false → withOutputs own (bitAnd (own .outputs) (2 ^ 32 - 1 - (1 * 2 ^ x) % 2 ^ 32)) ≡ withOutputs own (cond on (outputOn (own .outputs) x) (outputOff (own .outputs) x))
+  off-by q = rw (q, shl-one 32 x h)
+
+-- ---- waits
+
+module _ (rs : List Record) (x : ℕ) (own : Own) where
+  abbrev n : ℕ
+  n = own .procedure .count
+
+  pub wait-goes : n + 1 < x
+      → withProcedure own (record { running = true; event = own .procedure .event; index = own .procedure .index; count = n + 1; water = own .procedure .water })
+      ≡ cond (ltb (suc n) x) (counted own) (onward rs own)
+  wait-goes h = rw (lt-ltb (suc n) x (omega arith), add-one n)
+
+  pub wait-ends : {r : Own} → x ≤ n + 1 → r ≡ onward rs own → r ≡ cond (ltb (suc n) x) (counted own) (onward rs own)
+  wait-ends h q = simp (le-ltb (suc n) x (omega arith)) q
+
+module _ (rs : List Record) (x : ℕ) (f : Flow) (own : Own) {b : Bool} (p : b ≡ running x (own .procedure .water)) where
+  pub pour-none : b ≡ false → own ≡ cond (running x (own .procedure .water)) (poured rs f own) own
+  pour-none h = simp (sym p ∙ h)
+
+  module _ (h : b ≡ true) (k : flowOk f ≡ true) {v : Water} (s : Summed (own .procedure .water) f v) {t : Bool} (c : Compared v t) where
+    exact : (v ≡ added (own .procedure .water) f) × (t ≡ reached (added (own .procedure .water) f))
+    exact = reading-exact x (own .procedure .water) v f t (sym p ∙ h) k s c
+
+    picked : (r : Own) → r ≡ cond t (onward rs own) (withWater own v) → r ≡ cond (running x (own .procedure .water)) (poured rs f own) own
+    picked r q =
+        q ∙ ap₂ (λ (b : Bool) (u : Water). cond b (onward rs own) (withWater own u)) (exact .1) (exact .0)
+        ∙ sym (ap (λ (b : Bool). cond b (poured rs f own) own) (sym p ∙ h))
+
+    pub pour-ends : {r : Own} → t ≡ true → r ≡ onward rs own → r ≡ cond (running x (own .procedure .water)) (poured rs f own) own
+    pour-ends {r} q z = picked r (z ∙ sym (ap (λ (b : Bool). cond b (onward rs own) (withWater own v)) q))
+
+    pub pour-goes : t ≡ false → withWater own v ≡ cond (running x (own .procedure .water)) (poured rs f own) own
+    pour-goes q = picked (withWater own v) (sym (ap (λ (b : Bool). cond b (onward rs own) (withWater own v)) q))
+
+-- ---- respond
+
+module _ (rs : List Record) (x : ℕ) (own : Own) where
+  pub answer-full : 8 ≤ own .length → own ≡ cond (full own) own (onward rs (queued own x))
+  answer-full h = simp (le-leb 8 (own .length) h)
+
+  pub answer-queued : {next r : Own} → own .length < 8 → next ≡ queued own x → r ≡ onward rs next → r ≡ cond (full own) own (onward rs (queued own x))
+  answer-queued h p q = simp (lt-leb 8 (own .length) h) (q ∙ ap (onward rs) p)
+
+-- ---- the operations
+
+module _ (rs : List Record) (o x : ℕ) (f : Flow) (own : Own) {r : Own} where
+  pub performs-on : {next : Own} → o ≡ 1 → next ≡ withOutputs own (outputOn (own .outputs) x) → r ≡ onward rs next → r ≡ performed rs o x f own
+  unfolding performed
+  performs-on q p h = h ∙ ap (onward rs) p ∙ rw q
+
+  pub performs-off : {next : Own} → o ≡ 2 → next ≡ withOutputs own (outputOff (own .outputs) x) → r ≡ onward rs next → r ≡ performed rs o x f own
+  unfolding performed
+  performs-off q p h = h ∙ ap (onward rs) p ∙ rw q
+
+  pub performs-wait : o ≡ 3 → r ≡ cond (ltb (suc (own .procedure .count)) x) (counted own) (onward rs own) → r ≡ performed rs o x f own
+  unfolding performed
+  performs-wait q h = h ∙ rw q
+
+  pub performs-pour : o ≡ 4 → r ≡ cond (running x (own .procedure .water)) (poured rs f own) own → r ≡ performed rs o x f own
+  unfolding performed
+  performs-pour q h = h ∙ rw q
+
+  pub performs-answer : (o ≡ 1 → ⊥) → (o ≡ 2 → ⊥) → (o ≡ 3 → ⊥) → (o ≡ 4 → ⊥) → r ≡ cond (full own) own (onward rs (queued own x)) → r ≡ performed rs o x f own
+  unfolding performed
+  performs-answer a b c d h = h ∙ simp (ne-eqb o 1 a, ne-eqb o 2 b, ne-eqb o 3 c, ne-eqb o 4 d)
+
+-- ---- a tick
+
+module _ (rs : List Record) (f : Flow) (own : Own) {w : Work} (p : w ≡ workOf rs (own .procedure .event) (own .procedure .index)) where
+  ran : ticked rs f own ≡ cond (own .procedure .running && w .there) (performed rs (w .operation) (w .operand) f own) own
+  ran = ap (λ (u : Work). cond (own .procedure .running && u .there) (performed rs (u .operation) (u .operand) f own) own) (sym p)
+
+  pub ticked-by : {r : Own} → (own .procedure .running && w .there) ≡ true → r ≡ performed rs (w .operation) (w .operand) f own → r ≡ ticked rs f own
+  ticked-by h q = q ∙ sym (ran ∙ ap (λ (b : Bool). cond b (performed rs (w .operation) (w .operand) f own) own) h)
+
+  pub ticked-none : (own .procedure .running && w .there) ≡ false → own ≡ ticked rs f own
+  ticked-none h = sym (ran ∙ ap (λ (b : Bool). cond b (performed rs (w .operation) (w .operand) f own) own) h)
+
+  pub may-perform : (own .procedure .running && w .there) ≡ true → counts (Step (own .procedure .event) (own .procedure .index) (w .operation) (w .operand)) ≡ true
+  may-perform h =
+      ap (λ (u : Work). counts (Step (own .procedure .event) (own .procedure .index) (u .operation) (u .operand))) p
+      ∙ step-counts rs (own .procedure .event) (own .procedure .index) (sym (ap (λ (u : Work). u .there) p) ∙ second (own .procedure .running) (w .there) h)
+    where
+      second : (a b : Bool) → (a && b) ≡ true → b ≡ true
+      second true b h = h
+      second false b h = absurd (false≢true h)
+
+module _ (rs : List Record) (f : Flow) (own : Own) {b : Bool} (p : b ≡ flowOk f) where
+  pub tick-taken : {next : Own} → b ≡ true → next ≡ ticked rs f own → taken next ≡ tickOf rs f own
+  unfolding tickOf
+  tick-taken h q = simp (sym p ∙ h) (ap taken q)
+
+  pub tick-refused : b ≡ false → refused 14 own ≡ tickOf rs f own
+  unfolding tickOf
+  tick-refused h = simp (sym p ∙ h)

@@ -1,0 +1,58 @@
+use Prim.Native.Nat.{_-_, _≤_}
+use mathlib.Core.Path.{_≡_, refl}
+use native.Mathlib.Omega.{arith}
+use lib.ListN.{length, take, drop}
+use borrow.Author.Needs.{needs}
+use Rattle.modules.specs.Queue.{places}
+use Rattle.modules.proofs.Queue.{written-on, all-written, set-length}
+use Rattle.modules.proofs.places_after.Statement.{statement}
+use Rattle.modules.proofs.places_after.Tie as tie
+
+abbrev Inv-loop : tie.InvT-loop
+Inv-loop q n k from r₀ i₀ r i = (i ≤ 8) × (length q ≡ 8) × (length r ≡ 8) × (take i r ≡ take i (places (drop k (take n q))))
+
+abbrev μ-loop : tie.MeasureT-loop
+μ-loop q n k from r₀ i₀ r i = 8 - i
+
+wide-requires : tie.Need-wide-requires Inv-loop μ-loop
+wide-requires c κs = search needs
+
+loop-holds : tie.Need-loop-holds Inv-loop μ-loop
+loop-holds c = (omega arith, search needs, refl, refl)
+
+add-place : tie.Need-add-place Inv-loop μ-loop
+add-place c = search needs
+
+place-requires : tie.Need-place-requires Inv-loop μ-loop
+place-requires c κs = search needs
+
+array-write-r : tie.Need-array-write-r Inv-loop μ-loop
+array-write-r c = search needs
+
+add-i : tie.Need-add-i Inv-loop μ-loop
+add-i c = search needs
+
+loop-less : tie.Need-loop-less Inv-loop μ-loop
+loop-less c = search needs
+
+loop-again : tie.Need-loop-again Inv-loop μ-loop
+loop-again c = (search needs, search needs, search set-length, search written-on)
+
+returns : tie.Need-returns Inv-loop μ-loop
+returns c = search all-written
+
+pub places-after-spec : {M : Type 1} → statement M
+places-after-spec =
+    tie.close
+    (tie.spec
+    Inv-loop
+    μ-loop
+    wide-requires
+    loop-holds
+    add-place
+    place-requires
+    array-write-r
+    add-i
+    loop-less
+    loop-again
+    returns)

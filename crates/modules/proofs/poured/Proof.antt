@@ -1,0 +1,37 @@
+use Rattle.modules.proofs.Ticks.{pour-none, pour-ends, pour-goes}
+use borrow.Author.Needs.{needs}
+use Rattle.modules.proofs.poured.Statement.{statement}
+use Rattle.modules.proofs.poured.Tie as tie
+
+running-requires : tie.Need-running-requires
+running-requires c κs = search needs
+
+add-reading-requires : tie.Need-add-reading-requires
+add-reading-requires c κs = search needs
+
+reached-requires : tie.Need-reached-requires
+reached-requires c κs = search needs
+
+onward-requires : tie.Need-onward-requires
+onward-requires c κs = search needs
+
+returns : tie.Need-returns
+returns c = search pour-ends
+
+returns-2 : tie.Need-returns-2
+returns-2 c = search pour-goes
+
+returns-3 : tie.Need-returns-3
+returns-3 c = search pour-none
+
+pub poured-spec : {M : Type 1} → statement M
+poured-spec =
+    tie.close
+    (tie.spec
+    running-requires
+    add-reading-requires
+    reached-requires
+    onward-requires
+    returns
+    returns-2
+    returns-3)
