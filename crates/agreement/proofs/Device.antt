@@ -30,7 +30,7 @@ use Rattle.modules.specs.Turn.{turnOf, emptyOwn}
 use Rattle.modules.specs.Fits.{ownFits, ownEmpty}
 use Rattle.device.specs.declared.Device.{Device}
 use Rattle.device.specs.declared.Turning.the-variants.{Turned as DeviceTurned}
-use Rattle.device.specs.Device.{ownAt, stateAt, listFrom, deviceFits, shownBy, ledBy, withOwn, turned, afterTurn, deviceNumber, turnIn, turnBy, replyIn, replyBy}
+use Rattle.device.specs.Device.{ownAt, stateAt, listFrom, ownSlotFits, stateSlotFits, deviceFits, shownBy, ledBy, withOwn, turned, afterTurn, deviceNumber, turnIn, turnBy, replyIn, replyBy}
 use Rattle.protocol.specs.Generic.{update}
 use Rattle.protocol.specs.Rules as R
 use Rattle.protocol.proofs.Tools.{update-same, update-other}
@@ -69,16 +69,16 @@ is true t = refl
 is false t = absurd t
 
 pub fits-of : (rs : List Record) (d : Device) → ((m : ℕ) → m < 16 → OwnSlot rs d m ≡ true) → ((v : ℕ) → v < 32 → StateSlot rs d v ≡ true) → deviceFits rs d ≡ true
-unfolding deviceFits
+unfolding deviceFits ownSlotFits stateSlotFits
 fits-of rs d f g =
     is _ (and-i (allBelow (OwnSlot rs d) 16) (allBelow (StateSlot rs d) 32) (all-of (OwnSlot rs d) 16 (λ m l. held (f m l))) (all-of (StateSlot rs d) 32 (λ v l. held (g v l))))
 
 pub own-slot : (rs : List Record) (d : Device) → deviceFits rs d ≡ true → (m : ℕ) → m < 16 → OwnSlot rs d m ≡ true
-unfolding deviceFits
+unfolding deviceFits ownSlotFits stateSlotFits
 own-slot rs d h m l = is _ (all-at (OwnSlot rs d) 16 (and-l (allBelow (OwnSlot rs d) 16) (allBelow (StateSlot rs d) 32) (held h)) m l)
 
 pub state-slot : (rs : List Record) (d : Device) → deviceFits rs d ≡ true → (v : ℕ) → v < 32 → StateSlot rs d v ≡ true
-unfolding deviceFits
+unfolding deviceFits ownSlotFits stateSlotFits
 state-slot rs d h v l = is _ (all-at (StateSlot rs d) 32 (and-r (allBelow (OwnSlot rs d) 16) (allBelow (StateSlot rs d) 32) (held h)) v l)
 
 module _ (rs : List Record) (few-modules : modulesOf rs ≤ 16) (few : supervisorsOf rs ≤ 32) (watched : (v e : ℕ) → inAlphabet rs v e ≡ true → v < supervisorsOf rs)

@@ -10,7 +10,7 @@ use lib.Pow.{pow-pos}
 use borrow.Author.Tests.{lt-ltb, ltb-true, ltb-false, eq-eqb, ne-eqb}
 use Rattle.bits.specs.Bit.{bit, least, isSome, someBelow}
 use Rattle.bits.proofs.Laws.{bit-ext, bit-none}
-use Rattle.bits.proofs.Lowest.{least-none, least-some, least-same, least-more, some-least}
+use Rattle.bits.proofs.Least.{least-none, least-some, least-same, least-more, some-least}
 use Rattle.bits.proofs.Mask.{mask-bit, mask-small}
 use Rattle.records.specs.declared.Record.{Record}
 use Rattle.rules.specs.LookUp.{supervisorsOf, eventsOf, ownerOf}

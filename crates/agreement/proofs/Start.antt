@@ -61,9 +61,11 @@ module _ (image : List ℕ) (plan : IsPlan image) (L : Laws (planOf (recordsOf i
   device-is = rw plan
 
   own-at : (m : ℕ) → m < 16 → Dev.ownAt (Dev.startDevice rs) m ≡ cond (ltb m (modulesOf rs)) (startOwn rs m) emptyOwn
+  unfolding Dev.startSlot
   own-at m l = from-at (λ n. cond (ltb n (modulesOf rs)) (startOwn rs n) emptyOwn) 0 16 m emptyOwn l ∙ ap (λ (n : ℕ). cond (ltb n (modulesOf rs)) (startOwn rs n) emptyOwn) (let e : 0 + m ≡ m = omega arith in e)
 
   state-at : (v : ℕ) → v < 32 → Dev.stateAt (Dev.startDevice rs) v ≡ cond (ltb v (supervisorsOf rs)) (supervisorInitial rs v) 0
+  unfolding Dev.startState
   state-at v l = from-at (λ n. cond (ltb n (supervisorsOf rs)) (supervisorInitial rs n) 0) 0 32 v 0 l ∙ ap (λ (n : ℕ). cond (ltb n (supervisorsOf rs)) (supervisorInitial rs n) 0) (let e : 0 + v ≡ v = omega arith in e)
 
   few-modules : modulesOf rs ≤ 16
@@ -84,7 +86,7 @@ module _ (image : List ℕ) (plan : IsPlan image) (L : Laws (planOf (recordsOf i
       go false q = refl
 
   start-device : Same rs (Dev.startDevice rs) (P.startDevice (planOf rs))
-  unfolding P.startDevice planOf
+  unfolding P.startDevice planOf Dev.startSlot Dev.startState
   start-device = record {
     owns = λ m l. own-at m (let k : modulesOf rs ≤ 16 = few-modules in omega arith) ∙ ap (λ (b : Bool). cond b (startOwn rs m) emptyOwn) (lt-ltb m (modulesOf rs) l);
     states = λ v l. state-at v (let k : supervisorsOf rs ≤ 32 = few rs L in omega arith) ∙ ap (λ (b : Bool). cond b (supervisorInitial rs v) 0) (lt-ltb v (supervisorsOf rs) l);

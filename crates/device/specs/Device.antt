@@ -32,19 +32,26 @@ use Rattle.device.specs.declared.DeviceCalled.{DeviceCalled}
 abbrev pub ownAt : Device → ℕ → Own
 ownAt d m = getD (d .modules) m emptyOwn
 
+abbrev pub stateOf : List ℕ → ℕ → ℕ
+stateOf states v = getD states v 0
+
 abbrev pub stateAt : Device → ℕ → ℕ
-stateAt d v = getD (d .supervisors) v 0
+stateAt d v = stateOf (d .supervisors) v
 
 -- the list f 0, f 1, .. of n members
 unfoldable pub listFrom : {A : Type 0} → (ℕ → A) → ℕ → ℕ → List A
 listFrom f i zero = []
 listFrom f i (suc n) = f i ∷ listFrom f (suc i) n
 
--- "A state fits when numbers are the plan's", and the clauses of each module's own part
+-- "A state fits when numbers are the plan's", and the clauses of each module's own part; slots that the plan lacks hold 0
+unfoldable pub ownSlotFits : List Record → Device → ℕ → Bool
+ownSlotFits rs d m = cond (ltb m (modulesOf rs)) (ownFits rs m (ownAt d m)) (ownEmpty (ownAt d m))
+
+unfoldable pub stateSlotFits : List Record → List ℕ → ℕ → Bool
+stateSlotFits rs states v = cond (ltb v (supervisorsOf rs)) (supervisorState rs v (stateOf states v)) (eqb (stateOf states v) 0)
+
 unfoldable pub deviceFits : List Record → Device → Bool
-deviceFits rs d =
-    allBelow (λ m. cond (ltb m (modulesOf rs)) (ownFits rs m (ownAt d m)) (ownEmpty (ownAt d m))) 16
-    && allBelow (λ v. cond (ltb v (supervisorsOf rs)) (supervisorState rs v (stateAt d v)) (eqb (stateAt d v) 0)) 32
+deviceFits rs d = allBelow (ownSlotFits rs d) 16 && allBelow (stateSlotFits rs (d .supervisors)) 32
 
 -- "Each supervisor shows the mask of its present state": the events in some shown mask of the first n supervisors
 unfoldable pub shownBy : List Record → (ℕ → ℕ) → ℕ → ℕ
@@ -64,9 +71,11 @@ withOwn d m own = record { modules = set (d .modules) m own; supervisors = d .su
 unfoldable pub turned : List Record → Device → ℕ → Turned
 turned rs d m = turnOf rs m (shownBy rs (stateAt d) (supervisorsOf rs)) (ownAt d m)
 
+abbrev pub statesAfter : List Record → List ℕ → Turn → List ℕ
+statesAfter rs states t = listFrom (λ v. ledBy rs v (stateOf states v) t) 0 32
+
 unfoldable pub afterTurn : List Record → Device → ℕ → Turned → Device
-afterTurn rs d m t =
-    record { modules = set (d .modules) m (t .own); supervisors = listFrom (λ v. ledBy rs v (stateAt d v) (t .turn)) 0 32 }
+afterTurn rs d m t = record { modules = set (d .modules) m (t .own); supervisors = statesAfter rs (d .supervisors) (t .turn) }
 
 -- the number of a call, "the smallest number that applies", and 0 where none does: 9, then 11
 abbrev pub deviceNumber : List Record → Device → ℕ → ℕ
@@ -109,12 +118,14 @@ tickCall image d m f = replyBy (verdictOf image) (recordsOf image) d m (tickOf (
 abbrev pub emptyDevice : Device
 emptyDevice = record { modules = replicate 16 emptyOwn; supervisors = replicate 32 0 }
 
+unfoldable pub startSlot : List Record → ℕ → Own
+startSlot rs m = cond (ltb m (modulesOf rs)) (startOwn rs m) emptyOwn
+
+unfoldable pub startState : List Record → ℕ → ℕ
+startState rs v = cond (ltb v (supervisorsOf rs)) (supervisorInitial rs v) 0
+
 abbrev pub startDevice : List Record → Device
-startDevice rs =
-    record {
-      modules = listFrom (λ m. cond (ltb m (modulesOf rs)) (startOwn rs m) emptyOwn) 0 16;
-      supervisors = listFrom (λ v. cond (ltb v (supervisorsOf rs)) (supervisorInitial rs v) 0) 0 32;
-    }
+startDevice rs = record { modules = listFrom (startSlot rs) 0 16; supervisors = listFrom (startState rs) 0 32 }
 
 unfoldable pub startBy : Verdict → List Record → DeviceCalled
 startBy Accepted rs = record { answer = Done; device = startDevice rs }

@@ -1,0 +1,99 @@
+-- Each way through a call, with every fact that the code is told as a premise.
+use Prim.Native.Nat.{ℕ, zero, suc}
+use native.Mathlib.Omega.{arith}
+use mathlib.Core.Path.{_≡_, refl, sym, ap, ap₂, _∙_, subst}
+use mathlib.Core.List.{List, [], _∷_}
+use mathlib.Core.Bool.{true, false}
+use lib.ListN.{length, getD}
+use types.Run.{OneOf, miss}
+use denote.Enum.Declared.{tagOf}
+use Rattle.records.specs.declared.Record.{Record}
+use Rattle.reader.specs.Walk.{recordsOf}
+use Rattle.rules.specs.Check.{verdictOf}
+use Rattle.rules.specs.declared.Verdict.{Verdict}
+use Rattle.rules.specs.declared.Verdict.the-variants.{Accepted, Refused}
+use Rattle.modules.specs.declared.Turn.{Turn}
+use Rattle.modules.specs.declared.Turn.the-variants.{Event, Stray, Nothing}
+use Rattle.modules.specs.declared.Turned.{Turned}
+use Rattle.modules.specs.declared.Replied.{Replied}
+use Rattle.modules.specs.declared.Called.the-variants.{Done}
+use Rattle.modules.proofs.Turn.{the-type}
+use Rattle.device.specs.declared.Device.{Device}
+use Rattle.device.specs.declared.DeviceTurned.{DeviceTurned}
+use Rattle.device.specs.declared.DeviceCalled.{DeviceCalled}
+use Rattle.device.specs.declared.Turning.the-variants.{Turned as Turns, Refused as TurnRefused}
+use Rattle.device.specs.Device.{stateOf, listFrom, ledBy, withOwn, turned, statesAfter, afterTurn, deviceNumber, turnRefused, turnIn, turnBy, turnCall, callRefused, replyIn, replyBy, emptyDevice, startDevice, startBy, startCall}
+use Rattle.device.proofs.Slots.{same-slots}
+
+-- ---- the state after a turn
+
+module _ (rs : List Record) (d : Device) (m : ℕ) (t : Turned) {w : Device} where
+  pub after-event : {l : List ℕ} {e : ℕ} → w ≡ withOwn d m (t .own) → t .turn ≡ Event e → l ≡ statesAfter rs (d .supervisors) (Event e)
+      → record { modules = w .modules; supervisors = l } ≡ afterTurn rs d m t
+  unfolding afterTurn
+  after-event a q h = ap₂ (λ (x : Device) (l : List ℕ). record { modules = x .modules; supervisors = l }) a (h ∙ ap (statesAfter rs (d .supervisors)) (sym q))
+
+  -- without a firing the supervisors stay
+  pub after-none : w ≡ withOwn d m (t .own) → OneOf (1 ∷ 2 ∷ []) (tagOf the-type (t .turn)) → length (d .supervisors) ≡ 32 → w ≡ afterTurn rs d m t
+  unfolding afterTurn ledBy
+  after-none a o h = a ∙ ap (λ (l : List ℕ). record { modules = withOwn d m (t .own) .modules; supervisors = l }) (sym (stays (t .turn) o))
+    where
+      same : listFrom (stateOf (d .supervisors)) 0 32 ≡ d .supervisors
+      same = ap (listFrom (stateOf (d .supervisors)) 0) (sym h) ∙ same-slots 0 (d .supervisors)
+
+      stays : (x : Turn) → OneOf (1 ∷ 2 ∷ []) (tagOf the-type x) → statesAfter rs (d .supervisors) x ≡ d .supervisors
+      stays (Event e) q = absurd (miss (1 ∷ 2 ∷ []) 0 tt q)
+      stays (Stray e) q = same
+      stays Nothing q = same
+
+-- ---- the number of a call
+
+module _ (rs : List Record) (d : Device) (m n : ℕ) (e : n ≡ deviceNumber rs d m) where
+  pub turn-taken : {t : Turned} {next : Device} → n ≡ 0 → t ≡ turned rs d m → next ≡ afterTurn rs d m t
+      → record { answer = Turns (t .turn); device = next } ≡ turnIn rs d m (deviceNumber rs d m)
+  unfolding turnIn
+  turn-taken {t = t} z g h =
+      ap (λ (x : Device). record { answer = Turns (t .turn); device = x }) h
+      ∙ ap (λ (x : Turned). record { answer = Turns (x .turn); device = afterTurn rs d m x }) g
+      ∙ ap (turnIn rs d m) (sym z ∙ e)
+
+  pub turn-numbered : (n ≡ 0 → ⊥) → turnRefused d n 0 ≡ turnIn rs d m (deviceNumber rs d m)
+  unfolding turnIn
+  turn-numbered z = go n z ∙ ap (turnIn rs d m) e
+    where
+      go : (k : ℕ) → (k ≡ 0 → ⊥) → turnRefused d k 0 ≡ turnIn rs d m k
+      go zero q = absurd (q refl)
+      go (suc k) q = refl
+
+  pub reply-taken : {r x : Replied} {c : DeviceCalled} → n ≡ 0 → r ≡ x → c ≡ replyIn d m 0 r → c ≡ replyIn d m (deviceNumber rs d m) x
+  reply-taken z g h = h ∙ ap₂ (λ (k : ℕ) (y : Replied). replyIn d m k y) (sym z ∙ e) g
+
+  pub reply-numbered : (x : Replied) {c : DeviceCalled} → (n ≡ 0 → ⊥) → c ≡ callRefused d n 0 → c ≡ replyIn d m (deviceNumber rs d m) x
+  unfolding replyIn
+  reply-numbered x z g = g ∙ go n z ∙ ap (λ (k : ℕ). replyIn d m k x) e
+    where
+      go : (k : ℕ) → (k ≡ 0 → ⊥) → callRefused d k 0 ≡ replyIn d m k x
+      go zero q = absurd (q refl)
+      go (suc k) q = refl
+
+-- ---- the image's verdict
+
+module _ (s : List ℕ) {v : Verdict} (e : v ≡ verdictOf s) where
+  module _ (d : Device) (m : ℕ) where
+    pub turn-accepted : {c : DeviceTurned} → v ≡ Accepted → c ≡ turnIn (recordsOf s) d m (deviceNumber (recordsOf s) d m) → c ≡ turnCall s d m
+    turn-accepted q g = g ∙ (unfold turnBy in ap (λ (x : Verdict). turnBy x (recordsOf s) d m) (sym q ∙ e))
+
+    pub turn-refused : (n o : ℕ) → v ≡ Refused n o → turnRefused d n o ≡ turnCall s d m
+    turn-refused n o q = unfold turnBy in ap (λ (x : Verdict). turnBy x (recordsOf s) d m) (sym q ∙ e)
+
+    pub reply-accepted : (x : Replied) {c : DeviceCalled} → v ≡ Accepted → c ≡ replyIn d m (deviceNumber (recordsOf s) d m) x → c ≡ replyBy (verdictOf s) (recordsOf s) d m x
+    reply-accepted x q g = g ∙ (unfold replyBy in ap (λ (y : Verdict). replyBy y (recordsOf s) d m x) (sym q ∙ e))
+
+    pub reply-refused : (n o : ℕ) (x : Replied) {c : DeviceCalled} → v ≡ Refused n o → c ≡ callRefused d n o → c ≡ replyBy (verdictOf s) (recordsOf s) d m x
+    reply-refused n o x q g = g ∙ (unfold replyBy in ap (λ (y : Verdict). replyBy y (recordsOf s) d m x) (sym q ∙ e))
+
+  pub start-accepted : {d : Device} → v ≡ Accepted → d ≡ startDevice (recordsOf s) → record { answer = Done; device = d } ≡ startCall s
+  start-accepted q g = ap (λ (x : Device). record { answer = Done; device = x }) g ∙ (unfold startBy in ap (λ (y : Verdict). startBy y (recordsOf s)) (sym q ∙ e))
+
+  pub start-refused : (n o : ℕ) {d : Device} {c : DeviceCalled} → v ≡ Refused n o → d ≡ emptyDevice → c ≡ callRefused d n o → c ≡ startCall s
+  start-refused n o q g h = h ∙ ap (λ (x : Device). callRefused x n o) g ∙ (unfold startBy in ap (λ (y : Verdict). startBy y (recordsOf s)) (sym q ∙ e))

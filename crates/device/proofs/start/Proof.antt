@@ -1,0 +1,41 @@
+use Rattle.device.proofs.Calls.{start-accepted, start-refused}
+use borrow.Author.Needs.{needs}
+use Rattle.device.proofs.start.Statement.{statement}
+use Rattle.device.proofs.start.Tie as tie
+
+check-requires : tie.Need-check-requires
+check-requires c κs = search needs
+
+enum-told : tie.Need-enum-told
+enum-told c = search needs
+
+start-device-requires : tie.Need-start-device-requires
+start-device-requires c κs = search needs
+
+enum-known-n : tie.Need-enum-known-n
+enum-known-n c = search needs
+
+empty-device-requires : tie.Need-empty-device-requires
+empty-device-requires c κs = search needs
+
+refused-requires : tie.Need-refused-requires
+refused-requires c κs = search needs
+
+returns : tie.Need-returns
+returns c = search start-accepted
+
+returns-2 : tie.Need-returns-2
+returns-2 c = search start-refused
+
+pub start-spec : {M : Type 1} → statement M
+start-spec =
+    tie.close
+    (tie.spec
+    check-requires
+    enum-told
+    start-device-requires
+    enum-known-n
+    empty-device-requires
+    refused-requires
+    returns
+    returns-2)

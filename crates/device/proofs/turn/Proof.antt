@@ -1,0 +1,26 @@
+use Rattle.device.proofs.Calls.{turn-accepted, turn-refused}
+use borrow.Author.Needs.{needs}
+use Rattle.device.proofs.turn.Statement.{statement}
+use Rattle.device.proofs.turn.Tie as tie
+
+check-requires : tie.Need-check-requires
+check-requires c κs = search needs
+
+enum-told : tie.Need-enum-told
+enum-told c = search needs
+
+turn-in-requires : tie.Need-turn-in-requires
+turn-in-requires c κs = search needs
+
+enum-known-n : tie.Need-enum-known-n
+enum-known-n c = search needs
+
+returns : tie.Need-returns
+returns c = search turn-accepted
+
+returns-2 : tie.Need-returns-2
+returns-2 c = search turn-refused
+
+pub turn-spec : {M : Type 1} → statement M
+turn-spec =
+    tie.close (tie.spec check-requires enum-told turn-in-requires enum-known-n returns returns-2)
