@@ -1,0 +1,65 @@
+use borrow.Author.Needs.{needs}
+use mathlib.Core.Path.{_≡_}
+use mathlib.Core.List.{[]}
+use Prim.Native.Nat.{ℕ}
+use native.Mathlib.Nat.{le-refl}
+use native.Mathlib.Omega.{arith}
+use mir.Syntax.{w8, w64}
+use mir.Val.{Fits}
+use Rattle.script.specs.declared.Text.{Text}
+use Rattle.script.specs.Ascii.{ascii}
+use Rattle.script.specs.Text.{textOf, pushed, appended}
+use Rattle.script.specs.Answers.{spaced, planRefusedLine}
+use Rattle.script.proofs.Texts.{so-empty, so-all, so-field, so-wide, so-push}
+use Rattle.script.proofs.plan_refused_line.Statement.{statement}
+use Rattle.script.proofs.plan_refused_line.Tie as tie
+
+module _ (n o : ℕ) {t u w x y r : Text} where
+  refused-by : Fits w8 n → Fits w64 o → t ≡ textOf [] → u ≡ appended t (ascii "plan refused") → w ≡ appended u (spaced n) → x ≡ appended w (ascii " at") → y ≡ appended x (spaced o)
+      → r ≡ pushed y 10 → r ≡ textOf (planRefusedLine n o)
+  unfolding ascii planRefusedLine
+  refused-by f g p q e k i j =
+      let s = so-field (so-all (so-empty p) (ascii "plan refused") 12 (le-refl 12) (omega arith) q) n f (omega arith) e in
+      so-push (so-wide (so-all s (ascii " at") 3 (le-refl 3) (omega arith) k) o g (omega arith) i) 10 (omega arith) j .is
+
+empty-requires : tie.Need-empty-requires
+empty-requires c κs = search needs
+
+slice-aggregate-push-all : tie.Need-slice-aggregate-push-all
+slice-aggregate-push-all c = search needs
+
+push-all-requires : tie.Need-push-all-requires
+push-all-requires c κs = search needs
+
+push-field-requires : tie.Need-push-field-requires
+push-field-requires c κs = search needs
+
+slice-aggregate-push-all-2 : tie.Need-slice-aggregate-push-all-2
+slice-aggregate-push-all-2 c = search needs
+
+push-all-requires-2 : tie.Need-push-all-requires-2
+push-all-requires-2 c κs = search needs
+
+push-spaced-requires : tie.Need-push-spaced-requires
+push-spaced-requires c κs = search needs
+
+push-requires : tie.Need-push-requires
+push-requires c κs = search needs
+
+returns : tie.Need-returns
+unfolding ascii
+returns c = search refused-by
+
+pub plan-refused-line-spec : {M : Type 1} → statement M
+plan-refused-line-spec =
+    tie.close
+    (tie.spec
+    empty-requires
+    slice-aggregate-push-all
+    push-all-requires
+    push-field-requires
+    slice-aggregate-push-all-2
+    push-all-requires-2
+    push-spaced-requires
+    push-requires
+    returns)

@@ -1,0 +1,53 @@
+-- Document 01, "The two-valve sheet": the lines that the listing program prints, each with its line feed.
+use Prim.Native.Nat.{ℕ}
+use Prim.Native.Char.{code}
+use mathlib.Core.List.{List, [], _∷_, _++_, map}
+use lib.ListN.{take}
+use Rattle.modules.specs.declared.Own.{Own}
+use Rattle.modules.specs.declared.Turn.the-variants.{Event, Stray, Nothing}
+use Rattle.modules.specs.declared.Called.{Called}
+use Rattle.modules.specs.declared.Called.the-variants.{Done, Refused as CallRefused}
+use Rattle.device.specs.declared.Device.{Device}
+use Rattle.device.specs.declared.Turning.{Turning}
+use Rattle.device.specs.declared.Turning.the-variants.{Turned, Refused as TurnRefused}
+use Rattle.script.specs.Ascii.{ascii, decimal}
+
+-- a number with the space before it
+abbrev pub spaced : ℕ → List ℕ
+spaced n = code " " ∷ decimal n
+
+unfoldable pub spacedAll : List ℕ → List ℕ
+spacedAll [] = []
+spacedAll (n ∷ ns) = spaced n ++ spacedAll ns
+
+-- "Header: modules, supervisors, events."
+unfoldable pub headerLine : ℕ → ℕ → ℕ → List ℕ
+headerLine m v e = ascii "plan" ++ spaced m ++ spaced v ++ spaced e ++ ascii "\n"
+
+-- "and, alone, `plan refused N at B`"
+unfoldable pub planRefusedLine : ℕ → ℕ → List ℕ
+planRefusedLine n o = ascii "plan refused" ++ spaced n ++ ascii " at" ++ spaced o ++ ascii "\n"
+
+-- "`refused N`"
+unfoldable pub refusedLine : ℕ → List ℕ
+refusedLine n = ascii "refused" ++ spaced n ++ ascii "\n"
+
+-- "turn 1 event 2", "turn 0 none", "`turn M stray E`"
+unfoldable pub turnLine : ℕ → Turning → List ℕ
+turnLine m (Turned (Event e)) = ascii "turn" ++ spaced m ++ ascii " event" ++ spaced e ++ ascii "\n"
+turnLine m (Turned (Stray e)) = ascii "turn" ++ spaced m ++ ascii " stray" ++ spaced e ++ ascii "\n"
+turnLine m (Turned Nothing) = ascii "turn" ++ spaced m ++ ascii " none\n"
+turnLine m (TurnRefused n o) = refusedLine n
+
+-- "response 1 queued 3"
+unfoldable pub responseLine : ℕ → ℕ → Called → List ℕ
+responseLine m e Done = ascii "response" ++ spaced m ++ ascii " queued" ++ spaced e ++ ascii "\n"
+responseLine m e (CallRefused n o) = refusedLine n
+
+abbrev pub statesOf : List Own → List ℕ
+statesOf ws = map (λ (w : Own). w .state) ws
+
+-- "Last line: module states, then supervisor states.": those of the first m modules and v supervisors
+unfoldable pub statesLine : Device → ℕ → ℕ → List ℕ
+statesLine d m v =
+    ascii "states" ++ spacedAll (take m (statesOf (d .modules))) ++ spacedAll (take v (d .supervisors)) ++ ascii "\n"

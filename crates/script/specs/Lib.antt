@@ -1,0 +1,7 @@
+pub mod Ascii
+pub mod Line
+pub mod Partial
+pub mod Text
+pub mod Answers
+pub mod Said
+pub mod Sheet

@@ -1,0 +1,46 @@
+-- The lines that the simulation prints, each with its line feed: what a step, a delivery or a tick got, and a message sent, by its bytes.
+use Prim.Native.Nat.{ℕ, _+_, _-_, _/_, _%_}
+use Prim.Native.Char.{code}
+use mathlib.Core.List.{List, [], _∷_, _++_}
+use mathlib.Core.Bool.{cond}
+use lib.Dec.{ltb}
+use Rattle.modules.specs.declared.Turn.the-variants.{Event, Stray, Nothing}
+use Rattle.modules.specs.declared.Called.{Called}
+use Rattle.modules.specs.declared.Called.the-variants.{Done, Refused as CallRefused}
+use Rattle.permits.specs.declared.Stepped.{Stepped}
+use Rattle.permits.specs.declared.Stepped.the-variants.{Turned, Bids, Waits, Refused as StepRefused}
+use Rattle.permits.specs.declared.Served.{Served}
+use Rattle.permits.specs.declared.Served.the-variants.{Sends, Waits as ServedWaits, Refused as ServedRefused}
+use Rattle.script.specs.Ascii.{ascii}
+use Rattle.script.specs.Answers.{spaced, refusedLine}
+
+unfoldable pub hexDigit : ℕ → ℕ
+hexDigit d = cond (ltb d 10) (code "0" + d) (code "A" + (d - 10))
+
+-- each byte by two digits
+unfoldable pub hexes : List ℕ → List ℕ
+hexes [] = []
+hexes (b ∷ bs) = hexDigit (b / 16 % 16) ∷ hexDigit (b % 16) ∷ hexes bs
+
+unfoldable pub sentLine : List ℕ → List ℕ
+sentLine bs = ascii "sent " ++ hexes bs ++ ascii "\n"
+
+unfoldable pub deliveredLine : List ℕ → List ℕ
+deliveredLine bs = ascii "delivered " ++ hexes bs ++ ascii "\n"
+
+unfoldable pub tickLine : ℕ → Called → List ℕ
+tickLine m Done = ascii "tick" ++ spaced m ++ ascii "\n"
+tickLine m (CallRefused n o) = refusedLine n
+
+unfoldable pub steppedLine : ℕ → Stepped → List ℕ
+steppedLine m (Turned (Event e) k) = ascii "module" ++ spaced m ++ ascii " event" ++ spaced e ++ ascii "\n"
+steppedLine m (Turned (Stray e) k) = ascii "module" ++ spaced m ++ ascii " stray" ++ spaced e ++ ascii "\n"
+steppedLine m (Turned Nothing k) = ascii "module" ++ spaced m ++ ascii " none\n"
+steppedLine m (Bids v k) = ascii "module" ++ spaced m ++ ascii " bids" ++ spaced v ++ ascii "\n"
+steppedLine m Waits = ascii "module" ++ spaced m ++ ascii " waits\n"
+steppedLine m (StepRefused n o) = refusedLine n
+
+unfoldable pub servedLine : ℕ → Served → List ℕ
+servedLine v (Sends m k) = ascii "supervisor" ++ spaced v ++ ascii " permits" ++ spaced m ++ ascii "\n"
+servedLine v ServedWaits = ascii "supervisor" ++ spaced v ++ ascii " waits\n"
+servedLine v (ServedRefused n o) = refusedLine n

@@ -1,0 +1,461 @@
+// The script and the answers of the listing program: lines taken byte by byte, and lines of output as values.
+ghost use mathlib.Core.Path.{_≡_};
+ghost use mathlib.Core.List.{[], _++_};
+ghost use Prim.Native.Nat.{_+_, _*_, _%_, _≤_, _<_};
+ghost use lib.ListN.{length, take};
+ghost use Rattle.script.specs.Ascii.{ascii, decimal};
+ghost use Rattle.script.specs.Line.{numberFrom, upTo255, numberOf, spaceIn, turnBy, responseBy, pairOf, lineOf};
+ghost use Rattle.script.specs.Partial.{begun, withByte, hasByte, parsedOf};
+ghost use Rattle.script.specs.Text.{textOf, pushed, appended, cut};
+ghost use Rattle.script.specs.Answers.{spaced, spacedAll, statesOf, headerLine, planRefusedLine, refusedLine, turnLine, responseLine, statesLine};
+ghost use Rattle.script.specs.Said.{hexDigit, hexes, sentLine, deliveredLine, steppedLine, servedLine, tickLine};
+use bits::Maybe;
+use device::Device;
+use device::Turning;
+use modules::Called;
+use modules::Own;
+use modules::Turn;
+use permits::Served;
+use permits::Stepped;
+
+// What a line of the script is.
+pub enum Line {
+    Turn(u8),
+    Response(u8, u8),
+    Misshapen,
+}
+
+// The first twelve bytes of a line that is still coming, and how many of them there are.
+pub struct Partial {
+    pub bytes: [u8; 12],
+    pub length: usize,
+}
+
+// A line of output: its bytes, zeros after them, and how many they are.
+pub struct Text {
+    pub bytes: [u8; 208],
+    pub length: usize,
+}
+
+// A line before its first byte.
+pub fn begun() -> Partial
+    ensures { λ r. ⌜ r ≡ begun ⌝ }
+{
+    Partial {
+        bytes: [0; 12],
+        length: 0,
+    }
+}
+
+// The line with one byte more.
+pub fn with_byte(p: Partial, b: u8) -> Partial
+    ensures { λ r. ⌜ r ≡ withByte p b ⌝ }
+{
+    let at = p.length;
+    if at < 12 {
+        let mut longer = p;
+        longer.bytes[at] = b;
+        longer.length = at + 1;
+        longer
+    } else {
+        p
+    }
+}
+
+// Whether the line has a byte.
+pub fn has_byte(p: Partial) -> bool
+    ensures { λ r. ⌜ r ≡ hasByte p ⌝ }
+{
+    0 < p.length
+}
+
+// The number up to 255 that digits make.
+fn digits_of(s: &[u8]) -> Maybe
+    ensures { λ r. ⌜ r ≡ upTo255 (numberFrom 0 (now (s .entry))) ⌝ }
+{
+    let mut n: usize = 0;
+    let mut i: usize = 0;
+    while i < s.len() {
+        let b = s[i];
+        if b < b'0' {
+            return Maybe::Nothing;
+        }
+        if b'9' < b {
+            return Maybe::Nothing;
+        }
+        n = n * 10 + words::wide(b - b'0');
+        if 255 < n {
+            return Maybe::Nothing;
+        }
+        i += 1;
+    }
+    Maybe::Just(n as u8)
+}
+
+// The number up to 255 that bytes are, without leading zeros.
+pub fn number_of(s: &[u8]) -> Maybe
+    ensures { λ r. ⌜ r ≡ numberOf (now (s .entry)) ⌝ }
+{
+    if s.len() == 0 {
+        return Maybe::Nothing;
+    }
+    if s.len() == 1 {
+        return digits_of(s);
+    }
+    if s[0] == b'0' {
+        Maybe::Nothing
+    } else {
+        digits_of(s)
+    }
+}
+
+// The place of the first space, or the length.
+pub fn space_in(s: &[u8]) -> usize
+    ensures { λ r. ⌜ r ≡ spaceIn (now (s .entry)) ⌝ }
+{
+    let mut i: usize = 0;
+    while i < s.len() {
+        if s[i] == b' ' {
+            return i;
+        }
+        i += 1;
+    }
+    i
+}
+
+fn turn_by(m: Maybe) -> Line
+    ensures { λ r. ⌜ r ≡ turnBy m ⌝ }
+{
+    match m {
+        Maybe::Just(n) => Line::Turn(n),
+        Maybe::Nothing => Line::Misshapen,
+    }
+}
+
+fn response_by(m: Maybe, e: Maybe) -> Line
+    ensures { λ r. ⌜ r ≡ responseBy m e ⌝ }
+{
+    match m {
+        Maybe::Just(n) => match e {
+            Maybe::Just(k) => Line::Response(n, k),
+            Maybe::Nothing => Line::Misshapen,
+        },
+        Maybe::Nothing => Line::Misshapen,
+    }
+}
+
+// The two numbers behind `r `.
+pub fn pair_of(s: &[u8]) -> Line
+    ensures { λ r. ⌜ r ≡ pairOf (now (s .entry)) ⌝ }
+{
+    let k = space_in(s);
+    if k < s.len() {
+        let j = k + 1;
+        let m = number_of(&s[..k]);
+        let e = number_of(&s[j..]);
+        response_by(m, e)
+    } else {
+        Line::Misshapen
+    }
+}
+
+fn line_of(s: &[u8]) -> Line
+    ensures { λ r. ⌜ r ≡ lineOf (now (s .entry)) ⌝ }
+{
+    if s.len() < 2 {
+        return Line::Misshapen;
+    }
+    if s[1] == b' ' {
+        let rest = &s[2..];
+        match s[0] {
+            b't' => turn_by(number_of(rest)),
+            b'r' => pair_of(rest),
+            _ => Line::Misshapen,
+        }
+    } else {
+        Line::Misshapen
+    }
+}
+
+// What the line is, if it ends here.
+pub fn parsed(p: Partial) -> Line
+    ensures { λ r. ⌜ r ≡ parsedOf p ⌝ }
+{
+    let length = p.length;
+    if length < 12 {
+        let bytes = p.bytes;
+        line_of(&bytes[..length])
+    } else {
+        Line::Misshapen
+    }
+}
+
+fn empty() -> Text
+    ensures { λ r. ⌜ r ≡ textOf [] ⌝ }
+{
+    Text {
+        bytes: [0; 208],
+        length: 0,
+    }
+}
+
+// The text with one byte more, if there is room.
+fn push(t: Text, b: u8) -> Text
+    ensures { λ r. ⌜ r ≡ pushed t b ⌝ }
+{
+    let at = t.length;
+    if at < 208 {
+        let mut next = t;
+        next.bytes[at] = b;
+        next.length = at + 1;
+        next
+    } else {
+        t
+    }
+}
+
+fn push_all(t: Text, s: &[u8]) -> Text
+    ensures { λ r. ⌜ r ≡ appended t (now (s .entry)) ⌝ }
+{
+    let mut next = t;
+    let mut i: usize = 0;
+    while i < s.len() {
+        next = push(next, s[i]);
+        i += 1;
+    }
+    next
+}
+
+// The text with a number in decimal behind it.
+fn push_number(t: Text, n: usize) -> Text
+    ensures { λ r. ⌜ r ≡ appended t (decimal n) ⌝ }
+{
+    if n < 10 {
+        push(t, b'0' + n as u8)
+    } else {
+        let next = push_number(t, n / 10);
+        push(next, b'0' + (n % 10) as u8)
+    }
+}
+
+fn push_spaced(t: Text, n: usize) -> Text
+    ensures { λ r. ⌜ r ≡ appended t (spaced n) ⌝ }
+{
+    push_number(push(t, b' '), n)
+}
+
+fn push_field(t: Text, n: u8) -> Text
+    ensures { λ r. ⌜ r ≡ appended t (spaced n) ⌝ }
+{
+    push_spaced(t, words::wide(n))
+}
+
+// The numbers of a slice, and how long they are at most.
+fn push_numbers(t: Text, s: &[u8]) -> Text
+    ensures { λ r. ⌜ (r ≡ appended t (spacedAll (now (s .entry)))) × (length (spacedAll (now (s .entry))) ≤ 4 * length (now (s .entry))) ⌝ }
+{
+    let mut next = t;
+    let mut i: usize = 0;
+    while i < s.len() {
+        next = push_field(next, s[i]);
+        i += 1;
+    }
+    next
+}
+
+fn state_of(own: Own) -> u8
+    ensures { λ r. ⌜ r ≡ own .state ⌝ }
+{
+    own.state
+}
+
+// The states of the first n modules, and how long they are at most.
+fn push_states(t: Text, modules: [Own; 16], n: usize) -> Text
+    ensures { λ r. ⌜ (r ≡ appended t (spacedAll (take n (statesOf modules)))) × (length (spacedAll (take n (statesOf modules))) ≤ 64) ⌝ }
+{
+    let mut next = t;
+    let mut i: usize = 0;
+    while i < n {
+        if 16 <= i {
+            return next;
+        }
+        next = push_field(next, state_of(modules[i]));
+        i += 1;
+    }
+    next
+}
+
+// The states of the first n supervisors, and how long they are at most.
+fn push_first(t: Text, states: [u8; 32], n: usize) -> Text
+    ensures { λ r. ⌜ (r ≡ appended t (spacedAll (take n states))) × (length (spacedAll (take n states)) ≤ 128) ⌝ }
+{
+    if n < 32 {
+        push_numbers(t, &states[..n])
+    } else {
+        push_numbers(t, &states)
+    }
+}
+
+// A word, a number and a second word.
+fn short_line(first: &[u8], n: u8, last: &[u8]) -> Text
+    requires { ⌜ length (now first) + length (now last) ≤ 100 ⌝ }
+    ensures { λ r. ⌜ r ≡ textOf (now (first .entry) ++ spaced n ++ now (last .entry)) ⌝ }
+{
+    push_all(push_field(push_all(empty(), first), n), last)
+}
+
+// Two words, each with a number behind it, and the line feed.
+fn long_line(first: &[u8], m: u8, second: &[u8], e: u8) -> Text
+    requires { ⌜ length (now first) + length (now second) ≤ 100 ⌝ }
+    ensures { λ r. ⌜ r ≡ textOf (now (first .entry) ++ spaced m ++ now (second .entry) ++ spaced e ++ ascii "\n") ⌝ }
+{
+    let t = push_field(push_all(empty(), first), m);
+    push(push_field(push_all(t, second), e), b'\n')
+}
+
+// `plan 2 1 4`.
+pub fn header_line(modules: u8, supervisors: u8, events: u8) -> Text
+    ensures { λ r. ⌜ r ≡ textOf (headerLine modules supervisors events) ⌝ }
+{
+    let t = push_field(push_all(empty(), b"plan"), modules);
+    push(push_field(push_field(t, supervisors), events), b'\n')
+}
+
+// `plan refused N at B`.
+pub fn plan_refused_line(n: u8, at: usize) -> Text
+    ensures { λ r. ⌜ r ≡ textOf (planRefusedLine n at) ⌝ }
+{
+    let t = push_field(push_all(empty(), b"plan refused"), n);
+    push(push_spaced(push_all(t, b" at"), at), b'\n')
+}
+
+// `refused N`.
+pub fn refused_line(n: u8) -> Text
+    ensures { λ r. ⌜ r ≡ textOf (refusedLine n) ⌝ }
+{
+    short_line(b"refused", n, b"\n")
+}
+
+// What a turn of module m got.
+pub fn turn_line(m: u8, a: Turning) -> Text
+    ensures { λ r. ⌜ r ≡ textOf (turnLine m a) ⌝ }
+{
+    match a {
+        Turning::Turned(t) => match t {
+            Turn::Event(e) => long_line(b"turn", m, b" event", e),
+            Turn::Stray(e) => long_line(b"turn", m, b" stray", e),
+            Turn::Nothing => short_line(b"turn", m, b" none\n"),
+        },
+        Turning::Refused(n, _) => refused_line(n),
+    }
+}
+
+// What a response e of module m got.
+pub fn response_line(m: u8, e: u8, a: Called) -> Text
+    ensures { λ r. ⌜ r ≡ textOf (responseLine m e a) ⌝ }
+{
+    match a {
+        Called::Done => long_line(b"response", m, b" queued", e),
+        Called::Refused(n, _) => refused_line(n),
+    }
+}
+
+// The states of the first modules and supervisors.
+pub fn states_line(d: Device, modules: u8, supervisors: u8) -> Text
+    ensures { λ r. ⌜ r ≡ textOf (statesLine d modules supervisors) ⌝ }
+{
+    let own = d.modules;
+    let states = d.supervisors;
+    let t = push_states(push_all(empty(), b"states"), own, words::wide(modules));
+    let t = push_first(t, states, words::wide(supervisors));
+    push(t, b'\n')
+}
+
+// ---- the lines of the simulation
+
+// A digit of a byte in hexadecimal.
+fn hex_digit(n: u8) -> u8
+    ensures { λ r. ⌜ r ≡ hexDigit (n % 16) ⌝ }
+{
+    let d = n % 16;
+    if d < 10 { b'0' + d } else { b'A' + (d - 10) }
+}
+
+// The text with bytes in hexadecimal behind it.
+fn push_hexes(t: Text, s: &[u8]) -> Text
+    ensures { λ r. ⌜ r ≡ appended t (hexes (now (s .entry))) ⌝ }
+{
+    let mut next = t;
+    let mut i: usize = 0;
+    while i < s.len() {
+        let b = s[i];
+        next = push(push(next, hex_digit(b / 16)), hex_digit(b));
+        i += 1;
+    }
+    next
+}
+
+// A word and bytes in hexadecimal.
+fn bytes_line(word: &[u8], s: &[u8]) -> Text
+    ensures { λ r. ⌜ r ≡ cut (now (word .entry) ++ hexes (now (s .entry)) ++ ascii "\n") ⌝ }
+{
+    push(push_hexes(push_all(empty(), word), s), b'\n')
+}
+
+// `sent BYTES`.
+pub fn sent_line(s: &[u8]) -> Text
+    ensures { λ r. ⌜ r ≡ cut (sentLine (now (s .entry))) ⌝ }
+{
+    bytes_line(b"sent ", s)
+}
+
+// `delivered BYTES`.
+pub fn delivered_line(s: &[u8]) -> Text
+    ensures { λ r. ⌜ r ≡ cut (deliveredLine (now (s .entry))) ⌝ }
+{
+    bytes_line(b"delivered ", s)
+}
+
+// What a tick of module m got.
+pub fn tick_line(m: u8, a: Called) -> Text
+    ensures { λ r. ⌜ r ≡ textOf (tickLine m a) ⌝ }
+{
+    match a {
+        Called::Done => short_line(b"tick", m, b"\n"),
+        Called::Refused(n, _) => refused_line(n),
+    }
+}
+
+// What a step of module m got.
+pub fn stepped_line(m: u8, a: Stepped) -> Text
+    ensures { λ r. ⌜ r ≡ textOf (steppedLine m a) ⌝ }
+{
+    match a {
+        Stepped::Turned(t, _) => match t {
+            Turn::Event(e) => long_line(b"module", m, b" event", e),
+            Turn::Stray(e) => long_line(b"module", m, b" stray", e),
+            Turn::Nothing => short_line(b"module", m, b" none\n"),
+        },
+        Stepped::Bids(v, _) => long_line(b"module", m, b" bids", v),
+        Stepped::Waits => short_line(b"module", m, b" waits\n"),
+        Stepped::Refused(n, _) => refused_line(n),
+    }
+}
+
+// What a step of supervisor v got.
+pub fn served_line(v: u8, a: Served) -> Text
+    ensures { λ r. ⌜ r ≡ textOf (servedLine v a) ⌝ }
+{
+    match a {
+        Served::Sends(m, _) => long_line(b"supervisor", v, b" permits", m),
+        Served::Waits => short_line(b"supervisor", v, b" waits\n"),
+        Served::Refused(n, _) => refused_line(n),
+    }
+}
+
+// Numbers, each with the space before it.
+pub fn numbers(s: &[u8]) -> Text
+    ensures { λ r. ⌜ r ≡ cut (spacedAll (now (s .entry))) ⌝ }
+{
+    push_numbers(empty(), s)
+}
