@@ -1,4 +1,11 @@
 // Messages between modules and supervisors: specs/Message.antt.
+ghost use mathlib.Core.Path.{_≡_};
+ghost use mathlib.Core.List.{[], _∷_};
+ghost use Prim.Native.Nat.{_+_, _≤_};
+ghost use lib.ListN.{length};
+ghost use lib.Seq.{sets};
+ghost use Rattle.messages.specs.Message.{messageBytes, parse};
+ghost use Rattle.messages.specs.Write.{Wrote};
 
 // A bid of a module to a supervisor, the supervisor's permit with its shown mask, and the module's release with the event that fired, or
 // 255 for no event.
@@ -23,4 +30,100 @@ pub enum Message {
 pub enum Parsed {
     Whole(Message),
     Misshapen,
+}
+
+// The message that the bytes are.
+pub fn read(bytes: &[u8]) -> Parsed
+    ensures { λ r. ⌜ r ≡ parse (now (bytes .entry)) ⌝ }
+{
+    let n = bytes.len();
+    let kind = words::byte_at(bytes, 0);
+    let f1 = words::byte_at(bytes, 1);
+    let f2 = words::byte_at(bytes, 2);
+    if (kind == 0x01) & (n == 3) {
+        return Parsed::Whole(Message::Bid {
+            owner: f1,
+            supervisor: f2,
+        });
+    }
+    if (kind == 0x02) & (n == 11) {
+        let mask = words::word_at(bytes, 3);
+        return Parsed::Whole(Message::Permit {
+            supervisor: f1,
+            owner: f2,
+            mask,
+        });
+    }
+    if (kind == 0x03) & (n == 4) {
+        let f3 = words::byte_at(bytes, 3);
+        return Parsed::Whole(Message::Release {
+            owner: f1,
+            supervisor: f2,
+            event: f3,
+        });
+    }
+    Parsed::Misshapen
+}
+
+// How many bytes a message is.
+pub fn length_of(g: Message) -> usize
+    ensures { λ r. ⌜ r ≡ length (messageBytes g) ⌝ }
+{
+    match g {
+        Message::Bid { .. } => 3,
+        Message::Permit { .. } => 11,
+        Message::Release { .. } => 4,
+    }
+}
+
+// The three bytes at an offset.
+fn put_three(s: &mut [u8], at: usize, k: u8, a: u8, b: u8)
+    requires { ⌜ at + 3 ≤ length (now s) ⌝ }
+    ensures { λ r. ⌜ now (s .exit) ≡ sets (now (s .entry)) at (k ∷ a ∷ b ∷ []) ⌝ }
+{
+    s[at] = k;
+    s[at + 1] = a;
+    s[at + 2] = b;
+}
+
+// The message's bytes at an offset.
+fn put_message(g: Message, s: &mut [u8], at: usize)
+    requires { ⌜ at + length (messageBytes g) ≤ length (now s) ⌝ }
+    ensures { λ r. ⌜ now (s .exit) ≡ sets (now (s .entry)) at (messageBytes g) ⌝ }
+{
+    match g {
+        Message::Bid { owner, supervisor } => put_three(s, at, 0x01, owner, supervisor),
+        Message::Permit {
+            supervisor,
+            owner,
+            mask,
+        } => {
+            put_three(&mut *s, at, 0x02, supervisor, owner);
+            words::put_word(&mut *s, at + 3, mask);
+        }
+        Message::Release {
+            owner,
+            supervisor,
+            event,
+        } => {
+            put_three(&mut *s, at, 0x03, owner, supervisor);
+            s[at + 3] = event;
+        }
+    }
+}
+
+// Writes a message at an offset of the buffer, if there is room for it; else the buffer stays.
+pub fn write(g: Message, buffer: &mut [u8], at: usize) -> bool
+    ensures { λ r. ⌜ Wrote g at (now (buffer .entry)) r (now (buffer .exit)) ⌝ }
+{
+    let n = length_of(g);
+    if n <= buffer.len() {
+        if at <= buffer.len() - n {
+            put_message(g, &mut *buffer, at);
+            return true;
+        }
+        false
+    } else {
+        false
+    }
 }

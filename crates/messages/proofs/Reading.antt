@@ -1,0 +1,43 @@
+-- The cases of `parse`, from what the code of `read` is told: the kind k, the length n and its tests.
+use mathlib.Core.Path.{_≡_}
+use mathlib.Core.List.{List}
+use mathlib.Core.Bool.{true, false, _&&_}
+use Prim.Native.Nat.{ℕ}
+use lib.ListN.{length, getD}
+use lib.Dec.{eqb}
+use Rattle.words.specs.Word.{wordAt}
+use Rattle.messages.specs.Message.{parse, shaped}
+use Rattle.messages.specs.declared.Message.the-variants.{Bid, Permit, Release}
+use Rattle.messages.specs.declared.Parsed.the-variants.{Whole, Misshapen}
+
+module _ (s : List ℕ) {k a b : ℕ} where
+  pub bid-by : k ≡ getD s 0 0 → a ≡ getD s 1 0 → b ≡ getD s 2 0 → (eqb k 1 && eqb (length s) 3) ≡ true → Whole (Bid a b) ≡ parse s
+  unfolding parse
+  bid-by e f g t =
+      let h : shaped 1 2 s ≡ true = cc in
+      simp (h, f, g)
+
+  module _ (e : k ≡ getD s 0 0) (f : a ≡ getD s 1 0) (g : b ≡ getD s 2 0) (t : (eqb k 1 && eqb (length s) 3) ≡ false) where
+    pub permit-by : {x : ℕ} → (eqb k 2 && eqb (length s) 11) ≡ true → x ≡ wordAt s 3 → Whole (Permit a b x) ≡ parse s
+    unfolding parse
+    permit-by u w =
+        let h : shaped 1 2 s ≡ false = cc in
+        let i : shaped 2 10 s ≡ true = cc in
+        simp (h, i, f, g, w)
+
+    module _ (u : (eqb k 2 && eqb (length s) 11) ≡ false) where
+      pub release-by : {x : ℕ} → (eqb k 3 && eqb (length s) 4) ≡ true → x ≡ getD s 3 0 → Whole (Release a b x) ≡ parse s
+      unfolding parse
+      release-by v w =
+          let h : shaped 1 2 s ≡ false = cc in
+          let i : shaped 2 10 s ≡ false = cc in
+          let j : shaped 3 3 s ≡ true = cc in
+          simp (h, i, j, f, g, w)
+
+      pub misshapen-by : (eqb k 3 && eqb (length s) 4) ≡ false → Misshapen ≡ parse s
+      unfolding parse
+      misshapen-by v =
+          let h : shaped 1 2 s ≡ false = cc in
+          let i : shaped 2 10 s ≡ false = cc in
+          let j : shaped 3 3 s ≡ false = cc in
+          simp (h, i, j)
