@@ -1,4 +1,10 @@
-// The states and answers of the distributed controller: specs/Module.antt and specs/Supervisor.antt.
+// The states and answers of the distributed controller: specs/Module.antt and specs/Supervisor.antt. What a message names:
+// specs/Names.antt.
+ghost use mathlib.Core.Path.{_≡_};
+ghost use Rattle.reader.specs.Walk.{recordsOf};
+ghost use Rattle.plan.specs.Plan.{neighbour};
+ghost use Rattle.permits.specs.Names.{neighbours?, eventNamed, named};
+use messages::Message;
 use modules::Called;
 use modules::Own;
 use modules::Turn;
@@ -60,4 +66,55 @@ pub struct SupervisorStepped {
 pub struct SupervisorCalled {
     pub answer: Called,
     pub state: Supervisor,
+}
+
+// Whether a supervisor's alphabet has an event of a module.
+fn is_neighbour(image: &[u8], m: u8, v: u8) -> bool
+    ensures { λ r. ⌜ r ≡ neighbour (recordsOf (now (image .entry))) m v ⌝ }
+{
+    let n = plan::events_of(image);
+    let alphabet = plan::alphabet_of(image, v);
+    let mut e: u8 = 0;
+    while e < n {
+        if plan::own_event(image, m, e) & bits::has(alphabet, e) {
+            return true;
+        }
+        e += 1;
+    }
+    false
+}
+
+// Whether a module and a supervisor are the plan's, and neighbours.
+pub fn are_neighbours(image: &[u8], m: u8, v: u8) -> bool
+    ensures { λ r. ⌜ r ≡ neighbours? (recordsOf (now (image .entry))) m v ⌝ }
+{
+    (m < plan::modules_of(image)) & (v < plan::supervisors_of(image)) & is_neighbour(image, m, v)
+}
+
+fn event_named(image: &[u8], m: u8, v: u8, e: u8) -> bool
+    ensures { λ r. ⌜ r ≡ eventNamed (recordsOf (now (image .entry))) m v e ⌝ }
+{
+    plan::own_event(image, m, e) & plan::in_alphabet(image, v, e)
+}
+
+// Whether what a message names is in the plan.
+pub fn named(image: &[u8], g: Message) -> bool
+    ensures { λ r. ⌜ r ≡ named (recordsOf (now (image .entry))) g ⌝ }
+{
+    match g {
+        Message::Bid { owner, supervisor } => are_neighbours(image, owner, supervisor),
+        Message::Permit {
+            supervisor,
+            owner,
+            mask: _,
+        } => are_neighbours(image, owner, supervisor),
+        Message::Release {
+            owner,
+            supervisor,
+            event,
+        } => {
+            are_neighbours(image, owner, supervisor)
+                & ((event == 255) | event_named(image, owner, supervisor, event))
+        }
+    }
 }
