@@ -1,0 +1,131 @@
+-- A message delivered, from what the code is told.
+use mathlib.Core.Path.{_≡_, refl, sym, ap, _∙_}
+use mathlib.Core.List.{List}
+use mathlib.Core.Bool.{Bool, true, false, cond, not, _&&_, _||_}
+use Prim.Native.Nat.{ℕ, _≤_, _<_}
+use native.Mathlib.Omega.{arith}
+use lib.Dec.{T, eqb, ltb}
+use lib.Ieee.Fits.{and-l, and-r}
+use borrow.Author.Tests.{ltb-true, eq-eqb, ne-eqb, eqb-true}
+use denote.Floats.{passes as holds, is-true}
+use Rattle.bits.specs.Bit.{bit}
+use Rattle.records.specs.declared.Record.{Record}
+use Rattle.reader.specs.Walk.{recordsOf}
+use Rattle.rules.specs.LookUp.{modulesOf, supervisorsOf, eventsOf, ownerOf}
+use Rattle.rules.specs.Check.{verdictOf, IsPlan}
+use Rattle.rules.specs.declared.Verdict.{Verdict}
+use Rattle.rules.specs.declared.Verdict.the-variants.{Accepted, Refused}
+use Rattle.accepted.proofs.Accepted.{every-plan}
+use Rattle.plan.specs.Plan.{inAlphabet, neighbour, supervisorAfter}
+use Rattle.modules.specs.declared.Called.the-variants.{Done}
+use Rattle.messages.specs.Message.{noEvent, parse}
+use Rattle.messages.specs.declared.Message.{Message}
+use Rattle.messages.specs.declared.Message.the-variants.{Bid, Permit, Release}
+use Rattle.messages.specs.declared.Parsed.{Parsed}
+use Rattle.messages.specs.declared.Parsed.the-variants.{Whole, Misshapen}
+use Rattle.permits.specs.Names.{neighbours?, eventNamed, named}
+use Rattle.permits.specs.Supervisor.{supervisorFits, callRefused, afterNote, applied, afterRelease, heldBy, takenBy, deliverIn, absent, deliverBy, supervisorDeliver}
+use Rattle.permits.specs.declared.Supervisor.{Supervisor}
+use Rattle.permits.specs.declared.SupervisorCalled.{SupervisorCalled}
+use Rattle.permits.specs.declared.Holder.{Holder}
+use Rattle.supervisor_calls.proofs.Planned.{plan-by, present, lacking}
+
+-- ---- what the names of a message promise
+
+-- a module that bids is one of 16
+pub bidder-small : (image : List ℕ) (g : Message) {m w : ℕ} → IsPlan image → named (recordsOf image) g ≡ true → g ≡ Bid m w → m < 16
+unfolding named
+bidder-small image g {m} {w} p n e =
+    let rs : List Record = recordsOf image in
+    let t : T (ltb m (modulesOf rs) && ltb w (supervisorsOf rs) && neighbour rs m w) = holds _ (ap (named rs) (sym e) ∙ n) in
+    let l : m < modulesOf rs = ltb-true m (modulesOf rs) (is-true _ (and-l (ltb m (modulesOf rs)) (ltb w (supervisorsOf rs)) (and-l (ltb m (modulesOf rs) && ltb w (supervisorsOf rs)) (neighbour rs m w) t))) in
+    omega (arith, every-plan image p .sound .modules .1)
+
+-- the event of a release is none or in the alphabet of the supervisor that it names
+pub released-event : (rs : List Record) (g : Message) {m w e : ℕ} → named rs g ≡ true → g ≡ Release m w e → (eqb e noEvent || inAlphabet rs w e) ≡ true
+unfolding named
+released-event rs g {m} {w} {e} n f = go (eqb e noEvent) (and-r (neighbours? rs m w) (eqb e noEvent || eventNamed rs m w e) (holds _ (ap (named rs) (sym f) ∙ n)))
+  where
+    go : (b : Bool) → T (b || eventNamed rs m w e) → (b || inAlphabet rs w e) ≡ true
+    go true t = is-true _ t
+    go false t = is-true _ (and-r (ltb e (eventsOf rs)) (inAlphabet rs w e) (and-l (ltb e (eventsOf rs) && inAlphabet rs w e) (eqb (ownerOf rs e) m) t))
+
+-- ---- a release's event applied
+
+module _ (rs : List Record) (v st e : ℕ) where
+  pub applied-none : e ≡ 255 → st ≡ applied rs v st e
+  unfolding applied
+  applied-none h = simp (eq-eqb e 255 h)
+
+  pub applied-moves : {s : ℕ} → (e ≡ 255 → ⊥) → (eqb e noEvent || inAlphabet rs v e) ≡ true → s ≡ supervisorAfter rs v st e → s ≡ applied rs v st e
+  unfolding applied supervisorAfter
+  applied-moves h q f =
+      let n : eqb e 255 ≡ false = ne-eqb e 255 h in
+      let a : inAlphabet rs v e ≡ true = sym (ap (λ (b : Bool). b || inAlphabet rs v e) n) ∙ q in
+      f ∙ simp (n, a)
+
+pub held-arm : (h : Holder) (m : ℕ) {x : Holder} {t : Bool} → h ≡ x → t ≡ heldBy x m → t ≡ heldBy h m
+held-arm h m e f = f ∙ ap (λ (z : Holder). heldBy z m) (sym e)
+
+-- ---- a message whose names are the plan's
+
+abbrev due : Bool → Supervisor → Supervisor → SupervisorCalled
+due t after y = cond t (record { answer = Done; state = after }) (callRefused y 12 0)
+
+module _ (rs : List Record) (v : ℕ) (y : Supervisor) (g : Message) {r : SupervisorCalled} {s : Supervisor} {b : Bool} where
+  pub bid-by : {m w : ℕ} → g ≡ Bid m w → s ≡ afterNote y m → b ≡ bit (y .noted) m → r ≡ due (eqb w v && not b) s y → r ≡ takenBy rs v y g
+  unfolding takenBy
+  bid-by e f h k = k ∙ rw (e, f, h)
+
+  pub release-by : {m w e : ℕ} → g ≡ Release m w e → s ≡ afterRelease rs w y e → b ≡ heldBy (y .holder) m → r ≡ due (eqb w v && b) s y → r ≡ takenBy rs v y g
+  unfolding takenBy
+  release-by {m} {w} {e} i f h k = k ∙ rw (i, f, h) (go (eqb w v) refl)
+    where
+      -- the supervisor that it names is this one where it is taken
+      go : (t : Bool) → eqb w v ≡ t → due (t && heldBy (y .holder) m) (afterRelease rs w y e) y ≡ due (t && heldBy (y .holder) m) (afterRelease rs v y e) y
+      go true q = ap (λ (x : ℕ). due (heldBy (y .holder) m) (afterRelease rs x y e) y) (eqb-true w v q)
+      go false q = refl
+
+pub permit-by : (rs : List Record) (v : ℕ) (y : Supervisor) (g : Message) {r : SupervisorCalled} {w m k : ℕ} → g ≡ Permit w m k → r ≡ callRefused y 12 0 → r ≡ takenBy rs v y g
+unfolding takenBy
+permit-by rs v y g e k = k ∙ rw e
+
+-- ---- what the bytes are
+
+module _ (rs : List Record) (v : ℕ) (y : Supervisor) (p : Parsed) {r : SupervisorCalled} where
+  pub misshapen-by : p ≡ Misshapen → r ≡ callRefused y 10 0 → r ≡ deliverIn rs v y p
+  unfolding deliverIn
+  misshapen-by e k = k ∙ rw e
+
+  module _ {g : Message} {t : Bool} (e : p ≡ Whole g) (f : t ≡ named rs g) where
+    pub named-by : t ≡ true → r ≡ takenBy rs v y g → r ≡ deliverIn rs v y p
+    unfolding deliverIn
+    named-by q k = k ∙ rw e (simp (sym f ∙ q))
+
+    pub unnamed-by : t ≡ false → r ≡ callRefused y 11 0 → r ≡ deliverIn rs v y p
+    unfolding deliverIn
+    unnamed-by q k = k ∙ rw e (simp (sym f ∙ q))
+
+pub absent-arm : (y : Supervisor) (p : Parsed) {x : Parsed} {r : SupervisorCalled} → p ≡ x → r ≡ absent y x → r ≡ absent y p
+absent-arm y p e k = k ∙ ap (absent y) (sym e)
+
+-- ---- the whole call
+
+module _ (image : List ℕ) (v : ℕ) (y : Supervisor) (bytes : List ℕ) {d : Verdict} {r : SupervisorCalled} (e : d ≡ verdictOf image) where
+  pub deliver-refused : {n o : ℕ} → d ≡ Refused n o → r ≡ callRefused y n o → r ≡ supervisorDeliver image v y bytes
+  unfolding deliverBy
+  deliver-refused f h = h ∙ simp (sym e ∙ f)
+
+  module _ {k : ℕ} {p : Parsed} (f : d ≡ Accepted) (c : k ≡ supervisorsOf (recordsOf image)) (i : p ≡ parse bytes) where
+    pub deliver-absent : k ≤ v → r ≡ absent y p → r ≡ supervisorDeliver image v y bytes
+    unfolding deliverBy
+    deliver-absent l h = h ∙ simp (plan-by image e f, lacking (recordsOf image) v c l, i)
+
+    module _ {t : Bool} (l : v < k) (g : t ≡ supervisorFits (recordsOf image) v y) where
+      pub deliver-unfit : t ≡ false → r ≡ callRefused y 9 0 → r ≡ supervisorDeliver image v y bytes
+      unfolding deliverBy
+      deliver-unfit q h = h ∙ simp (plan-by image e f, present (recordsOf image) v c l, sym g ∙ q)
+
+      pub deliver-fit : t ≡ true → r ≡ deliverIn (recordsOf image) v y p → r ≡ supervisorDeliver image v y bytes
+      unfolding deliverBy
+      deliver-fit q h = h ∙ simp (plan-by image e f, present (recordsOf image) v c l, sym g ∙ q, i)

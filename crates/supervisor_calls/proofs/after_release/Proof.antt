@@ -1,0 +1,12 @@
+use borrow.Author.Needs.{needs}
+use Rattle.supervisor_calls.proofs.after_release.Statement.{statement}
+use Rattle.supervisor_calls.proofs.after_release.Tie as tie
+
+apply-requires : tie.Need-apply-requires
+apply-requires c κs = search needs
+
+returns : tie.Need-returns
+returns c = cc
+
+pub after-release-spec : {M : Type 1} → statement M
+after-release-spec = tie.close (tie.spec apply-requires returns)

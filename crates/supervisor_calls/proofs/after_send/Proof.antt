@@ -1,0 +1,12 @@
+use borrow.Author.Needs.{needs}
+use Rattle.supervisor_calls.proofs.after_send.Statement.{statement}
+use Rattle.supervisor_calls.proofs.after_send.Tie as tie
+
+put-note-requires : tie.Need-put-note-requires
+put-note-requires c κs = search needs
+
+returns : tie.Need-returns
+returns c = cc
+
+pub after-send-spec : {M : Type 1} → statement M
+after-send-spec = tie.close (tie.spec put-note-requires returns)
