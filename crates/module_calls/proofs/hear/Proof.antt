@@ -1,0 +1,45 @@
+use Rattle.module_calls.proofs.Calls.{hear-misshapen, hear-named, hear-unnamed}
+use borrow.Author.Needs.{needs}
+use Rattle.module_calls.proofs.hear.Statement.{statement}
+use Rattle.module_calls.proofs.hear.Tie as tie
+
+enum-known-p : tie.Need-enum-known-p
+enum-known-p c = search needs
+
+enum-told : tie.Need-enum-told
+enum-told c = search needs
+
+refused-requires : tie.Need-refused-requires
+refused-requires c κs = search needs
+
+returns : tie.Need-returns
+returns c = search hear-misshapen
+
+named-requires : tie.Need-named-requires
+named-requires c κs = search needs
+
+take-requires : tie.Need-take-requires
+take-requires c κs = search needs
+
+refused-requires-2 : tie.Need-refused-requires-2
+refused-requires-2 c κs = search needs
+
+returns-2 : tie.Need-returns-2
+returns-2 c = search hear-named
+
+returns-3 : tie.Need-returns-3
+returns-3 c = search hear-unnamed
+
+pub hear-spec : {M : Type 1} → statement M
+hear-spec =
+    tie.close
+    (tie.spec
+    enum-known-p
+    enum-told
+    refused-requires
+    returns
+    named-requires
+    take-requires
+    refused-requires-2
+    returns-2
+    returns-3)

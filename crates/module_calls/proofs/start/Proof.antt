@@ -1,0 +1,69 @@
+use Rattle.module_calls.proofs.Calls.{start-done, start-absent, start-refused}
+use borrow.Author.Needs.{needs}
+use Rattle.module_calls.proofs.start.Statement.{statement}
+use Rattle.module_calls.proofs.start.Tie as tie
+
+check-requires : tie.Need-check-requires
+check-requires c κs = search needs
+
+enum-told : tie.Need-enum-told
+enum-told c = search needs
+
+modules-of-requires : tie.Need-modules-of-requires
+modules-of-requires c κs = search needs
+
+started-requires : tie.Need-started-requires
+started-requires c κs = search needs
+
+unbidden-requires : tie.Need-unbidden-requires
+unbidden-requires c κs = search needs
+
+empty-requires : tie.Need-empty-requires
+empty-requires c κs = search needs
+
+unbidden-requires-2 : tie.Need-unbidden-requires-2
+unbidden-requires-2 c κs = search needs
+
+refused-requires : tie.Need-refused-requires
+refused-requires c κs = search needs
+
+enum-known-n : tie.Need-enum-known-n
+enum-known-n c = search needs
+
+empty-requires-2 : tie.Need-empty-requires-2
+empty-requires-2 c κs = search needs
+
+unbidden-requires-3 : tie.Need-unbidden-requires-3
+unbidden-requires-3 c κs = search needs
+
+refused-requires-2 : tie.Need-refused-requires-2
+refused-requires-2 c κs = search needs
+
+returns : tie.Need-returns
+returns c = search start-done
+
+returns-2 : tie.Need-returns-2
+returns-2 c = search start-absent
+
+returns-3 : tie.Need-returns-3
+returns-3 c = search start-refused
+
+pub start-spec : {M : Type 1} → statement M
+start-spec =
+    tie.close
+    (tie.spec
+    check-requires
+    enum-told
+    modules-of-requires
+    started-requires
+    unbidden-requires
+    empty-requires
+    unbidden-requires-2
+    refused-requires
+    enum-known-n
+    empty-requires-2
+    unbidden-requires-3
+    refused-requires-2
+    returns
+    returns-2
+    returns-3)
