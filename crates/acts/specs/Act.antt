@@ -18,7 +18,7 @@ use Rattle.acts.specs.declared.Act.the-variants.{Module, Supervisor, Del
 use Rattle.acts.specs.declared.Reading.{Reading}
 use Rattle.acts.specs.declared.Reading.the-variants.{Eighths, NoSensor, Misshapen as NoReading}
 
--- "over 65,535 for a reading"
+-- a reading of up to 65,535 eighths
 unfoldable pub readingBy : Maybe → Reading
 readingBy (Just n) = cond (leb n 65535) (Eighths n) NoReading
 readingBy Nothing = NoReading

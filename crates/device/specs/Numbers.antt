@@ -13,7 +13,7 @@ abbrev pub turningOffset : Turning → ℕ
 turningOffset (Turned t) = 0
 turningOffset (Refused n o) = o
 
--- "turn M event E", "turn M stray E" and "turn M none": the event that fired, and the one that was stray
+-- "turn 1 event 2", "`turn M stray E`" and "turn 0 none": the event that fired, and the one that was stray
 abbrev pub turningEvent : Turning → Option ℕ
 turningEvent (Turned (Event e)) = some e
 turningEvent (Turned (Stray e)) = none

@@ -1,5 +1,5 @@
--- Look-ups on the records of a plan. 004, 2.1: an automaton has states, an alphabet and a partial move by an event; 4.2: modules and
--- supervisors; document 01 gives the bytes.
+-- Look-ups on the records of a plan. 004, 2.1: an automaton has states, an alphabet and a partial move by an event; chapter 2:
+-- supervisors; 4.2: modules and disablings; document 01 gives the bytes.
 use Prim.Native.Nat.{ℕ}
 use mathlib.Core.List.{List}
 use mathlib.Core.Option.{Option, none, some}

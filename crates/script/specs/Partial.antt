@@ -1,4 +1,5 @@
--- A line of any length that comes byte by byte. A good line has at most 11 bytes (`r 255 255` in a listing, `k 255 65535` in a simulation), so a twelfth tells that it is misshapen.
+-- A line of any length that comes byte by byte. A good line has at most 9 bytes in a listing (`r 255 255`) and 11 in a simulation
+-- (`k 255 65535`), so a twelfth tells that it is misshapen.
 use Prim.Native.Nat.{ℕ, _+_}
 use mathlib.Core.Path.{_≡_}
 use mathlib.Core.List.{List, [], _∷_}

@@ -1,4 +1,4 @@
-// The script and the answers of the listing program: lines taken byte by byte, and lines of output as values.
+// The lines of the listing and the simulation: script lines taken byte by byte, and lines of output as values.
 ghost use mathlib.Core.Path.{_≡_};
 ghost use mathlib.Core.List.{[], _++_};
 ghost use Prim.Native.Nat.{_+_, _*_, _%_, _≤_, _<_};
