@@ -3,29 +3,32 @@
 -- eighths of a litre, `k M -` a tick where no sensor is fitted. Any other line is misshapen, as are numbers over 255, a reading's over 65,535.
 use Prim.Native.Nat.{ℕ, _+_}
 use Prim.Native.Char.{code}
-use mathlib.Core.List.{List, [], _∷_}
-use mathlib.Core.Bool.{Bool, cond, _&&_}
+use mathlib.Core.List.{List}
+use mathlib.Core.Bool.{cond, _&&_}
 use lib.ListN.{length, getD, take, drop}
-use lib.Dec.{eqb, leb, ltb}
+use lib.Dec.{eqb}
 use Rattle.bits.specs.declared.Maybe.{Maybe}
 use Rattle.bits.specs.declared.Maybe.the-variants.{Just, Nothing}
+use Rattle.lines.specs.declared.Number.{Number}
+use Rattle.lines.specs.declared.Number.the-variants.{Value, Misshapen as NoNumber}
+use Rattle.lines.specs.declared.Partial.{Partial}
+use Rattle.lines.specs.Number.{numberUpTo, numberOf, spaceIn, starts}
+use Rattle.lines.specs.Partial.{partly, TakenWhole}
 use Rattle.script.specs.declared.Line.{Line}
 use Rattle.script.specs.declared.Line.the-variants.{Turn, Response as PairOf, Misshapen as NoPair}
-use Rattle.script.specs.declared.Partial.{Partial}
-use Rattle.script.specs.Line.{numberFrom, begins, numberOf, spaceIn, pairOf, starts}
+use Rattle.script.specs.Line.{pairOf}
 use Rattle.acts.specs.declared.Act.{Act}
 use Rattle.acts.specs.declared.Act.the-variants.{Module, Supervisor, Delivery, Response, Tick, Unfitted, Misshapen}
 use Rattle.acts.specs.declared.Reading.{Reading}
 use Rattle.acts.specs.declared.Reading.the-variants.{Eighths, NoSensor, Misshapen as NoReading}
 
--- a reading of up to 65,535 eighths
-unfoldable pub readingBy : Maybe → Reading
-readingBy (Just n) = cond (leb n 65535) (Eighths n) NoReading
-readingBy Nothing = NoReading
+abbrev pub readingBy : Number → Reading
+readingBy (Value n) = Eighths n
+readingBy NoNumber = NoReading
 
--- `N` or `-`
+-- `N`, up to 65,535 eighths, or `-`
 unfoldable pub readingOf : List ℕ → Reading
-readingOf bs = cond (eqb (length bs) 1 && eqb (getD bs 0 0) (code "-")) NoSensor (cond (begins bs) (readingBy (numberFrom 0 bs)) NoReading)
+readingOf bs = cond (eqb (length bs) 1 && eqb (getD bs 0 0) (code "-")) NoSensor (readingBy (numberUpTo 65535 bs))
 
 abbrev pub moduleBy : Maybe → Act
 moduleBy (Just m) = Module m
@@ -64,6 +67,10 @@ actOf bs =
     (cond (starts (code "r") bs) (responseBy (pairOf (drop 2 bs)))
     (cond (starts (code "k") bs) (tickOf (drop 2 bs)) Misshapen))))
 
--- the line so far, as if it ended here; a good line has at most 11 bytes
-unfoldable pub parsedAct : Partial → Act
-parsedAct p = cond (ltb (p .length) 12) (actOf (take (p .length) (p .bytes))) Misshapen
+-- the line so far, as if it ended here
+abbrev pub parsedAct : Partial → Act
+parsedAct p = partly actOf Misshapen p
+
+-- whatever the bytes of a line are, taking them one after the other and then parsing gives the line
+abbrev pub ActTaken : Type 0
+ActTaken = TakenWhole actOf Misshapen

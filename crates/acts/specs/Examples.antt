@@ -1,9 +1,10 @@
 -- Lines of the simulation, each by computation.
 use mathlib.Core.Path.{_≡_, refl}
+use Rattle.lines.specs.Number.{numberFrom, begins, upTo, numberUpTo, numberOf, spaceIn}
 use Rattle.script.specs.Ascii.{ascii}
-use Rattle.script.specs.Line.{numberFrom, begins, upTo255, numberOf, spaceIn, pairOf}
+use Rattle.script.specs.Line.{pairOf}
 use Rattle.acts.specs.declared.Act.the-variants.{Module, Supervisor, Delivery, Response, Tick, Unfitted, Misshapen}
-use Rattle.acts.specs.Act.{readingBy, readingOf, tickOf, actOf}
+use Rattle.acts.specs.Act.{readingOf, tickOf, actOf}
 
 pub record Scripts : Type 0 where
   pub module-step : actOf (ascii "m 0") ≡ Module 0
@@ -29,11 +30,11 @@ pub record Misshaped : Type 0 where
   pub one-too-many : actOf (ascii "k 0 8 8") ≡ Misshapen
 
 pub scripts : Scripts
-unfolding ascii numberFrom begins upTo255 numberOf spaceIn pairOf readingBy readingOf tickOf actOf
+unfolding ascii numberFrom begins upTo numberUpTo numberOf spaceIn pairOf readingOf tickOf actOf
 scripts = record { module-step = refl; supervisor-step = refl; delivery = refl; response = refl; tick = refl; unfitted = refl; longest = refl }
 
 pub misshaped : Misshaped
-unfolding ascii numberFrom begins upTo255 numberOf spaceIn pairOf readingBy readingOf tickOf actOf
+unfolding ascii numberFrom begins upTo numberUpTo numberOf spaceIn pairOf readingOf tickOf actOf
 misshaped =
     record {
       none = refl;

@@ -1,10 +1,10 @@
 // The script of the simulation: what a line asks.
 ghost use mathlib.Core.Path.{_≡_};
-ghost use Rattle.script.specs.Line.{numberFrom};
 ghost use Rattle.acts.specs.Act.{readingBy, readingOf, moduleBy, supervisorBy, deliveryBy, responseBy, tickBy, tickOf, actOf, parsedAct};
 use bits::Maybe;
+use lines::Number;
+use lines::Partial;
 use script::Line;
-use script::Partial;
 
 // What a line of the script asks: a step of a module or a supervisor, a delivery, a response, a tick with a reading in eighths of a litre, or
 // one where no sensor is fitted.
@@ -25,46 +25,25 @@ enum Reading {
     Misshapen,
 }
 
-// The number up to 65,535 that digits make.
-fn digits_of(s: &[u8]) -> Reading
-    ensures { λ r. ⌜ r ≡ readingBy (numberFrom 0 (now (s .entry))) ⌝ }
+fn reading_by(n: Number) -> Reading
+    ensures { λ r. ⌜ r ≡ readingBy n ⌝ }
 {
-    let mut n: usize = 0;
-    let mut i: usize = 0;
-    while i < s.len() {
-        let b = s[i];
-        if b < b'0' {
-            return Reading::Misshapen;
-        }
-        if b'9' < b {
-            return Reading::Misshapen;
-        }
-        n = n * 10 + words::wide(b - b'0');
-        if 65535 < n {
-            return Reading::Misshapen;
-        }
-        i += 1;
+    match n {
+        Number::Value(e) => Reading::Eighths(e),
+        Number::Misshapen => Reading::Misshapen,
     }
-    Reading::Eighths(n as u16)
 }
 
-// A reading: the sign that no sensor is fitted, or a number without leading zeros.
+// A reading: the sign that no sensor is fitted, or a number up to 65,535 without leading zeros.
 fn reading_of(s: &[u8]) -> Reading
     ensures { λ r. ⌜ r ≡ readingOf (now (s .entry)) ⌝ }
 {
-    if s.len() == 0 {
-        return Reading::Misshapen;
-    }
-    if s.len() == 1 {
-        if s[0] == b'-' {
-            return Reading::NoSensor;
-        }
-        return digits_of(s);
-    }
-    if s[0] == b'0' {
-        Reading::Misshapen
+    let alone = s.len() == 1;
+    let sign = words::byte_at(s, 0) == b'-';
+    if alone & sign {
+        Reading::NoSensor
     } else {
-        digits_of(s)
+        reading_by(lines::number_up_to(s, 65535))
     }
 }
 
@@ -122,10 +101,10 @@ fn tick_by(m: Maybe, n: Reading) -> Act
 fn tick_of(s: &[u8]) -> Act
     ensures { λ r. ⌜ r ≡ tickOf (now (s .entry)) ⌝ }
 {
-    let k = script::space_in(s);
+    let k = lines::space_in(s);
     if k < s.len() {
         let j = k + 1;
-        let m = script::number_of(&s[..k]);
+        let m = lines::number_of(&s[..k]);
         let n = reading_of(&s[j..]);
         tick_by(m, n)
     } else {
@@ -142,9 +121,9 @@ fn act_of(s: &[u8]) -> Act
     if s[1] == b' ' {
         let rest = &s[2..];
         match s[0] {
-            b'm' => module_by(script::number_of(rest)),
-            b's' => supervisor_by(script::number_of(rest)),
-            b'd' => delivery_by(script::number_of(rest)),
+            b'm' => module_by(lines::number_of(rest)),
+            b's' => supervisor_by(lines::number_of(rest)),
+            b'd' => delivery_by(lines::number_of(rest)),
             b'r' => response_by(script::pair_of(rest)),
             b'k' => tick_of(rest),
             _ => Act::Misshapen,

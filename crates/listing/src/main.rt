@@ -1,9 +1,9 @@
 // The listing program: plays the script of standard input on the plan of `plan.bin` and prints what each line got. Lines come byte by
 // byte, so that script and lines may be of any length.
 use device::Device;
+use lines::Partial;
 use modules::Called;
 use script::Line;
-use script::Partial;
 use script::Text;
 
 // One byte more than a plan may have, so that a longer file is seen to be one.
@@ -53,9 +53,9 @@ fn play(image: &[u8], c: Course, s: &[u8]) -> Course {
     while i < s.len() {
         if s[i] == b'\n' {
             d = answer(image, d, script::parsed(line));
-            line = script::begun();
+            line = lines::begun();
         } else {
-            line = script::with_byte(line, s[i]);
+            line = lines::with_byte(line, s[i]);
         }
         i += 1;
     }
@@ -66,7 +66,7 @@ fn play(image: &[u8], c: Course, s: &[u8]) -> Course {
 fn end(image: &[u8], c: Course) -> Device {
     let d = c.device;
     let line = c.line;
-    if script::has_byte(line) {
+    if lines::has_byte(line) {
         answer(image, d, script::parsed(line))
     } else {
         d
@@ -100,7 +100,7 @@ fn hear(image: &[u8], c: Course) -> Heard {
 fn listen(image: &[u8], d: Device) -> Device {
     let mut c = Course {
         device: d,
-        line: script::begun(),
+        line: lines::begun(),
     };
     let mut turns = u64::MAX;
     while turns > 0 {

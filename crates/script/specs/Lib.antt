@@ -1,6 +1,5 @@
 pub mod Ascii
 pub mod Line
-pub mod Partial
 pub mod Text
 pub mod Answers
 pub mod Said

@@ -4,9 +4,10 @@ use Rattle.modules.specs.declared.Called.the-variants.{Done, Refused as CallRef
 use Rattle.modules.specs.declared.Turn.the-variants.{Event, Stray, Nothing}
 use Rattle.device.specs.declared.Turning.the-variants.{Turned, Refused as TurnRefused}
 use Rattle.device.specs.Device.{emptyDevice}
+use Rattle.lines.specs.Number.{numberFrom, begins, upTo, numberUpTo, numberOf, spaceIn}
 use Rattle.script.specs.declared.Line.the-variants.{Turn, Response, Misshapen}
 use Rattle.script.specs.Ascii.{ascii, digits}
-use Rattle.script.specs.Line.{numberFrom, begins, upTo255, numberOf, spaceIn, pairOf, lineOf}
+use Rattle.script.specs.Line.{pairOf, lineOf}
 use Rattle.script.specs.Answers.{spacedAll, headerLine, planRefusedLine, refusedLine, turnLine, responseLine, statesLine}
 
 -- the sheet's script, and numbers up to 255
@@ -50,11 +51,11 @@ pub record Answers : Type 0 where
   pub farthest : planRefusedLine 255 18446744073709551615 ≡ ascii "plan refused 255 at 18446744073709551615\n"
 
 pub scripts : Scripts
-unfolding ascii numberFrom begins upTo255 numberOf spaceIn pairOf lineOf
+unfolding ascii numberFrom begins upTo numberUpTo numberOf spaceIn pairOf lineOf
 scripts = record { turn = refl; response = refl; largest = refl; longest = refl }
 
 pub misshaped : Misshaped
-unfolding ascii numberFrom begins upTo255 numberOf spaceIn pairOf lineOf
+unfolding ascii numberFrom begins upTo numberUpTo numberOf spaceIn pairOf lineOf
 misshaped =
     record {
       none = refl;

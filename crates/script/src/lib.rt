@@ -1,17 +1,17 @@
-// The lines of the listing and the simulation: script lines taken byte by byte, and lines of output as values.
+// The lines of the listing and the simulation: what a line of the listing's script is, and lines of output as values.
 ghost use mathlib.Core.Path.{_≡_};
 ghost use mathlib.Core.List.{[], _++_};
 ghost use Prim.Native.Nat.{_+_, _*_, _%_, _≤_, _<_};
 ghost use lib.ListN.{length, take};
 ghost use Rattle.script.specs.Ascii.{ascii, decimal};
-ghost use Rattle.script.specs.Line.{numberFrom, upTo255, numberOf, spaceIn, turnBy, responseBy, pairOf, lineOf};
-ghost use Rattle.script.specs.Partial.{begun, withByte, hasByte, parsedOf};
+ghost use Rattle.script.specs.Line.{turnBy, responseBy, pairOf, lineOf, parsedOf};
 ghost use Rattle.script.specs.Text.{textOf, pushed, appended, cut};
 ghost use Rattle.script.specs.Answers.{spaced, spacedAll, statesOf, headerLine, planRefusedLine, refusedLine, turnLine, responseLine, statesLine};
 ghost use Rattle.script.specs.Said.{hexDigit, hexes, sentLine, deliveredLine, steppedLine, servedLine, tickLine};
 use bits::Maybe;
 use device::Device;
 use device::Turning;
+use lines::Partial;
 use modules::Called;
 use modules::Own;
 use modules::Turn;
@@ -25,102 +25,10 @@ pub enum Line {
     Misshapen,
 }
 
-// The first twelve bytes of a line that is still coming, and how many of them there are.
-pub struct Partial {
-    pub bytes: [u8; 12],
-    pub length: usize,
-}
-
 // A line of output: its bytes, zeros after them, and how many they are.
 pub struct Text {
     pub bytes: [u8; 208],
     pub length: usize,
-}
-
-// A line before its first byte.
-pub fn begun() -> Partial
-    ensures { λ r. ⌜ r ≡ begun ⌝ }
-{
-    Partial {
-        bytes: [0; 12],
-        length: 0,
-    }
-}
-
-// The line with one byte more.
-pub fn with_byte(p: Partial, b: u8) -> Partial
-    ensures { λ r. ⌜ r ≡ withByte p b ⌝ }
-{
-    let at = p.length;
-    if at < 12 {
-        let mut longer = p;
-        longer.bytes[at] = b;
-        longer.length = at + 1;
-        longer
-    } else {
-        p
-    }
-}
-
-// Whether the line has a byte.
-pub fn has_byte(p: Partial) -> bool
-    ensures { λ r. ⌜ r ≡ hasByte p ⌝ }
-{
-    0 < p.length
-}
-
-// The number up to 255 that digits make.
-fn digits_of(s: &[u8]) -> Maybe
-    ensures { λ r. ⌜ r ≡ upTo255 (numberFrom 0 (now (s .entry))) ⌝ }
-{
-    let mut n: usize = 0;
-    let mut i: usize = 0;
-    while i < s.len() {
-        let b = s[i];
-        if b < b'0' {
-            return Maybe::Nothing;
-        }
-        if b'9' < b {
-            return Maybe::Nothing;
-        }
-        n = n * 10 + words::wide(b - b'0');
-        if 255 < n {
-            return Maybe::Nothing;
-        }
-        i += 1;
-    }
-    Maybe::Just(n as u8)
-}
-
-// The number up to 255 that bytes are, without leading zeros.
-pub fn number_of(s: &[u8]) -> Maybe
-    ensures { λ r. ⌜ r ≡ numberOf (now (s .entry)) ⌝ }
-{
-    if s.len() == 0 {
-        return Maybe::Nothing;
-    }
-    if s.len() == 1 {
-        return digits_of(s);
-    }
-    if s[0] == b'0' {
-        Maybe::Nothing
-    } else {
-        digits_of(s)
-    }
-}
-
-// The place of the first space, or the length.
-pub fn space_in(s: &[u8]) -> usize
-    ensures { λ r. ⌜ r ≡ spaceIn (now (s .entry)) ⌝ }
-{
-    let mut i: usize = 0;
-    while i < s.len() {
-        if s[i] == b' ' {
-            return i;
-        }
-        i += 1;
-    }
-    i
 }
 
 fn turn_by(m: Maybe) -> Line
@@ -148,11 +56,11 @@ fn response_by(m: Maybe, e: Maybe) -> Line
 pub fn pair_of(s: &[u8]) -> Line
     ensures { λ r. ⌜ r ≡ pairOf (now (s .entry)) ⌝ }
 {
-    let k = space_in(s);
+    let k = lines::space_in(s);
     if k < s.len() {
         let j = k + 1;
-        let m = number_of(&s[..k]);
-        let e = number_of(&s[j..]);
+        let m = lines::number_of(&s[..k]);
+        let e = lines::number_of(&s[j..]);
         response_by(m, e)
     } else {
         Line::Misshapen
@@ -168,7 +76,7 @@ fn line_of(s: &[u8]) -> Line
     if s[1] == b' ' {
         let rest = &s[2..];
         match s[0] {
-            b't' => turn_by(number_of(rest)),
+            b't' => turn_by(lines::number_of(rest)),
             b'r' => pair_of(rest),
             _ => Line::Misshapen,
         }

@@ -3,6 +3,7 @@
 // tests/reference/many_devices.py says what the lines are, and prints the same.
 use acts::Act;
 use device::Device;
+use lines::Partial;
 use messages::Message;
 use messages::Parsed;
 use modules::Called;
@@ -13,7 +14,6 @@ use permits::Served;
 use permits::Stepped;
 use permits::Supervisor;
 use permits::SupervisorStepped;
-use script::Partial;
 use script::Text;
 use water::Flow;
 
@@ -455,9 +455,9 @@ fn take(image: &[u8], c: Course, s: &[u8]) -> Course {
     while i < s.len() {
         if s[i] == b'\n' {
             p = answer(image, p, acts::parsed(line));
-            line = script::begun();
+            line = lines::begun();
         } else {
-            line = script::with_byte(line, s[i]);
+            line = lines::with_byte(line, s[i]);
         }
         i += 1;
     }
@@ -468,7 +468,7 @@ fn take(image: &[u8], c: Course, s: &[u8]) -> Course {
 fn end(image: &[u8], c: Course) -> Play {
     let p = c.play;
     let line = c.line;
-    if script::has_byte(line) {
+    if lines::has_byte(line) {
         answer(image, p, acts::parsed(line))
     } else {
         p
@@ -502,7 +502,7 @@ fn hear(image: &[u8], c: Course) -> Heard {
 fn listen(image: &[u8], p: Play) -> Play {
     let mut c = Course {
         play: p,
-        line: script::begun(),
+        line: lines::begun(),
     };
     let mut turns = u64::MAX;
     while turns > 0 {

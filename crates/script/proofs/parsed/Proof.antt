@@ -1,6 +1,6 @@
 use borrow.Author.Needs.{needs}
 use borrow.Author.Tests.{lt-ltb, le-ltb}
-use Rattle.script.specs.Partial.{parsedOf}
+use Rattle.lines.specs.Partial.{partly}
 use Rattle.script.proofs.Parts.{part-within, part-count}
 use Rattle.script.proofs.parsed.Statement.{statement}
 use Rattle.script.proofs.parsed.Tie as tie
@@ -15,11 +15,11 @@ line-of-requires : tie.Need-line-of-requires
 line-of-requires c κs = search needs
 
 returns : tie.Need-returns
-unfolding parsedOf
+unfolding partly
 returns c = simp (lt-ltb _ _ (c .before .before .before .if1 .taken)) (c .line-of .ensures)
 
 returns-2 : tie.Need-returns-2
-unfolding parsedOf
+unfolding partly
 returns-2 c = simp (le-ltb _ _ (c .if1 .left))
 
 pub parsed-spec : {M : Type 1} → statement M

@@ -2,10 +2,10 @@ use mathlib.Core.Path.{_≡_}
 use Prim.Native.Nat.{_+_, _-_}
 use lib.ListN.{length, drop}
 use borrow.Author.Needs.{needs}
-use Rattle.script.specs.Line.{spaceIn}
-use Rattle.script.proofs.Lines.{space-first, space-here, space-again, space-done}
-use Rattle.script.proofs.space_in.Statement.{statement}
-use Rattle.script.proofs.space_in.Tie as tie
+use Rattle.lines.specs.Number.{spaceIn}
+use Rattle.lines.proofs.Spaces.{space-first, space-here, space-again, space-done}
+use Rattle.lines.proofs.space_in.Statement.{statement}
+use Rattle.lines.proofs.space_in.Tie as tie
 
 abbrev Inv-loop : tie.InvT-loop
 Inv-loop s i₀ i = i + spaceIn (drop i s) ≡ spaceIn s

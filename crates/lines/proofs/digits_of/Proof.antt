@@ -2,16 +2,16 @@ use mathlib.Core.Path.{_≡_, refl}
 use Prim.Native.Nat.{_≤_, _-_}
 use lib.ListN.{length, drop}
 use borrow.Author.Needs.{needs}
-use Rattle.script.specs.Line.{numberFrom, upTo255}
-use Rattle.script.proofs.Lines.{digits-low, digits-high, digits-over, digits-again, digits-done}
-use Rattle.script.proofs.digits_of.Statement.{statement}
-use Rattle.script.proofs.digits_of.Tie as tie
+use Rattle.lines.specs.Number.{numberFrom, upTo}
+use Rattle.lines.proofs.Numbers.{digits-low, digits-high, digits-over, digits-again, digits-done}
+use Rattle.lines.proofs.digits_of.Statement.{statement}
+use Rattle.lines.proofs.digits_of.Tie as tie
 
 abbrev Inv-loop : tie.InvT-loop
-Inv-loop s n₀ i₀ n i = (n ≤ 255) × (upTo255 (numberFrom n (drop i s)) ≡ upTo255 (numberFrom 0 s))
+Inv-loop s limit most n₀ i₀ n i = (n ≤ limit) × (upTo limit (numberFrom n (drop i s)) ≡ upTo limit (numberFrom 0 s))
 
 abbrev μ-loop : tie.MeasureT-loop
-μ-loop s n₀ i₀ n i = length s - i
+μ-loop s limit most n₀ i₀ n i = length s - i
 
 loop-holds : tie.Need-loop-holds Inv-loop μ-loop
 loop-holds c = (search needs, refl)
@@ -46,8 +46,8 @@ loop-less c = search needs
 loop-again : tie.Need-loop-again Inv-loop μ-loop
 loop-again c = (search needs, search digits-again)
 
-cast-t10 : tie.Need-cast-t10 Inv-loop μ-loop
-cast-t10 c = search needs
+cast-t12 : tie.Need-cast-t12 Inv-loop μ-loop
+cast-t12 c = search needs
 
 returns-4 : tie.Need-returns-4 Inv-loop μ-loop
 returns-4 c = search digits-done
@@ -69,5 +69,5 @@ digits-of-spec =
     add-i
     loop-less
     loop-again
-    cast-t10
+    cast-t12
     returns-4)

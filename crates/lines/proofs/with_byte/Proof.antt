@@ -1,8 +1,8 @@
 use borrow.Author.Needs.{needs}
 use borrow.Author.Tests.{lt-ltb, le-ltb}
-use Rattle.script.specs.Partial.{withByte}
-use Rattle.script.proofs.with_byte.Statement.{statement}
-use Rattle.script.proofs.with_byte.Tie as tie
+use Rattle.lines.specs.Partial.{withByte}
+use Rattle.lines.proofs.with_byte.Statement.{statement}
+use Rattle.lines.proofs.with_byte.Tie as tie
 
 element-write-longer : tie.Need-element-write-longer
 element-write-longer c = search needs

@@ -1,7 +1,7 @@
 use borrow.Author.Needs.{needs}
-use Rattle.script.proofs.Lines.{number-none, number-alone, number-zero, number-more}
-use Rattle.script.proofs.number_of.Statement.{statement}
-use Rattle.script.proofs.number_of.Tie as tie
+use Rattle.lines.proofs.Numbers.{number-none, number-alone, number-zero, number-more}
+use Rattle.lines.proofs.number_up_to.Statement.{statement}
+use Rattle.lines.proofs.number_up_to.Tie as tie
 
 returns : tie.Need-returns
 returns c = search number-none
@@ -24,8 +24,8 @@ returns-3 c = search number-zero
 returns-4 : tie.Need-returns-4
 returns-4 c = search number-more
 
-pub number-of-spec : {M : Type 1} → statement M
-number-of-spec =
+pub number-up-to-spec : {M : Type 1} → statement M
+number-up-to-spec =
     tie.close
     (tie.spec
     returns
