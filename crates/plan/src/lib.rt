@@ -4,7 +4,7 @@ ghost use Rattle.bits.specs.Bit.{optionOf};
 ghost use Rattle.records.specs.Key.{keyBy};
 ghost use Rattle.reader.specs.Walk.{recordsOf};
 ghost use Rattle.reader.specs.Find.{findIn};
-ghost use Rattle.rules.specs.LookUp.{modulesOf, supervisorsOf, eventsOf, moduleState, supervisorState, alphabetOf};
+ghost use Rattle.rules.specs.LookUp.{modulesOf, supervisorsOf, eventsOf, moduleState, supervisorState, controllable, alphabetOf};
 ghost use Rattle.plan.specs.Plan.{target, moduleInitial, supervisorInitial, ownEvent, ownUncontrollable, inAlphabet, shown, moduleMove, supervisorAfter, stepIn};
 ghost use Rattle.plan.specs.Fields.{fieldsOf, Looked};
 use bits::Maybe;
@@ -150,17 +150,23 @@ pub fn supervisor_initial(image: &[u8], v: u8) -> u8
     look(image, 0x14, v, 0).third
 }
 
-// Whether an event is the module's, and whether it is an uncontrollable one of it.
+// Whether an event is the module's, whether it is controllable, and whether it is an uncontrollable one of the module.
 pub fn own_event(image: &[u8], m: u8, e: u8) -> bool
     ensures { λ r. ⌜ r ≡ ownEvent (recordsOf (now (image .entry))) m e ⌝ }
 {
     (e < events_of(image)) & (look(image, 0x11, e, 0).second == m)
 }
 
+pub fn controllable(image: &[u8], e: u8) -> bool
+    ensures { λ r. ⌜ r ≡ controllable (recordsOf (now (image .entry))) e ⌝ }
+{
+    look(image, 0x11, e, 0).third == 1
+}
+
 pub fn own_uncontrollable(image: &[u8], m: u8, e: u8) -> bool
     ensures { λ r. ⌜ r ≡ ownUncontrollable (recordsOf (now (image .entry))) m e ⌝ }
 {
-    own_event(image, m, e) & !(look(image, 0x11, e, 0).third == 1)
+    own_event(image, m, e) & !controllable(image, e)
 }
 
 // A supervisor's alphabet, and whether it has an event.

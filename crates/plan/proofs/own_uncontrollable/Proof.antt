@@ -5,11 +5,11 @@ use Rattle.plan.proofs.own_uncontrollable.Tie as tie
 own-event-requires : tie.Need-own-event-requires
 own-event-requires c κs = search needs
 
-look-requires : tie.Need-look-requires
-look-requires c κs = search needs
+controllable-requires : tie.Need-controllable-requires
+controllable-requires c κs = search needs
 
 returns : tie.Need-returns
 returns c = cc
 
 pub own-uncontrollable-spec : {M : Type 1} → statement M
-own-uncontrollable-spec = tie.close (tie.spec own-event-requires look-requires returns)
+own-uncontrollable-spec = tie.close (tie.spec own-event-requires controllable-requires returns)
