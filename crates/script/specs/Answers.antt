@@ -47,7 +47,10 @@ responseLine m e (CallRefused n o) = refusedLine n
 abbrev pub statesOf : List Own → List ℕ
 statesOf ws = map (λ (w : Own). w .state) ws
 
--- "Last line: module states, then supervisor states.": those of the first m modules and v supervisors
-unfoldable pub statesLine : Device → ℕ → ℕ → List ℕ
-statesLine d m v =
-    ascii "states" ++ spacedAll (take m (statesOf (d .modules))) ++ spacedAll (take v (d .supervisors)) ++ ascii "\n"
+-- a word, and the states of the first m modules and v supervisors
+unfoldable pub statesRow : List ℕ → Device → ℕ → ℕ → List ℕ
+statesRow word d m v = word ++ spacedAll (take m (statesOf (d .modules))) ++ spacedAll (take v (d .supervisors)) ++ ascii "\n"
+
+-- "Last line: module states, then supervisor states."
+abbrev pub statesLine : Device → ℕ → ℕ → List ℕ
+statesLine d m v = statesRow (ascii "states") d m v

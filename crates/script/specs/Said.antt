@@ -4,6 +4,7 @@ use Prim.Native.Char.{code}
 use mathlib.Core.List.{List, [], _∷_, _++_}
 use mathlib.Core.Bool.{cond}
 use lib.Dec.{ltb}
+use Rattle.device.specs.declared.Device.{Device}
 use Rattle.modules.specs.declared.Turn.the-variants.{Event, Stray, Nothing}
 use Rattle.modules.specs.declared.Called.{Called}
 use Rattle.modules.specs.declared.Called.the-variants.{Done, Refused as CallRefused}
@@ -12,7 +13,7 @@ use Rattle.permits.specs.declared.Stepped.the-variants.{Turned, Bids, Waits, Re
 use Rattle.permits.specs.declared.Served.{Served}
 use Rattle.permits.specs.declared.Served.the-variants.{Sends, Waits as ServedWaits, Refused as ServedRefused}
 use Rattle.script.specs.Ascii.{ascii}
-use Rattle.script.specs.Answers.{spaced, refusedLine}
+use Rattle.script.specs.Answers.{spaced, refusedLine, statesRow}
 
 unfoldable pub hexDigit : ℕ → ℕ
 hexDigit d = cond (ltb d 10) (code "0" + d) (code "A" + (d - 10))
@@ -44,3 +45,11 @@ unfoldable pub servedLine : ℕ → Served → List ℕ
 servedLine v (Sends m k) = ascii "supervisor" ++ spaced v ++ ascii " permits" ++ spaced m ++ ascii "\n"
 servedLine v ServedWaits = ascii "supervisor" ++ spaced v ++ ascii " waits\n"
 servedLine v (ServedRefused n o) = refusedLine n
+
+-- no message stands at the place
+unfoldable pub nothingLine : List ℕ
+nothingLine = ascii "nothing\n"
+
+-- the states of the one device
+abbrev pub deviceLine : Device → ℕ → ℕ → List ℕ
+deviceLine d m v = statesRow (ascii "device") d m v

@@ -8,7 +8,7 @@ use Rattle.lines.specs.Number.{numberFrom, begins, upTo, numberUpTo, numberOf, 
 use Rattle.script.specs.declared.Line.the-variants.{Turn, Response, Misshapen}
 use Rattle.script.specs.Ascii.{ascii, digits}
 use Rattle.script.specs.Line.{pairOf, lineOf}
-use Rattle.script.specs.Answers.{spacedAll, headerLine, planRefusedLine, refusedLine, turnLine, responseLine, statesLine}
+use Rattle.script.specs.Answers.{spacedAll, headerLine, planRefusedLine, refusedLine, turnLine, responseLine, statesRow, statesLine}
 
 -- the sheet's script, and numbers up to 255
 pub record Scripts : Type 0 where
@@ -77,7 +77,7 @@ misshaped =
     }
 
 pub answers : Answers
-unfolding ascii digits spacedAll headerLine planRefusedLine refusedLine turnLine responseLine statesLine
+unfolding ascii digits spacedAll headerLine planRefusedLine refusedLine turnLine responseLine statesRow
 answers =
     record {
       header = refl;

@@ -6,8 +6,8 @@ ghost use lib.ListN.{length, take};
 ghost use Rattle.script.specs.Ascii.{ascii, decimal};
 ghost use Rattle.script.specs.Line.{turnBy, responseBy, pairOf, lineOf, parsedOf};
 ghost use Rattle.script.specs.Text.{textOf, pushed, appended, cut};
-ghost use Rattle.script.specs.Answers.{spaced, spacedAll, statesOf, headerLine, planRefusedLine, refusedLine, turnLine, responseLine, statesLine};
-ghost use Rattle.script.specs.Said.{hexDigit, hexes, sentLine, deliveredLine, steppedLine, servedLine, tickLine};
+ghost use Rattle.script.specs.Answers.{spaced, spacedAll, statesOf, headerLine, planRefusedLine, refusedLine, turnLine, responseLine, statesRow, statesLine};
+ghost use Rattle.script.specs.Said.{hexDigit, hexes, sentLine, deliveredLine, steppedLine, servedLine, tickLine, nothingLine, deviceLine};
 use bits::Maybe;
 use device::Device;
 use device::Turning;
@@ -268,15 +268,23 @@ pub fn response_line(m: u8, e: u8, a: Called) -> Text
     }
 }
 
-// The states of the first modules and supervisors.
-pub fn states_line(d: Device, modules: u8, supervisors: u8) -> Text
-    ensures { λ r. ⌜ r ≡ textOf (statesLine d modules supervisors) ⌝ }
+// A word, and the states of the first modules and supervisors.
+fn states_row(word: &[u8], d: Device, modules: u8, supervisors: u8) -> Text
+    requires { ⌜ length (now word) ≤ 15 ⌝ }
+    ensures { λ r. ⌜ r ≡ textOf (statesRow (now (word .entry)) d modules supervisors) ⌝ }
 {
     let own = d.modules;
     let states = d.supervisors;
-    let t = push_states(push_all(empty(), b"states"), own, words::wide(modules));
+    let t = push_states(push_all(empty(), word), own, words::wide(modules));
     let t = push_first(t, states, words::wide(supervisors));
     push(t, b'\n')
+}
+
+// `states 0 1 0`.
+pub fn states_line(d: Device, modules: u8, supervisors: u8) -> Text
+    ensures { λ r. ⌜ r ≡ textOf (statesLine d modules supervisors) ⌝ }
+{
+    states_row(b"states", d, modules, supervisors)
 }
 
 // ---- the lines of the simulation
@@ -366,4 +374,18 @@ pub fn numbers(s: &[u8]) -> Text
     ensures { λ r. ⌜ r ≡ cut (spacedAll (now (s .entry))) ⌝ }
 {
     push_numbers(empty(), s)
+}
+
+// `nothing`.
+pub fn nothing_line() -> Text
+    ensures { λ r. ⌜ r ≡ textOf nothingLine ⌝ }
+{
+    push_all(empty(), b"nothing\n")
+}
+
+// `device 0 1 0`.
+pub fn device_line(d: Device, modules: u8, supervisors: u8) -> Text
+    ensures { λ r. ⌜ r ≡ textOf (deviceLine d modules supervisors) ⌝ }
+{
+    states_row(b"device", d, modules, supervisors)
 }

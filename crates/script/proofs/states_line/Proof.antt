@@ -1,66 +1,17 @@
 use borrow.Author.Needs.{needs}
-use mathlib.Core.Path.{_≡_}
-use mathlib.Core.List.{[]}
-use Prim.Native.Nat.{ℕ, _≤_}
-use native.Mathlib.Nat.{le-refl}
-use native.Mathlib.Omega.{arith}
-use lib.ListN.{length, take}
-use Rattle.device.specs.declared.Device.{Device}
-use Rattle.script.specs.declared.Text.{Text}
 use Rattle.script.specs.Ascii.{ascii}
-use Rattle.script.specs.Text.{textOf, pushed, appended}
-use Rattle.script.specs.Answers.{spacedAll, statesOf, statesLine}
-use Rattle.script.proofs.Texts.{so-empty, so-all, so-push}
 use Rattle.script.proofs.states_line.Statement.{statement}
 use Rattle.script.proofs.states_line.Tie as tie
 
-module _ (d : Device) (m v a b : ℕ) {t u w x r : Text} where
-  states-by : r ≡ pushed x 10 → x ≡ appended w (spacedAll (take b (d .supervisors))) → length (spacedAll (take b (d .supervisors))) ≤ 128 → b ≡ v
-      → w ≡ appended u (spacedAll (take a (statesOf (d .modules)))) → length (spacedAll (take a (statesOf (d .modules)))) ≤ 64 → a ≡ m
-      → u ≡ appended t (ascii "states") → t ≡ textOf [] → r ≡ textOf (statesLine d m v)
-  unfolding ascii statesLine
-  states-by o i j q h k p g f =
-      let s = so-all (so-all (so-empty f) (ascii "states") 6 (le-refl 6) (omega arith) g) (spacedAll (take a (statesOf (d .modules)))) 64 k (omega arith) h in
-      rw (← p, ← q) (so-push (so-all s (spacedAll (take b (d .supervisors))) 128 j (omega arith) i) 10 (omega arith) o .is)
+slice-aggregate-states-row : tie.Need-slice-aggregate-states-row
+slice-aggregate-states-row c = search needs
 
-empty-requires : tie.Need-empty-requires
-empty-requires c κs = search needs
-
-slice-aggregate-push-all : tie.Need-slice-aggregate-push-all
-slice-aggregate-push-all c = search needs
-
-push-all-requires : tie.Need-push-all-requires
-push-all-requires c κs = search needs
-
-wide-requires : tie.Need-wide-requires
-wide-requires c κs = search needs
-
-push-states-requires : tie.Need-push-states-requires
-push-states-requires c κs = search needs
-
-wide-requires-2 : tie.Need-wide-requires-2
-wide-requires-2 c κs = search needs
-
-push-first-requires : tie.Need-push-first-requires
-push-first-requires c κs = search needs
-
-push-requires : tie.Need-push-requires
-push-requires c κs = search needs
+states-row-requires : tie.Need-states-row-requires
+states-row-requires c κs = search needs
 
 returns : tie.Need-returns
 unfolding ascii
-returns c = search states-by
+returns c = c .states-row .ensures
 
 pub states-line-spec : {M : Type 1} → statement M
-states-line-spec =
-    tie.close
-    (tie.spec
-    empty-requires
-    slice-aggregate-push-all
-    push-all-requires
-    wide-requires
-    push-states-requires
-    wide-requires-2
-    push-first-requires
-    push-requires
-    returns)
+states-line-spec = tie.close (tie.spec slice-aggregate-states-row states-row-requires returns)
