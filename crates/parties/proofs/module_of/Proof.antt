@@ -1,0 +1,42 @@
+use mathlib.Core.Path.{_≡_, sym, _∙_}
+use lib.ListN.{length}
+use native.Mathlib.Omega.{arith}
+use Rattle.permits.specs.Module.{emptyModule}
+use Rattle.device.proofs.Slots.{no-slot, any-slot, mapped}
+use borrow.Author.Needs.{needs}
+use Rattle.parties.proofs.module_of.Statement.{statement}
+use Rattle.parties.proofs.module_of.Tie as tie
+
+wide-requires : tie.Need-wide-requires
+wide-requires c κs = search needs
+
+mul-result : tie.Need-mul-result
+mul-result c = search needs
+
+element-copy-out-result : tie.Need-element-copy-out-result
+element-copy-out-result c = search needs
+
+no-module-requires : tie.Need-no-module-requires
+no-module-requires c κs = search needs
+
+returns : tie.Need-returns
+returns c =
+    let a = c .before .before .before .args in
+    let h : length (a .t1 .modules) ≡ 16 = search mapped in
+    any-slot _ emptyModule (a .t1 .modules) _ (a .m) (c .before .wide .ensures) (omega (arith, c .before .before .if1 .taken))
+
+returns-2 : tie.Need-returns-2
+returns-2 c =
+    let h : length (c .before .before .args .t1 .modules) ≡ 16 = search mapped in
+    c .no-module .ensures ∙ sym (no-slot emptyModule (c .before .before .args .t1 .modules) (c .before .before .args .m) (omega (arith, c .before .if1 .left)))
+
+pub module-of-spec : {M : Type 1} → statement M
+module-of-spec =
+    tie.close
+    (tie.spec
+    wide-requires
+    mul-result
+    element-copy-out-result
+    no-module-requires
+    returns
+    returns-2)

@@ -1,0 +1,70 @@
+use mathlib.Core.Path.{_≡_, ap, _∙_}
+use Prim.Native.Nat.{ℕ, _-_, _%_, _≤_}
+use native.Mathlib.Omega.{arith}
+use borrow.Author.Needs.{needs}
+use lib.ListN.{replicate}
+use Rattle.permits.specs.declared.Module.{Module}
+use Rattle.permits.specs.Module.{emptyModule, moduleStart}
+use Rattle.device.specs.Device.{listFrom}
+use Rattle.device.proofs.Slots.{filled, fill-on, fill-done}
+use Rattle.parties.proofs.start_modules.Statement.{statement}
+use Rattle.parties.proofs.start_modules.Tie as tie
+
+abbrev Inv-loop : tie.InvT-loop
+Inv-loop image next₀ i₀ next i = (i ≤ 16) × (next ≡ filled (λ m. moduleStart image m .state) emptyModule 16 i)
+
+abbrev μ-loop : tie.MeasureT-loop
+μ-loop image next₀ i₀ next i = 16 - i
+
+no-module-requires : tie.Need-no-module-requires Inv-loop μ-loop
+no-module-requires c κs = search needs
+
+loop-holds : tie.Need-loop-holds Inv-loop μ-loop
+unfolding listFrom
+loop-holds c = (search needs, ap (λ (x : Module). replicate 16 x) (c .no-module .ensures))
+
+cast-m : tie.Need-cast-m Inv-loop μ-loop
+cast-m c = search needs
+
+module-start-requires : tie.Need-module-start-requires Inv-loop μ-loop
+module-start-requires c κs = search needs
+
+mul-next : tie.Need-mul-next Inv-loop μ-loop
+mul-next c = search needs
+
+array-set-from-next : tie.Need-array-set-from-next Inv-loop μ-loop
+array-set-from-next c = search needs
+
+add-i : tie.Need-add-i Inv-loop μ-loop
+add-i c = search needs
+
+loop-less : tie.Need-loop-less Inv-loop μ-loop
+loop-less c = search needs
+
+loop-again : tie.Need-loop-again Inv-loop μ-loop
+loop-again c =
+    let l = c .before .before .loop in
+    let e : l .i % 256 ≡ l .i = omega (arith, c .before .loop-test .taken) in
+    (search needs, fill-on _ emptyModule 16 (l .i) (l .inv .1) (c .module-start .ensures ∙ ap (λ (j : ℕ). moduleStart (c .before .before .before .before .before .args .image .now) j .state) e) (c .before .loop-test .taken))
+
+returns : tie.Need-returns Inv-loop μ-loop
+returns c =
+    let l = c .before .loop in
+    fill-done _ emptyModule 16 (l .i) (l .inv .1) (c .loop-test .left) (l .inv .0)
+
+pub start-modules-spec : {M : Type 1} → statement M
+start-modules-spec =
+    tie.close
+    (tie.spec
+    Inv-loop
+    μ-loop
+    no-module-requires
+    loop-holds
+    cast-m
+    module-start-requires
+    mul-next
+    array-set-from-next
+    add-i
+    loop-less
+    loop-again
+    returns)

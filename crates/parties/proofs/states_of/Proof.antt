@@ -1,0 +1,60 @@
+use mathlib.Core.Path.{_≡_, refl, ap, _∙_}
+use Prim.Native.Nat.{ℕ, _-_, _%_, _≤_}
+use native.Mathlib.Omega.{arith}
+use borrow.Author.Needs.{needs}
+use Rattle.device.specs.Device.{listFrom}
+use Rattle.device.proofs.Slots.{filled, fill-on, fill-done}
+use Rattle.parties.specs.Parties.{supervisorAt}
+use Rattle.parties.proofs.states_of.Statement.{statement}
+use Rattle.parties.proofs.states_of.Tie as tie
+
+abbrev Inv-loop : tie.InvT-loop
+Inv-loop p next₀ i₀ next i = (i ≤ 32) × (next ≡ filled (λ v. supervisorAt p v .state) 0 32 i)
+
+abbrev μ-loop : tie.MeasureT-loop
+μ-loop p next₀ i₀ next i = 32 - i
+
+loop-holds : tie.Need-loop-holds Inv-loop μ-loop
+unfolding listFrom
+loop-holds c = (search needs, refl)
+
+cast-v : tie.Need-cast-v Inv-loop μ-loop
+cast-v c = search needs
+
+state-of-requires : tie.Need-state-of-requires Inv-loop μ-loop
+state-of-requires c κs = search needs
+
+array-write-next : tie.Need-array-write-next Inv-loop μ-loop
+array-write-next c = search needs
+
+add-i : tie.Need-add-i Inv-loop μ-loop
+add-i c = search needs
+
+loop-less : tie.Need-loop-less Inv-loop μ-loop
+loop-less c = search needs
+
+loop-again : tie.Need-loop-again Inv-loop μ-loop
+loop-again c =
+    let l = c .before .before .loop in
+    let e : l .i % 256 ≡ l .i = omega (arith, c .before .loop-test .taken) in
+    (search needs, fill-on _ 0 32 (l .i) (l .inv .1) (c .state-of .ensures ∙ ap (λ (j : ℕ). supervisorAt (c .before .before .before .args .p) j .state) e) (c .before .loop-test .taken))
+
+returns : tie.Need-returns Inv-loop μ-loop
+returns c =
+    let l = c .before .loop in
+    fill-done _ 0 32 (l .i) (l .inv .1) (c .loop-test .left) (l .inv .0)
+
+pub states-of-spec : {M : Type 1} → statement M
+states-of-spec =
+    tie.close
+    (tie.spec
+    Inv-loop
+    μ-loop
+    loop-holds
+    cast-v
+    state-of-requires
+    array-write-next
+    add-i
+    loop-less
+    loop-again
+    returns)
