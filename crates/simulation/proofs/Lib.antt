@@ -1,0 +1,3 @@
+pub mod Sending
+pub mod Reading
+pub mod Playing
