@@ -1,0 +1,135 @@
+-- Laws of what is printed.
+use Prim.Native.Nat.{ℕ, suc, _+_, _*_, _≤_}
+use native.Mathlib.Omega.{arith}
+use mathlib.Core.Path.{_≡_, refl, sym, ap, _∙_}
+use mathlib.Core.List.{List, [], _∷_, _++_}
+use lib.ListN.{length, take, length-append}
+use types.Run.{OneOf, miss}
+use denote.Enum.Declared.{tagOf}
+use Rattle.bits.specs.declared.Maybe.the-variants.{Just, Nothing}
+use Rattle.modules.specs.declared.Turn.{Turn}
+use Rattle.modules.specs.declared.Turn.the-variants.{Event, Stray, Nothing as NoTurn}
+use Rattle.modules.proofs.Turn as TurnType
+use Rattle.modules.specs.declared.Called.{Called}
+use Rattle.modules.specs.declared.Called.the-variants.{Done, Refused as CallRefused}
+use Rattle.messages.specs.Message.{messageBytes}
+use Rattle.messages.specs.declared.Message.{Message}
+use Rattle.permits.specs.declared.Stepped.{Stepped}
+use Rattle.permits.specs.declared.Stepped.the-variants.{Turned, Bids, Waits, Refused as StepRefused}
+use Rattle.permits.proofs.Stepped as SteppedType
+use Rattle.permits.specs.declared.Served.{Served}
+use Rattle.script.specs.declared.Text.{Text}
+use Rattle.script.specs.Ascii.{ascii}
+use Rattle.script.specs.Text.{textOf, cut}
+use Rattle.script.specs.Answers.{refusedLine, responseLine}
+use Rattle.script.specs.Said.{hexes, sentLine, deliveredLine, steppedLine, servedLine, tickLine, nothingLine}
+use Rattle.script.proofs.Texts.{appended-text}
+use Rattle.simulation.specs.declared.Answer.{Answer}
+use Rattle.simulation.specs.declared.Answer.the-variants.{Module, Supervisor, Delivery, NoMessage, Response, Tick, Misshapen}
+use Rattle.simulation.proofs.Answer as AnswerType
+use Rattle.answers.specs.Said.{deliveryLine, answerLine, eventOf, stepEvent, fired}
+use Rattle.simulation.proofs.Playing.{message-length}
+
+-- ---- a message's bytes are few
+
+hexes-length : (bs : List ℕ) → length (hexes bs) ≡ 2 * length bs
+unfolding hexes
+hexes-length [] = refl
+hexes-length (b ∷ bs) = let e = hexes-length bs in omega arith
+
+pub sent-by : (g : Message) {bytes : List ℕ} {r : Text} → bytes ≡ messageBytes g → r ≡ cut (sentLine bytes) → r ≡ textOf (sentLine (messageBytes g))
+unfolding sentLine ascii
+sent-by g e f =
+    let n = message-length g in
+    let h = hexes-length (messageBytes g) in
+    f ∙ ap (λ (l : List ℕ). cut (sentLine l)) e ∙ appended-text [] (sentLine (messageBytes g)) (simp length-append (omega arith))
+
+pub delivered-by : (g : Message) {bytes : List ℕ} {r : Text} → bytes ≡ messageBytes g → r ≡ cut (deliveredLine bytes) → r ≡ textOf (deliveredLine (messageBytes g))
+unfolding deliveredLine ascii
+delivered-by g e f =
+    let n = message-length g in
+    let h = hexes-length (messageBytes g) in
+    f ∙ ap (λ (l : List ℕ). cut (deliveredLine l)) e ∙ appended-text [] (deliveredLine (messageBytes g)) (simp length-append (omega arith))
+
+-- ---- the line of an answer
+
+module _ (g : Message) {a : Called} {r : Text} where
+  pub line-done : a ≡ Done → r ≡ textOf (deliveredLine (messageBytes g)) → r ≡ textOf (deliveryLine g a)
+  unfolding deliveryLine
+  line-done e f = f ∙ ap (λ (x : Called). textOf (deliveryLine g x)) (sym e)
+
+  pub line-refused : {n o : ℕ} → a ≡ CallRefused n o → r ≡ textOf (refusedLine n) → r ≡ textOf (deliveryLine g a)
+  unfolding deliveryLine
+  line-refused e f = f ∙ ap (λ (x : Called). textOf (deliveryLine g x)) (sym e)
+
+module _ {a : Answer} {r : Text} where
+  said-as : (b : Answer) → a ≡ b → r ≡ textOf (answerLine b) → r ≡ textOf (answerLine a)
+  said-as b e f = f ∙ ap (λ (x : Answer). textOf (answerLine x)) (sym e)
+
+  pub line-module : {m : ℕ} {s : Stepped} → a ≡ Module m s → r ≡ textOf (steppedLine m s) → r ≡ textOf (answerLine a)
+  unfolding answerLine
+  line-module e f = said-as _ e f
+
+  pub line-supervisor : {v : ℕ} {s : Served} → a ≡ Supervisor v s → r ≡ textOf (servedLine v s) → r ≡ textOf (answerLine a)
+  unfolding answerLine
+  line-supervisor e f = said-as _ e f
+
+  pub line-delivery : {g : Message} {c : Called} → a ≡ Delivery g c → r ≡ textOf (deliveryLine g c) → r ≡ textOf (answerLine a)
+  unfolding answerLine
+  line-delivery e f = said-as _ e f
+
+  pub line-nothing : a ≡ NoMessage → r ≡ textOf nothingLine → r ≡ textOf (answerLine a)
+  unfolding answerLine
+  line-nothing e f = said-as _ e f
+
+  pub line-response : {m e : ℕ} {c : Called} → a ≡ Response m e c → r ≡ textOf (responseLine m e c) → r ≡ textOf (answerLine a)
+  unfolding answerLine
+  line-response e f = said-as _ e f
+
+  pub line-tick : {m : ℕ} {c : Called} → a ≡ Tick m c → r ≡ textOf (tickLine m c) → r ≡ textOf (answerLine a)
+  unfolding answerLine
+  line-tick e f = said-as _ e f
+
+  pub line-misshapen : a ≡ Misshapen → r ≡ textOf (refusedLine 10) → r ≡ textOf (answerLine a)
+  unfolding answerLine
+  line-misshapen e f = said-as _ e f
+
+-- ---- the event that fired
+
+abbrev others : List ℕ
+others = 1 ∷ 2 ∷ 3 ∷ 4 ∷ 5 ∷ 6 ∷ []
+
+pub fired-elsewhere : (a : Answer) → OneOf (1 ∷ 2 ∷ 3 ∷ 4 ∷ 5 ∷ 6 ∷ []) (tagOf AnswerType.the-type a) → Nothing ≡ fired a
+unfolding fired
+fired-elsewhere (Module m s) q = absurd (miss others 0 tt q)
+fired-elsewhere (Supervisor v s) q = refl
+fired-elsewhere (Delivery g c) q = refl
+fired-elsewhere NoMessage q = refl
+fired-elsewhere (Response m e c) q = refl
+fired-elsewhere (Tick m c) q = refl
+fired-elsewhere Misshapen q = refl
+
+module _ {a : Answer} {m : ℕ} (s : Stepped) (i : a ≡ Module m s) where
+  pub fired-unturned : OneOf (1 ∷ 2 ∷ 3 ∷ []) (tagOf SteppedType.the-type s) → Nothing ≡ fired a
+  unfolding fired stepEvent
+  fired-unturned q = go s q ∙ ap fired (sym i)
+    where
+      go : (x : Stepped) → OneOf (1 ∷ 2 ∷ 3 ∷ []) (tagOf SteppedType.the-type x) → Nothing ≡ stepEvent x
+      go (Turned t n) p = absurd (miss (1 ∷ 2 ∷ 3 ∷ []) 0 tt p)
+      go (Bids v n) p = refl
+      go Waits p = refl
+      go (StepRefused n o) p = refl
+
+  module _ (t : Turn) {n : ℕ} (j : s ≡ Turned t n) where
+    pub fired-eventless : OneOf (1 ∷ 2 ∷ []) (tagOf TurnType.the-type t) → Nothing ≡ fired a
+    unfolding fired stepEvent eventOf
+    fired-eventless q = go t q ∙ ap stepEvent (sym j) ∙ ap fired (sym i)
+      where
+        go : (x : Turn) → OneOf (1 ∷ 2 ∷ []) (tagOf TurnType.the-type x) → Nothing ≡ eventOf x
+        go (Event e) p = absurd (miss (1 ∷ 2 ∷ []) 0 tt p)
+        go (Stray e) p = refl
+        go NoTurn p = refl
+
+    pub fired-event : {e : ℕ} → t ≡ Event e → Just e ≡ fired a
+    unfolding fired stepEvent eventOf
+    fired-event q = ap eventOf (sym q) ∙ ap stepEvent (sym j) ∙ ap fired (sym i)
