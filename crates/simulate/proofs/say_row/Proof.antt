@@ -4,10 +4,10 @@ use Rattle.simulate.proofs.say_row.Statement.{statement}
 use Rattle.simulate.proofs.say_row.Tie as tie
 
 abbrev Inv-loop : tie.InvT-loop
-Inv-loop word r i₀ t5 i = Unit {0}
+Inv-loop word r i₀ t6 i = Unit {0}
 
 abbrev μ-loop : tie.MeasureT-loop
-μ-loop word r i₀ t5 i = 1024 - i
+μ-loop word r i₀ t6 i = 1024 - i
 
 write-all-requires : tie.Need-write-all-requires Inv-loop μ-loop
 write-all-requires c κs = search needs
@@ -15,11 +15,17 @@ write-all-requires c κs = search needs
 loop-holds : tie.Need-loop-holds Inv-loop μ-loop
 loop-holds c = search needs
 
-element-copy-out-say-number : tie.Need-element-copy-out-say-number Inv-loop μ-loop
-element-copy-out-say-number c = search needs
+element-copy-out-t12 : tie.Need-element-copy-out-t12 Inv-loop μ-loop
+element-copy-out-t12 c = search needs
 
-say-number-requires : tie.Need-say-number-requires Inv-loop μ-loop
-say-number-requires c κs = search needs
+slice-aggregate-numbers : tie.Need-slice-aggregate-numbers Inv-loop μ-loop
+slice-aggregate-numbers c = search needs
+
+numbers-requires : tie.Need-numbers-requires Inv-loop μ-loop
+numbers-requires c κs = search needs
+
+say-requires : tie.Need-say-requires Inv-loop μ-loop
+say-requires c κs = search needs
 
 add-i : tie.Need-add-i Inv-loop μ-loop
 add-i c = search needs
@@ -47,8 +53,10 @@ say-row-spec =
     μ-loop
     write-all-requires
     loop-holds
-    element-copy-out-say-number
-    say-number-requires
+    element-copy-out-t12
+    slice-aggregate-numbers
+    numbers-requires
+    say-requires
     add-i
     loop-less
     loop-again

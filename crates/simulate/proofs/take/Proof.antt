@@ -5,19 +5,16 @@ use Rattle.simulate.proofs.take.Statement.{statement}
 use Rattle.simulate.proofs.take.Tie as tie
 
 abbrev Inv-loop : tie.InvT-loop
-Inv-loop image s p₀ line₀ i₀ p line i = Unit {0}
+Inv-loop image s t₀ line₀ i₀ t line i = Unit {0}
 
 abbrev μ-loop : tie.MeasureT-loop
-μ-loop image s p₀ line₀ i₀ p line i = length s - i
+μ-loop image s t₀ line₀ i₀ t line i = length s - i
 
 loop-holds : tie.Need-loop-holds Inv-loop μ-loop
 loop-holds c = search needs
 
 shared-slice-read-if1 : tie.Need-shared-slice-read-if1 Inv-loop μ-loop
 shared-slice-read-if1 c = search needs
-
-parsed-requires : tie.Need-parsed-requires Inv-loop μ-loop
-parsed-requires c κs = search needs
 
 answer-requires : tie.Need-answer-requires Inv-loop μ-loop
 answer-requires c κs = search needs
@@ -51,7 +48,6 @@ take-spec =
     μ-loop
     loop-holds
     shared-slice-read-if1
-    parsed-requires
     answer-requires
     begun-requires
     shared-slice-read-with-byte
