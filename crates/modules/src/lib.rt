@@ -308,7 +308,7 @@ fn poured(image: &[u8], x: u64, f: Flow, own: Own) -> Own
     let mut p = own.procedure;
     let w = p.water;
     if water::running(x, w) {
-        let v = water::add_reading(w, f);
+        let v = water::updated(w, f);
         if water::reached(v) {
             onward(image, own)
         } else {

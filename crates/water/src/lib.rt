@@ -63,6 +63,22 @@ pub fn add_reading(w: Water, f: Flow) -> Water
     }
 }
 
+// One reading updates the lent record in place.
+pub fn add_in_place(w: &mut Water, f: Flow)
+    ensures { λ _. ⌜ Summed (now (w .entry)) f (now (w .exit)) ⌝ }
+{
+    *w = add_reading(*w, f);
+}
+
+// The record by value, updated in place. It alone lends one, so that callers need no proof about lent memory.
+pub fn updated(before: Water, f: Flow) -> Water
+    ensures { λ r. ⌜ Summed before f r ⌝ }
+{
+    let mut w = before;
+    add_in_place(&mut w, f);
+    w
+}
+
 // Whether the total is at the target or above.
 pub fn reached(w: Water) -> bool
     ensures { λ r. ⌜ Compared w r ⌝ }

@@ -6,8 +6,8 @@ use Rattle.modules.proofs.poured.Tie as tie
 running-requires : tie.Need-running-requires
 running-requires c κs = search needs
 
-add-reading-requires : tie.Need-add-reading-requires
-add-reading-requires c κs = search needs
+updated-requires : tie.Need-updated-requires
+updated-requires c κs = search needs
 
 reached-requires : tie.Need-reached-requires
 reached-requires c κs = search needs
@@ -29,7 +29,7 @@ poured-spec =
     tie.close
     (tie.spec
     running-requires
-    add-reading-requires
+    updated-requires
     reached-requires
     onward-requires
     returns
