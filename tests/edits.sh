@@ -1,16 +1,13 @@
 #!/usr/bin/env bash
 # Edits of definitions whose own crates hold no theorem about them. Each file of tests/edits is applied to a copy of the tree; the edited crate
-# must still hold, and every crate named in its last line, the marked table or the theorem of demand 3, must fail.
+# must still hold, and every crate named in its last line, the marked table or the theorem of demand 3, must fail. Two run side by side.
 set -eu
 cd "$(dirname "$0")/.."
-mkdir -p target
-rt check marked agreement > target/edits.log 2>&1 || { tail -n 40 target/edits.log; exit 1; }
-copy=$(mktemp -d)
-trap 'rm -rf "$copy"' EXIT
 field() { sed -n "s/^$1: //p" "$2"; }
 
-count=0
-for edit in tests/edits/*.edit; do
+# One edit, in a copy of its own.
+refused() { # EDIT
+  local edit=$1 name crate file old new text copy log by
   name=$(basename "$edit" .edit)
   crate=$(field crate "$edit")
   file=crates/$crate/$(field file "$edit")
@@ -19,18 +16,27 @@ for edit in tests/edits/*.edit; do
   text=$(cat "$file")
   case "$text" in
     *"$old"*) ;;
-    *) echo "edit $name: its old line is not in $file"; exit 1 ;;
+    *) echo "edit $name: its old line is not in $file"; return 1 ;;
   esac
-  rm -rf "$copy"/*
+  copy=$(mktemp -d)
+  # shellcheck disable=SC2064
+  trap "rm -rf '$copy'" EXIT
   tar -cf - --exclude=target/must-fail crates crates.txt target | tar -xf - -C "$copy"
   printf '%s\n' "${text/"$old"/"$new"}" > "$copy/$file"
   log=target/edits-$name.log
   for by in $(field 'refused by' "$edit"); do
-    (cd "$copy" && rt check "$by") > "$log" 2>&1 && { echo "edit $name: NOT refused by $by"; exit 1; }
-    grep -q "^rt: $crate proved" "$log" || { echo "edit $name: $crate itself does not hold"; exit 1; }
-    grep -q "^rt: $by NOT PROVED (exit" "$log" || { echo "edit $name: $by was not reached"; exit 1; }
+    (cd "$copy" && RT_JOBS=1 rt check "$by") > "$log" 2>&1 && { echo "edit $name: NOT refused by $by"; return 1; }
+    grep -q "^rt: $crate proved" "$log" || { echo "edit $name: $crate itself does not hold"; return 1; }
+    grep -q "^rt: $by NOT PROVED (exit" "$log" || { echo "edit $name: $by was not reached"; return 1; }
   done
   echo "edit $name: refused by $(field 'refused by' "$edit"), as it must be"
-  count=$((count + 1))
-done
-echo "$count edits of definitions refused"
+}
+
+if [ $# -gt 0 ]; then
+  refused "$1"
+  exit
+fi
+mkdir -p target
+rt check marked agreement > target/edits.log 2>&1 || { tail -n 40 target/edits.log; exit 1; }
+printf '%s\n' tests/edits/*.edit | xargs -P 2 -n 1 tests/edits.sh
+echo "$(printf '%s\n' tests/edits/*.edit | wc -l) edits of definitions refused"
