@@ -62,7 +62,7 @@ module _ (rs : List Record) (L : Laws (planOf rs)) where
     near m v h = neighbour-bit rs few watched m v ∙ h
 
     held-fits : (m : ℕ) → M.heldFits rs m (D .moduleAt m .held) ≡ true
-    unfolding M.heldFits
+    unfolding M.heldIn
     held-fits m =
         is-true _ (all-of (λ v. not (bit (D .moduleAt m .held) v) || (bit (neighbours rs m) v && allBelow (λ w. not (bit (neighbours rs m) w) || bit (D .moduleAt m .held) w) v)) 32
         (λ v l. holds _ (implies (bit (D .moduleAt m .held) v) _ (λ h. and-intro (near m v (I .modules m .neighbours v h))
@@ -74,7 +74,7 @@ module _ (rs : List Record) (L : Laws (planOf rs)) where
     missing-some m (some v) e h = ap isSome (missing-same rs few watched m (D .moduleAt m .held) ∙ I .modules m .bid-lowest v e)
 
     pub module-fits : (m : ℕ) (x : Module) → m < modulesOf rs → SameModule x (D .moduleAt m) → M.moduleFits rs m x ≡ true
-    unfolding M.moduleFits
+    unfolding M.fitsIn
     module-fits m x l s =
         and-intro (and-intro (and-intro
         (ap (M.heldFits rs m) (s .held) ∙ held-fits m)

@@ -81,7 +81,7 @@ module _ (rs : List Record) (few : supervisorsOf rs ≤ 32) (watched : (v e : �
   neighbour-none m v h = sym (neighbour-same m v) ∙ none-above m v h
 
   pub missing-same : (m h : ℕ) → M.missing rs m h ≡ R.missing (planOf rs) m h
-  unfolding M.missing R.missing
+  unfolding M.missingIn R.missing
   missing-same m h =
       least-same (λ v. bit (neighbours rs m) v && not (bit h v)) (R.lacks (planOf rs) m h) 32 (λ v l. same v)
       ∙ ap (least (R.lacks (planOf rs) m h)) (let e : 32 ≡ (32 - supervisorsOf rs) + supervisorsOf rs = omega arith in e)

@@ -595,7 +595,7 @@ fn supervisor_called(c: SupervisorCalled) -> Supervisor {
 }
 
 fn module_step(image: &[u8], m: u8, x: Module, buf: &mut [u8]) -> Module {
-    let t = module_calls::step(image, m, x, &mut *buf);
+    let t = module_steps::step(image, m, x, &mut *buf);
     let answer = t.answer;
     say_stepped(answer);
     say_buffer(buf);

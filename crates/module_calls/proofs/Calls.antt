@@ -2,13 +2,13 @@
 use mathlib.Core.Path.{_≡_, refl, sym, ap, ap₂, _∙_}
 use mathlib.Core.List.{List}
 use mathlib.Core.Option.{Option}
-use mathlib.Core.Bool.{Bool, true, false, cond, _&&_, true≢false}
+use mathlib.Core.Bool.{Bool, true, false, cond, not, _&&_, true≢false}
 use Prim.Native.Nat.{ℕ, _≤_, _<_}
 use native.Mathlib.Omega.{arith}
 use lib.Bits.{bitOr}
 use lib.Dec.{eqb}
 use borrow.Author.Tests.{lt-ltb, le-ltb, eqb-true}
-use Rattle.bits.specs.Bit.{least, putBit, optionOf}
+use Rattle.bits.specs.Bit.{bit, putBit, optionOf}
 use Rattle.bits.specs.declared.Maybe.{Maybe}
 use Rattle.bits.specs.declared.Maybe.the-variants.{Just, Nothing}
 use Rattle.bits.proofs.Least.{least-some}
@@ -31,11 +31,11 @@ use Rattle.messages.specs.declared.Message.the-variants.{Bid, Permit, Release}
 use Rattle.messages.specs.declared.Parsed.{Parsed}
 use Rattle.messages.specs.declared.Parsed.the-variants.{Whole, Misshapen}
 use Rattle.permits.specs.Names.{named}
-use Rattle.permits.specs.Module.{moduleFits, callRefused, isFor, bidWith, takenBy, deliverIn, absent, deliverBy, moduleDeliver, withOwn, replyBy, startBy, moduleStart}
+use Rattle.permits.specs.Module.{missingIn, fitsIn, callRefused, isFor, bidWith, takenBy, deliverIn, absent, deliverBy, moduleDeliver, withOwn, replyBy, startBy, moduleStart}
 use Rattle.permits.specs.declared.Module.{Module}
 use Rattle.permits.specs.declared.ModuleCalled.{ModuleCalled}
-use Rattle.module_calls.proofs.Held.{lackAt, missing-is}
-use Rattle.module_calls.proofs.Judged.{lacking, unfit, fit}
+use Rattle.holding.proofs.Held.{missing-is}
+use Rattle.holding.proofs.Judged.{lacking, unfit, fit}
 
 -- ---- a permit of supervisor v for module n, with the mask k
 
@@ -45,10 +45,11 @@ and-both true false c e = absurd (true≢false (sym e))
 and-both false b c e = absurd (true≢false (sym e))
 
 -- the supervisor that a bid is with is one of 32
-pub permit-small : (n m v : ℕ) (b : Bool) (p : ℕ → Bool) {r : Maybe} {w : ℕ} → optionOf r ≡ least p 32 → r ≡ Just w → (eqb n m && (b && eqb w v)) ≡ true → v < 32
-permit-small n m v b p {w = w} e f t =
+pub permit-small : (n m v : ℕ) (b : Bool) (near held : ℕ) {r : Maybe} {w : ℕ} → optionOf r ≡ missingIn near held → r ≡ Just w → (eqb n m && (b && eqb w v)) ≡ true → v < 32
+unfolding missingIn
+permit-small n m v b near held {w = w} e f t =
     let s : w ≡ v = eqb-true w v (and-both (eqb n m) b (eqb w v) t) in
-    omega (arith, least-some p 32 w (sym (ap optionOf (sym f) ∙ e)) .below)
+    omega (arith, least-some (λ u. bit near u && not (bit held u)) 32 w (sym (ap optionOf (sym f) ∙ e)) .below)
 
 -- no bid is with the supervisor where none is missing
 no-bid : (a b : Bool) → (a && (b && false)) ≡ false
@@ -56,7 +57,7 @@ no-bid true true = refl
 no-bid true false = refl
 no-bid false b = refl
 
-module _ (near m : ℕ) (x : Module) (v n k : ℕ) (r : Maybe) (e : optionOf r ≡ least (lackAt near (x .held)) 32) where
+module _ (near m : ℕ) (x : Module) (v n k : ℕ) (r : Maybe) (e : optionOf r ≡ missingIn near (x .held)) where
   -- the test of the bid by what the code found
   tested : (rs : List Record) → near ≡ neighbours rs m → (eqb n m && bidWith rs m x v) ≡ (eqb n m && (x .bid && isFor (optionOf r) v))
   unfolding bidWith
@@ -138,24 +139,24 @@ module _ (rs : List Record) (m : ℕ) (x : Module) {k : ℕ} {c : ModuleCalled} 
   unfolding replyBy
   reply-absent r l h = h ∙ lacking rs m x (replied x r) (callRefused x 9 0) (callRefused x 11 0) e l
 
-  module _ {t : Bool} (l : m < k) (f : t ≡ moduleFits rs m x) where
+  module _ {t : Bool} {near : ℕ} (l : m < k) (n : near ≡ neighbours rs m) (f : t ≡ fitsIn rs m near x) where
     pub deliver-unfit : (p : Parsed) → t ≡ false → c ≡ callRefused x 9 0 → c ≡ deliverBy Accepted rs m x p
     unfolding deliverBy
-    deliver-unfit p q h = h ∙ unfit rs m x (deliverIn rs m x p) (callRefused x 9 0) (absent x p) e l f q
+    deliver-unfit p q h = h ∙ unfit rs m x (deliverIn rs m x p) (callRefused x 9 0) (absent x p) e l n f q
 
     pub deliver-fit : (p : Parsed) → t ≡ true → c ≡ deliverIn rs m x p → c ≡ deliverBy Accepted rs m x p
     unfolding deliverBy
-    deliver-fit p q h = h ∙ fit rs m x (deliverIn rs m x p) (callRefused x 9 0) (absent x p) e l f q
+    deliver-fit p q h = h ∙ fit rs m x (deliverIn rs m x p) (callRefused x 9 0) (absent x p) e l n f q
 
     pub reply-unfit : (r : Replied) → t ≡ false → c ≡ callRefused x 9 0 → c ≡ replyBy Accepted rs m x r
     unfolding replyBy
-    reply-unfit r q h = h ∙ unfit rs m x (replied x r) (callRefused x 9 0) (callRefused x 11 0) e l f q
+    reply-unfit r q h = h ∙ unfit rs m x (replied x r) (callRefused x 9 0) (callRefused x 11 0) e l n f q
 
-pub reply-fit : (rs : List Record) (m : ℕ) (x : Module) (r : Replied) {k : ℕ} {a : Called} {t : Bool} → k ≡ modulesOf rs → m < k → t ≡ moduleFits rs m x → t ≡ true → a ≡ calledBy (r .reply)
+pub reply-fit : (rs : List Record) (m : ℕ) (x : Module) (r : Replied) {k near : ℕ} {a : Called} {t : Bool} → k ≡ modulesOf rs → m < k → near ≡ neighbours rs m → t ≡ fitsIn rs m near x → t ≡ true → a ≡ calledBy (r .reply)
     → (record { answer = a; state = record { own = r .own; held = x .held; received = x .received; bid = x .bid } }) ≡ replyBy Accepted rs m x r
 unfolding replyBy
-reply-fit rs m x r e l f q h =
-    ap (λ (y : Called). record { answer = y; state = withOwn x (r .own) }) h ∙ fit rs m x (replied x r) (callRefused x 9 0) (callRefused x 11 0) e l f q
+reply-fit rs m x r e l n f q h =
+    ap (λ (y : Called). record { answer = y; state = withOwn x (r .own) }) h ∙ fit rs m x (replied x r) (callRefused x 9 0) (callRefused x 11 0) e l n f q
 
 -- ---- the image's verdict
 

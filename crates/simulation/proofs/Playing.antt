@@ -36,7 +36,7 @@ use Rattle.permits.specs.declared.Served.{Served}
 use Rattle.permits.specs.declared.Served.the-variants.{Sends, Waits as ServedWaits, Refused as ServedRefused}
 use Rattle.permits.specs.Module.{moduleStep, moduleDeliver, moduleRespond, moduleTick}
 use Rattle.permits.specs.Supervisor.{supervisorStep, supervisorDeliver}
-use Rattle.module_calls.specs.Step as MStep
+use Rattle.module_steps.specs.Step as MStep
 use Rattle.supervisor_calls.specs.Step as SStep
 use Rattle.wire.specs.declared.Wire.{Wire}
 use Rattle.wire.specs.declared.Place.{Place}

@@ -95,7 +95,7 @@ fn step_module(image: &[u8], p: Parties, m: u8, buffer: &mut [u8]) -> Played
     ensures { λ r. ⌜ r ≡ moduleStepped (now (image .entry)) p m (now (buffer .entry)) ⌝ }
 {
     let x = parties::module_of(p, m);
-    let s = module_calls::step(image, m, x, &mut *buffer);
+    let s = module_steps::step(image, m, x, &mut *buffer);
     let a = s.answer;
     let after = s.state;
     let next = parties::with_module(p, m, after);

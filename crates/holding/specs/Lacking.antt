@@ -1,0 +1,13 @@
+-- Document 01, "Permits and messages": "The count of neighbours is the number of ones in the neighbour mask."
+use Prim.Native.Nat.{ℕ}
+use mathlib.Core.Path.{_≡_}
+use mathlib.Core.Bool.{Bool, true, not}
+use lib.Count.{ones}
+use lib.Dec.{eqb}
+use Rattle.bits.specs.Bit.{isSome}
+use Rattle.permits.specs.Module.{missingIn, heldIn}
+
+-- r tells whether the counts of the permits held and of the neighbours differ, and where those held fit that is whether one is missing
+pub record Lacking (near held : ℕ) (r : Bool) : Type 0 where
+  pub counted : r ≡ not (eqb (ones held) (ones near))
+  pub is : heldIn near held ≡ true → r ≡ isSome (missingIn near held)

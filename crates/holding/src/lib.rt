@@ -1,0 +1,61 @@
+// The permits that a module holds and those that it lacks, by the mask of its neighbours, and whether its state fits:
+// permits/specs/Module.antt.
+ghost use mathlib.Core.Path.{_≡_};
+ghost use Rattle.bits.specs.Bit.{optionOf};
+ghost use Rattle.reader.specs.Walk.{recordsOf};
+ghost use Rattle.permits.specs.Module.{missingIn, heldIn, fitsIn};
+ghost use Rattle.holding.specs.Lacking.{Lacking};
+use bits::Maybe;
+use permits::Module;
+
+// The lowest neighbour whose permit is not held.
+pub fn missing(near: u32, held: u32) -> Maybe
+    ensures { λ r. ⌜ optionOf r ≡ missingIn near held ⌝ }
+{
+    let theirs = near as u64;
+    let ours = held as u64;
+    bits::lowest(theirs & !ours)
+}
+
+// Whether the permits held are those of the lowest neighbours.
+pub fn held_fits(near: u32, held: u32) -> bool
+    ensures { λ r. ⌜ r ≡ heldIn near held ⌝ }
+{
+    let theirs = near as u64;
+    let ours = held as u64;
+    // Whether the permits of all neighbours below v are held.
+    let mut whole = true;
+    let mut v: u8 = 0;
+    while v < 32 {
+        let near_v = bits::has(theirs, v);
+        let held_v = bits::has(ours, v);
+        if held_v & !(near_v & whole) {
+            return false;
+        }
+        whole = (!near_v | held_v) & whole;
+        v += 1;
+    }
+    true
+}
+
+// Whether a permit is missing. Those held are neighbours, so that none is where there are as many.
+pub fn lacks(near: u32, held: u32) -> bool
+    ensures { λ r. ⌜ Lacking near held r ⌝ }
+{
+    u32::count_ones(held) != u32::count_ones(near)
+}
+
+// Whether the state fits the plan.
+pub fn fits(image: &[u8], m: u8, near: u32, x: Module) -> bool
+    ensures { λ r. ⌜ r ≡ fitsIn (recordsOf (now (image .entry))) m near x ⌝ }
+{
+    let own = x.own;
+    let held = x.held;
+    let received = x.received;
+    let bid = x.bid;
+    if held_fits(near, held) {
+        ((held != 0) | (received == 0)) & (!bid | lacks(near, held)) & fitting::fits(image, m, own)
+    } else {
+        false
+    }
+}

@@ -1,9 +1,0 @@
-use Rattle.module_calls.proofs.Held.{lacks-by}
-use Rattle.module_calls.proofs.lacks.Statement.{statement}
-use Rattle.module_calls.proofs.lacks.Tie as tie
-
-returns : tie.Need-returns
-returns c = lacks-by (c .args .near) (c .args .held) (c .fits .held .fits)
-
-pub lacks-spec : {M : Type 1} → statement M
-lacks-spec = tie.close (tie.spec returns)

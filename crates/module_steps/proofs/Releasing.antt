@@ -1,0 +1,167 @@
+-- The releases of a turn: their bytes, one after another.
+use mathlib.Core.Path.{_≡_, refl, sym, ap, ap₂, _∙_}
+use mathlib.Core.List.{List, [], _∷_, _++_, append-assoc, append-nil}
+use mathlib.Core.Bool.{Bool, true, false, cond}
+use Prim.Native.Nat.{ℕ, zero, suc, _+_, _*_, _≤_, _<_}
+use native.Mathlib.Decide.{le-ind}
+use native.Mathlib.Numerals.{add-one}
+use native.Mathlib.Omega.{arith}
+use lib.Count.{onesIn}
+use lib.Dec.{lit≤}
+use lib.ListN.{length, drop, length-append, length-drop}
+use lib.Seq.{take-append-seam, drop-append-add, drop-drop}
+use types.Run.{OneOf, miss}
+use denote.Enum.Declared.{tagOf}
+use Rattle.bits.specs.Bit.{bit}
+use Rattle.bits.proofs.Laws.{ones-in}
+use Rattle.bits.proofs.Mask.{mask-small}
+use Rattle.records.specs.declared.Record.{Record}
+use Rattle.plan.specs.Plan.{inAlphabet, neighbours, neighbourCount}
+use Rattle.modules.specs.declared.Turn.{Turn}
+use Rattle.modules.specs.declared.Turn.the-variants.{Event, Stray, Nothing}
+use Rattle.modules.proofs.Turn.{the-type}
+use Rattle.messages.specs.Message.{noEvent, messageBytes, written, fitsAt, putAt}
+use Rattle.messages.specs.Write.{Wrote}
+use Rattle.messages.specs.declared.Message.{Message}
+use Rattle.messages.specs.declared.Message.the-variants.{Release}
+use Rattle.messages.proofs.Writing.{fits}
+use Rattle.permits.specs.Module.{eventFor, releases, bytesOfMessages}
+use Rattle.holding.proofs.Held.{ones-top}
+
+-- ---- the event that a release carries
+
+module _ (rs : List Record) (v : ℕ) (t : Turn) where
+  pub event-none : OneOf (1 ∷ 2 ∷ []) (tagOf the-type t) → 255 ≡ eventFor rs v t
+  unfolding eventFor
+  event-none = go t
+    where
+      go : (x : Turn) → OneOf (1 ∷ 2 ∷ []) (tagOf the-type x) → 255 ≡ eventFor rs v x
+      go (Event e) q = absurd (miss (1 ∷ 2 ∷ []) 0 tt q)
+      go (Stray e) q = refl
+      go Nothing q = refl
+
+  module _ {a : Bool} {e : ℕ} (q : t ≡ Event e) (f : a ≡ inAlphabet rs v e) where
+    pub event-in : a ≡ true → e ≡ eventFor rs v t
+    unfolding eventFor
+    event-in h = ap (λ (b : Bool). cond b e noEvent) (sym h ∙ f) ∙ ap (eventFor rs v) (sym q)
+
+    pub event-out : a ≡ false → 255 ≡ eventFor rs v t
+    unfolding eventFor
+    event-out h = ap (λ (b : Bool). cond b e noEvent) (sym h ∙ f) ∙ ap (eventFor rs v) (sym q)
+
+pub released-by : (rs : List Record) (m v : ℕ) (t : Turn) (at : ℕ) (b : List ℕ) {e : ℕ} {r : Bool} {after : List ℕ} → e ≡ eventFor rs v t → Wrote (Release m v e) at b r after
+    → after ≡ putAt (messageBytes (Release m v (eventFor rs v t))) at b
+released-by rs m v t at b f w = w .buffer ∙ ap (λ (x : ℕ). putAt (messageBytes (Release m v x)) at b) f
+
+-- ---- bytes after bytes
+
+bytes-append : (gs hs : List Message) → bytesOfMessages (gs ++ hs) ≡ bytesOfMessages gs ++ bytesOfMessages hs
+unfolding bytesOfMessages
+bytes-append [] hs = refl
+bytes-append (g ∷ gs) hs = ap (λ (l : List ℕ). messageBytes g ++ l) (bytes-append gs hs) ∙ sym (append-assoc (messageBytes g) (bytesOfMessages gs) (bytesOfMessages hs))
+
+-- what follows an answer that is written from the buffer's start
+written-more : (p q b : List ℕ) → length p + length q ≤ length b → putAt q (length p) (written p b) ≡ written (p ++ q) b
+unfolding putAt
+written-more p q b h =
+    let l : length (written p b) ≡ length b = length-append p (drop (length p) b) ∙ simp length-drop (omega arith) in
+    let f : fitsAt q (length p) (written p b) ≡ true = fits q (length p) (written p b) (omega arith) in
+    simp f
+    (ap₂ (λ (x y : List ℕ). x ++ q ++ y) (take-append-seam p (drop (length p) b)) (drop-append-add p (drop (length p) b) (length q) ∙ drop-drop (length q) (length p) b)
+    ∙ ap (λ (n : ℕ). p ++ q ++ drop n b) (sym (length-append p q)))
+
+module _ (rs : List Record) (m : ℕ) (t : Turn) where
+  -- the releases to the neighbours below v, and the one to v
+  abbrev pub sent : ℕ → List ℕ
+  sent v = bytesOfMessages (releases rs m t v)
+
+  abbrev one : ℕ → List ℕ
+  one v = messageBytes (Release m v (eventFor rs v t))
+
+  sent-next : (v : ℕ) → sent (suc v) ≡ sent v ++ cond (bit (neighbours rs m) v) (one v) []
+  unfolding releases bytesOfMessages
+  sent-next v =
+      bytes-append (releases rs m t v) (cond (bit (neighbours rs m) v) (Release m v (eventFor rs v t) ∷ []) [])
+      ∙ ap (λ (l : List ℕ). sent v ++ l) (go (bit (neighbours rs m) v))
+    where
+      go : (b : Bool) → bytesOfMessages (cond b (Release m v (eventFor rs v t) ∷ []) []) ≡ cond b (one v) []
+      go true = append-nil (one v)
+      go false = refl
+
+  -- each is of 4 bytes
+  sent-length : (v : ℕ) → length (sent v) ≡ 4 * onesIn v (neighbours rs m)
+  sent-length zero = unfold releases bytesOfMessages onesIn in refl
+  sent-length (suc v) =
+      ap length (sent-next v) ∙ length-append (sent v) (cond b (one v) []) ∙ ap₂ _+_ (sent-length v) (go b)
+      ∙ (let e : 4 * onesIn v n + 4 * cond b 1 0 ≡ 4 * (onesIn v n + cond b 1 0) = omega arith in e) ∙ ap (λ (k : ℕ). 4 * k) (sym (ones-top v n))
+    where
+      n : ℕ
+      n = neighbours rs m
+
+      b : Bool
+      b = bit n v
+
+      go : (c : Bool) → length (cond c (one v) []) ≡ 4 * cond c 1 0
+      go true = unfold messageBytes in refl
+      go false = refl
+
+  pub sent-count : length (sent 32) ≡ 4 * neighbourCount rs m
+  sent-count = sent-length 32 ∙ ap (λ (k : ℕ). 4 * k) (ones-in 32 (neighbours rs m) (mask-small _ 32 32 (lit≤ tt)))
+
+  sent-le : (v k : ℕ) → v ≤ k → length (sent v) ≤ length (sent k)
+  sent-le v k h =
+      le-ind (λ (j : ℕ). length (sent v) ≤ length (sent j)) (omega arith)
+      (λ j l i. let e : length (sent (suc j)) ≡ length (sent j) + length (cond (bit (neighbours rs m) j) (one j) []) = ap length (sent-next j) ∙ length-append (sent j) _ in omega arith) k h
+
+  -- the loop of `release` at v: the releases below are written
+  pub record Going (b₀ b : List ℕ) (at v : ℕ) : Type 0 where
+    pub below : v ≤ 32
+    pub room : length (sent 32) ≤ length b₀
+    pub place : at ≡ length (sent v)
+    pub bytes : b ≡ written (sent v) b₀
+
+  pub begins : (b : List ℕ) → length (sent 32) ≤ length b → Going b b 0 0
+  begins b h = record { below = lit≤ tt; room = h; place = unfold releases bytesOfMessages in refl; bytes = unfold releases bytesOfMessages in refl }
+
+  module _ (b₀ b : List ℕ) (at v : ℕ) (g : Going b₀ b at v) where
+    pub long-by : length b ≡ length b₀
+    long-by = ap length (g .bytes) ∙ length-append (sent v) (drop (length (sent v)) b₀) ∙ simp length-drop (omega (arith, sent-le v 32 (g .below)))
+
+    pub done-by : 32 ≤ v → b ≡ written (sent 32) b₀
+    done-by h = g .bytes ∙ ap (λ (k : ℕ). written (sent k) b₀) (let e : v ≡ 32 = omega arith in e)
+
+    -- a says whether v is a neighbour
+    module _ (near : ℕ) {a : Bool} (e : near ≡ neighbours rs m) (f : a ≡ bit near v) (l : v < 32) where
+      next : sent (v + 1) ≡ sent v ++ cond a (one v) []
+      next = ap sent (add-one v) ∙ sent-next v ∙ ap (λ (c : Bool). sent v ++ cond c (one v) []) (ap (λ (n : ℕ). bit n v) (sym e) ∙ sym f)
+
+      module _ (h : a ≡ true) where
+        more : sent (v + 1) ≡ sent v ++ one v
+        more = next ∙ ap (λ (c : Bool). sent v ++ cond c (one v) []) h
+
+        four : length (sent v ++ one v) ≡ length (sent v) + 4
+        four = length-append (sent v) (one v) ∙ (unfold messageBytes in refl)
+
+        pub room-by : at + 4 ≤ length b₀
+        room-by = omega (arith, four, ap length more, sent-le (v + 1) 32 (omega arith))
+
+        pub on-by : {after last : List ℕ} {to : ℕ} → after ≡ putAt (one v) at b → last ≡ after → to ≡ at + 4 → Going b₀ last to (v + 1)
+        on-by w p q =
+            record {
+              below = omega arith;
+              room = g .room;
+              place = q ∙ ap (λ (i : ℕ). i + 4) (g .place) ∙ sym (ap length more ∙ four);
+              bytes =
+                  p ∙ w ∙ ap₂ (λ (i : ℕ) (l : List ℕ). putAt (one v) i l) (g .place) (g .bytes)
+                  ∙ written-more (sent v) (one v) b₀ (omega (arith, four, length-append (sent v) (one v), room-by)) ∙ ap (λ (l : List ℕ). written l b₀) (sym more);
+            }
+
+      pub off-by : {last : List ℕ} {to : ℕ} → a ≡ false → last ≡ b → to ≡ at → Going b₀ last to (v + 1)
+      off-by h p q =
+          let n : sent (v + 1) ≡ sent v = next ∙ ap (λ (c : Bool). sent v ++ cond c (one v) []) h ∙ append-nil (sent v) in
+          record {
+            below = omega arith;
+            room = g .room;
+            place = q ∙ g .place ∙ ap length (sym n);
+            bytes = p ∙ g .bytes ∙ ap (λ (l : List ℕ). written l b₀) (sym n);
+          }

@@ -1,0 +1,47 @@
+use mathlib.Core.Logic.{⊎-elim}
+use Prim.Native.Nat.{_-_}
+use native.Mathlib.Omega.{arith}
+use borrow.Author.Needs.{needs}
+use Rattle.reader.specs.Walk.{recordsOf}
+use Rattle.module_steps.proofs.Releasing.{Going, begins, long-by, done-by, room-by, on-by, off-by}
+use Rattle.module_steps.proofs.release.Statement.{statement}
+use Rattle.module_steps.proofs.release.Tie as tie
+
+abbrev Inv-loop : tie.InvT-loop
+Inv-loop image m near t buffer₀ mask at₀ v₀ buffer at v = Going (recordsOf image) m t buffer₀ buffer at v
+
+abbrev μ-loop : tie.MeasureT-loop
+μ-loop image m near t buffer₀ mask at₀ v₀ buffer at v = 32 - v
+
+loop-holds : tie.Need-loop-holds Inv-loop μ-loop
+loop-holds c = search begins
+
+has-requires : tie.Need-has-requires Inv-loop μ-loop
+has-requires c κs = search needs
+
+release-to-requires : tie.Need-release-to-requires Inv-loop μ-loop
+release-to-requires c κs = search needs
+
+add-at : tie.Need-add-at Inv-loop μ-loop
+add-at c =
+    let d = c .before .before .before .before .before in
+    let l = d .before .before .loop in
+    omega (arith, room-by _ _ _ _ _ _ _ (l .inv) _ (d .before .before .before .before .before .pre .0) (d .has .ensures) (d .before .loop-test .taken) (c .before .before .before .before .if1 .taken))
+
+add-v : tie.Need-add-v Inv-loop μ-loop
+add-v c = omega arith
+
+loop-less : tie.Need-loop-less Inv-loop μ-loop
+loop-less c = omega arith
+
+loop-again : tie.Need-loop-again Inv-loop μ-loop
+loop-again c = ⊎-elim (λ w. search on-by) (λ w. search off-by) (c .if1 .came)
+
+same-length : tie.Need-same-length Inv-loop μ-loop
+same-length c = search long-by
+
+returns : tie.Need-returns Inv-loop μ-loop
+returns c = search done-by
+
+pub release-spec : {M : Type 1} → statement M
+release-spec = tie.close (tie.spec Inv-loop μ-loop loop-holds has-requires release-to-requires add-at add-v loop-less loop-again same-length returns)
