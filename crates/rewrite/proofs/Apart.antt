@@ -13,12 +13,14 @@ use Rattle.records.specs.Kinds.{sizeOf}
 use Rattle.records.specs.Bytes.{bytesOf}
 use Rattle.records.specs.Range.{inRange}
 use Rattle.records.specs.declared.Record.{Record}
-use Rattle.reader.specs.Read.{readAt}
 use Rattle.reader.specs.Walk.{Walk, walkFrom, recordsIn, stopOf}
 use Rattle.reader.specs.declared.Read.{Read}
 use Rattle.reader.specs.declared.Read.the-variants.{Whole, Unknown, Cut, Nothing}
 use Rattle.reader.proofs.Read.{the-type}
-use Rattle.reader.proofs.Reading.{walks, next, walks-by, told-by}
+use Rattle.reader.proofs.Reading.{walks, next, walks-by, told-by, less-by as read-less}
+use Rattle.walk.specs.Place.{readOn}
+use Rattle.walk.specs.declared.Onward.{Onward}
+use Rattle.walk.proofs.Told.{read-by, place-by}
 use Rattle.writer.specs.Write.{Wrote, answerOf, bufferBy as bufferOf}
 use Rattle.writer.specs.declared.Written.{Written}
 use Rattle.writer.specs.declared.Written.the-variants.{Length as Wrote-length}
@@ -60,43 +62,46 @@ pub record Going (s b₀ b : List ℕ) (i : ℕ) : Type 0 where
 pub begins : (s b : List ℕ) → Bytes s → IsPlan s → length s ≤ length b → Going s b b 0
 begins s b g a h = record { small = g; room = h; bytes = refl; ranges = every-plan s a .sound .ranges; stops = every-plan s a .ended .stops }
 
--- from what a caller of `read_at` is told: its answer x, and which case x is
-module _ (s b₀ b : List ℕ) (i : ℕ) {x : Read} where
-  pub range-by : {r : Record} {n : ℕ} → Going s b₀ b i → x ≡ readAt s i → x ≡ Whole r n → inRange r ≡ true
+-- from what a caller of `read_on` is told: its answer y, and which case was read
+module _ (s b₀ b : List ℕ) (i : ℕ) {y : Onward} where
+  pub range-by : {r : Record} {n : ℕ} → Going s b₀ b i → y ≡ readOn s i → y .read ≡ Whole r n → inRange r ≡ true
   unfolding recordsIn
-  range-by {r} v e f = v .ranges r (subst (λ (y : Walk). r ∈ recordsIn y) (sym (walks-by s i e f)) (List·Memᴰ·head refl))
+  range-by {r} v e f = v .ranges r (subst (λ (z : Walk). r ∈ recordsIn z) (sym (walks-by s i (read-by s i e) f)) (List·Memᴰ·head refl))
 
-  pub room-by : {r : Record} {n : ℕ} → Going s b₀ b i → x ≡ readAt s i → x ≡ Whole r n → i + sizeOf r ≤ length b
+  pub room-by : {r : Record} {n : ℕ} → Going s b₀ b i → y ≡ readOn s i → y .read ≡ Whole r n → i + sizeOf r ≤ length b
   room-by {r} {n} v e f =
-      let w = told-by s i e f in
-      let t = written-read s i (v .small) (sym e ∙ f) in
+      let w = told-by s i (read-by s i e) f in
+      let t = written-read s i (v .small) (sym (read-by s i e) ∙ f) in
       let h : i ≤ length s = omega arith in
       let l : length b ≡ i + (length b₀ - i) = ap length (v .bytes) ∙ simp (length-append, length-drop, length-take-le) in
       omega arith
 
-  pub on-by : (a : List ℕ) (n : ℕ) {r : Record} → Going s b₀ b i → x ≡ readAt s i → x ≡ Whole r n → a ≡ take i b ++ bytesOf r ++ drop (i + sizeOf r) b → Going s b₀ a n
+  pub less-by : {r : Record} {n : ℕ} → y ≡ readOn s i → y .read ≡ Whole r n → length s - y .place < length s - i
+  less-by {r} {n} e f = subst (λ (k : ℕ). length s - k < length s - i) (sym (place-by s i e f)) (read-less s i n (read-by s i e) f)
+
+  pub on-by : (a : List ℕ) {r : Record} {n : ℕ} → Going s b₀ b i → y ≡ readOn s i → y .read ≡ Whole r n → a ≡ take i b ++ bytesOf r ++ drop (i + sizeOf r) b → Going s b₀ a (y .place)
   unfolding recordsIn stopOf
-  on-by a n {r} v e f p =
-      let w = told-by s i e f in
-      let t = written-read s i (v .small) (sym e ∙ f) in
+  on-by a {r} {n} v e f p =
+      let w = told-by s i (read-by s i e) f in
+      let t = written-read s i (v .small) (sym (read-by s i e) ∙ f) in
       let l : length (take i s) ≡ i = length-take-le i s (omega arith) in
       let m : i + (n - i) ≡ n = omega arith in
-      let walk = walks-by s i e f in
+      let walk = walks-by s i (read-by s i e) f in
       let before : take i b ≡ take i s = ap (take i) (v .bytes) ∙ take-at (take i s) (drop i b₀) i l in
       let after : drop (i + sizeOf r) b ≡ drop n b₀ =
       ap (drop (i + sizeOf r)) (v .bytes) ∙ ap (λ (k : ℕ). drop (k + sizeOf r) (take i s ++ drop i b₀)) (sym l) ∙ drop-append-add (take i s) (drop i b₀) (sizeOf r) ∙ rw (drop-drop, ← t .size) in
-      record {
+      subst (Going s b₀ a) (sym (place-by s i e f)) (record {
         small = v .small;
         room = v .room;
         bytes = p ∙ rw (before, after, t .bytes, ← take-add, m);
-        ranges = λ y k. v .ranges y (subst (λ (z : Walk). y ∈ recordsIn z) (sym walk) (List·Memᴰ·tail k));
+        ranges = λ d k. v .ranges d (subst (λ (z : Walk). d ∈ recordsIn z) (sym walk) (List·Memᴰ·tail k));
         stops = sym (ap stopOf walk) ∙ v .stops;
-      }
+      })
 
-  ended : Going s b₀ b i → x ≡ readAt s i → OneOf (1 ∷ 2 ∷ 3 ∷ []) (tagOf the-type x) → b ≡ s ++ drop (length s) b₀
+  ended : Going s b₀ b i → y ≡ readOn s i → OneOf (1 ∷ 2 ∷ 3 ∷ []) (tagOf the-type (y .read)) → b ≡ s ++ drop (length s) b₀
   unfolding stopOf
   ended v e t =
-      let z : i ≡ length s = sym (ap stopOf (walks s i ∙ ap (next s i) (sym e)) ∙ stopped x t) ∙ v .stops in
+      let z : i ≡ length s = sym (ap stopOf (walks s i ∙ ap (next s i) (sym (read-by s i e))) ∙ stopped (y .read) t) ∙ v .stops in
       v .bytes ∙ rw (z, take-length)
     where
       stopped : (x : Read) → OneOf (1 ∷ 2 ∷ 3 ∷ []) (tagOf the-type x) → stopOf (next s i x) ≡ i
@@ -105,10 +110,10 @@ module _ (s b₀ b : List ℕ) (i : ℕ) {x : Read} where
       stopped Cut o = refl
       stopped Nothing o = refl
 
-  pub done-by : IsPlan s → Going s b₀ b i → x ≡ readAt s i → OneOf (1 ∷ 2 ∷ 3 ∷ []) (tagOf the-type x) → b ≡ planBytes s ++ drop (length s) b₀
+  pub done-by : IsPlan s → Going s b₀ b i → y ≡ readOn s i → OneOf (1 ∷ 2 ∷ 3 ∷ []) (tagOf the-type (y .read)) → b ≡ planBytes s ++ drop (length s) b₀
   done-by a v e t = ended v e t ∙ rw (own-bytes s (v .small) a)
 
-  pub long-by : Going s b₀ b i → x ≡ readAt s i → OneOf (1 ∷ 2 ∷ 3 ∷ []) (tagOf the-type x) → length b ≡ length b₀
+  pub long-by : Going s b₀ b i → y ≡ readOn s i → OneOf (1 ∷ 2 ∷ 3 ∷ []) (tagOf the-type (y .read)) → length b ≡ length b₀
   long-by v e t = ap length (ended v e t) ∙ simp (length-append, length-drop) (omega arith)
 
 -- from what the code of `rewrite` is told: the verdict v

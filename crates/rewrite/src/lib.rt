@@ -34,11 +34,13 @@ fn put_records(image: &[u8], buf: &mut [u8])
 {
     let mut i: usize = 0;
     loop {
-        let Read::Whole(r, next) = reader::read_at(image, i) else {
+        let on = walk::read_on(image, i);
+        let read = on.read;
+        let Read::Whole(r, _) = read else {
             return;
         };
         put_at(r, &mut *buf, i);
-        i = next;
+        i = on.place;
     }
 }
 

@@ -1,8 +1,7 @@
 use Prim.Native.Nat.{_-_}
 use lib.ListN.{length}
 use borrow.Author.Needs.{needs}
-use Rattle.reader.proofs.Reading.{less-by}
-use Rattle.rewrite.proofs.Apart.{Going, begins, range-by, room-by, on-by, done-by, long-by}
+use Rattle.rewrite.proofs.Apart.{Going, begins, range-by, room-by, less-by, on-by, done-by, long-by}
 use Rattle.rewrite.proofs.put_records.Statement.{statement}
 use Rattle.rewrite.proofs.put_records.Tie as tie
 
@@ -15,11 +14,11 @@ abbrev μ-loop : tie.MeasureT-loop
 loop-holds : tie.Need-loop-holds Inv-loop μ-loop
 loop-holds c = begins _ _ (λ j. c .before .shared-slice-known .given j .fits) (c .before .before .pre .0) (c .before .before .pre .1)
 
-read-at-requires : tie.Need-read-at-requires Inv-loop μ-loop
-read-at-requires c κs = search needs
+read-on-requires : tie.Need-read-on-requires Inv-loop μ-loop
+read-on-requires c κs = search needs
 
-enum-known-r : tie.Need-enum-known-r Inv-loop μ-loop
-enum-known-r c = search needs
+enum-known-read : tie.Need-enum-known-read Inv-loop μ-loop
+enum-known-read c = search needs
 
 same-length : tie.Need-same-length Inv-loop μ-loop
 same-length c = search long-by
@@ -43,8 +42,8 @@ put-records-spec =
     Inv-loop
     μ-loop
     loop-holds
-    read-at-requires
-    enum-known-r
+    read-on-requires
+    enum-known-read
     same-length
     returns
     put-at-requires

@@ -1,0 +1,30 @@
+-- Document 01: "A reader over the plan image keeps its place between records."
+use Prim.Native.Nat.{ℕ}
+use mathlib.Core.Path.{_≡_}
+use mathlib.Core.List.{List}
+use denote.Ref.{RefT, now}
+use Rattle.reader.specs.Read.{readAt}
+use Rattle.reader.specs.declared.Read.{Read}
+use Rattle.reader.specs.declared.Read.the-variants.{Whole, Unknown, Cut, Nothing}
+use Rattle.walk.specs.declared.Reader.{Reader}
+use Rattle.walk.specs.declared.Onward.{Onward}
+
+-- a reader at the image's start
+abbrev pub started : RefT (List ℕ) → Reader
+started s = record { image = s; offset = 0 }
+
+-- the place after a read at an offset: behind a whole record, else where it was
+unfoldable pub placeAfter : ℕ → Read → ℕ
+placeAfter i (Whole r n) = n
+placeAfter i Unknown = i
+placeAfter i Cut = i
+placeAfter i Nothing = i
+
+-- what stands at an offset, and the place after it
+abbrev pub readOn : List ℕ → ℕ → Onward
+readOn s i = record { read = readAt s i; place = placeAfter i (readAt s i) }
+
+-- a reader gives what stands at its place, and goes on to the place after it, over the same image
+pub record Moved (r : Reader) (x : Read) (after : Reader) : Type 0 where
+  pub read : x ≡ readAt (now (r .image)) (r .offset)
+  pub moved : after ≡ record { image = r .image; offset = placeAfter (r .offset) x }
