@@ -1,8 +1,9 @@
 -- `==` on values in eighths, and what the functions answer.
 use mathlib.Core.Path.{_≡_, refl, sym, ap, _∙_, subst}
 use Prim.Native.Nat.{ℕ, _+_, _*_, _^_, _≤_, _<_}
+use native.Mathlib.Nat.{add-zero}
 use native.Mathlib.Omega.{arith}
-use mathlib.Core.Bool.{Bool, true, false, not, _&&_}
+use mathlib.Core.Bool.{Bool, true, false, not, _&&_, and-true}
 use lib.Dec.{T, eqb, ltb, leb, lit<, leb→le, ltb→lt, eqb→eq}
 use lib.Ieee.{Float, fin, binary64, up, down, ofBits, eq, lt, add, nanBits}
 use lib.Ieee.Fits.{and-l, and-r}
@@ -10,7 +11,7 @@ use borrow.Author.Tests.{ltb-false, le-ltb, eqb-true, eqb-false, eq-eqb, ne-eqb}
 use denote.Floats.{passes}
 use Rattle.litres.specs.Eighths.{eighths, isEighths, count, targetOk}
 use Rattle.litres.proofs.Laws.{lt-counts, add-counts, target-is-eighths, target-not-nan, eighths-is-eighths, count-eighths}
-use Rattle.water.specs.Water.{flowOk, added, sum, Summed, Compared, isZero, reached, running}
+use Rattle.water.specs.Water.{flowOk, added, sum, brought, Summed, Compared, isZero, reached, running}
 use Rattle.water.specs.declared.Water.{Water}
 use Rattle.water.specs.declared.Flow.{Flow}
 use Rattle.water.specs.declared.Flow.the-variants.{Litres, NoSensor}
@@ -35,16 +36,12 @@ by-order p q a b h k = go (eqb a b) refl
             let y = ltb-false b a (sym k ∙ le-ltb q p (omega arith)) in
             omega arith
 
-and-on : (b : Bool) → (b && true) ≡ b
-and-on true = refl
-and-on false = refl
-
 eq-counts : (x y : Float) → T (isEighths x) → T (isEighths y) → eq x y ≡ eqb (count x) (count y)
 unfolding eq lt isEighths
 eq-counts (fin false m e) (fin false n d) t u =
     let P : ℕ = m * up e * down d in
     let Q : ℕ = n * up d * down e in
-    and-on (eqb P Q)
+    and-true (eqb P Q)
     ∙ by-order P Q (count (fin false m e)) (count (fin false n d)) (lt-counts (fin false m e) (fin false n d) t u) (lt-counts (fin false n d) (fin false m e) u t)
 
 -- ---- what the functions answer
@@ -86,7 +83,7 @@ running-test bits w h = go (isEighths (w .target)) (isEighths (w .total)) refl r
     go true true p q =
         let i : T (isEighths (w .target)) = passes _ p in
         let j : T (isEighths (w .total)) = passes _ q in
-        simp (h, eq-counts (w .target) t i (target-is-eighths bits (passes _ h)), lt-counts (w .total) (w .target) j i) (sym (ap (λ (b : Bool). b && ltb (count (w .total)) (count (w .target))) (and-on n)))
+        simp (h, eq-counts (w .target) t i (target-is-eighths bits (passes _ h)), lt-counts (w .total) (w .target) j i) (sym (ap (λ (b : Bool). b && ltb (count (w .total)) (count (w .target))) (and-true n)))
 
 pub running-by : (bits : ℕ) (w : Water) (o a b : Bool) → o ≡ targetOk bits → o ≡ true → a ≡ isEighths (w .target) → b ≡ isEighths (w .total)
     → (a && b && eq (w .target) (ofBits binary64 bits) && lt (w .total) (w .target)) ≡ running bits w
@@ -102,8 +99,22 @@ sum-exact w (Litres x) t u =
     ap (λ (s : Float). record { target = w .target; total = s }) (add-counts (w .total) x t (and-l (isEighths x) (leb (count x) 512) u))
 sum-exact w NoSensor t u = refl
 
+-- and its eighths are those of both
+added-counts : (w : Water) (f : Flow) → T (flowOk f) → count (w .total) < 2 ^ 20 → count (added w f .total) ≡ count (w .total) + brought f
+unfolding added flowOk
+added-counts w (Litres x) u l =
+    let some : count x ≤ 512 = leb→le (count x) 512 (search both) in
+    count-eighths (count (w .total) + count x) (omega arith)
+added-counts w NoSensor u l = sym (add-zero (count (w .total)))
+
 summed : (w : Water) (f g : Flow) → f ≡ g → Summed w f (sum w g)
-summed w f g e = let i : sum w g ≡ sum w f = ap (sum w) (sym e) in record { is = i; exact = λ t u. i ∙ sum-exact w f t u }
+summed w f g e =
+    let i : sum w g ≡ sum w f = ap (sum w) (sym e) in
+    record {
+      is = i;
+      exact = λ t u. i ∙ sum-exact w f t u;
+      whole = λ t u l. ap (λ (v : Water). count (v .total)) (i ∙ sum-exact w f t u) ∙ added-counts w f u l;
+    }
 
 pub summed-litres : (w : Water) (f : Flow) (x : Float) → f ≡ Litres x → Summed w f (record { target = w .target; total = add binary64 (w .total) x })
 unfolding sum

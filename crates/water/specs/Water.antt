@@ -1,5 +1,5 @@
 -- Document 01, "Procedures and water".
-use Prim.Native.Nat.{ℕ, _+_}
+use Prim.Native.Nat.{ℕ, _+_, _^_, _<_}
 use mathlib.Core.Path.{_≡_}
 use mathlib.Core.Bool.{Bool, true, cond, _&&_}
 use lib.Dec.{T, eqb, leb, ltb}
@@ -53,10 +53,17 @@ unfoldable pub sum : Water → Flow → Water
 sum w (Litres x) = record { target = w .target; total = add binary64 (w .total) x }
 sum w NoSensor = w
 
--- r is the water with the reading added in f64, and of a total in eighths that is the exact sum
+-- the eighths that a reading brings
+abbrev pub brought : Flow → ℕ
+brought (Litres x) = count x
+brought NoSensor = 0
+
+-- r is the water with the reading added in f64, which of a total in eighths is `added`; and there the counts of eighths add up, without
+-- rounding, as long as the total is below the largest target
 pub record Summed (w : Water) (f : Flow) (r : Water) : Type 0 where
   pub is : r ≡ sum w f
   pub exact : T (isEighths (w .total)) → T (flowOk f) → r ≡ added w f
+  pub whole : T (isEighths (w .total)) → T (flowOk f) → count (w .total) < 2 ^ 20 → count (r .total) ≡ count (w .total) + brought f
 
 -- b tells whether the total is at or above the target in f64, and in eighths that is whether the target is reached
 pub record Compared (w : Water) (b : Bool) : Type 0 where
