@@ -3,10 +3,14 @@ use Prim.Native.Nat.{ℕ, suc, _+_, _*_, _≤_}
 use native.Mathlib.Omega.{arith}
 use mathlib.Core.Path.{_≡_, refl, sym, ap, _∙_}
 use mathlib.Core.List.{List, [], _∷_, _++_}
-use lib.ListN.{length, take, length-append}
+use mathlib.Core.Bool.{Bool, true, false, cond}
+use lib.ListN.{length, length-append}
 use types.Run.{OneOf, miss}
 use denote.Enum.Declared.{tagOf}
+use Rattle.bits.specs.declared.Maybe.{Maybe}
 use Rattle.bits.specs.declared.Maybe.the-variants.{Just, Nothing}
+use Rattle.records.specs.declared.Record.{Record}
+use Rattle.rules.specs.LookUp.{controllable}
 use Rattle.modules.specs.declared.Turn.{Turn}
 use Rattle.modules.specs.declared.Turn.the-variants.{Event, Stray, Nothing as NoTurn}
 use Rattle.modules.proofs.Turn as TurnType
@@ -27,7 +31,7 @@ use Rattle.script.proofs.Texts.{appended-text}
 use Rattle.simulation.specs.declared.Answer.{Answer}
 use Rattle.simulation.specs.declared.Answer.the-variants.{Module, Supervisor, Delivery, NoMessage, Response, Tick, Misshapen}
 use Rattle.simulation.proofs.Answer as AnswerType
-use Rattle.answers.specs.Said.{deliveryLine, answerLine, eventOf, stepEvent, fired}
+use Rattle.answers.specs.Said.{deliveryLine, answerLine, eventOf, stepEvent, fired, commandOf, command}
 use Rattle.simulation.proofs.Playing.{message-length}
 
 -- ---- a message's bytes are few
@@ -133,3 +137,19 @@ module _ {a : Answer} {m : ℕ} (s : Stepped) (i : a ≡ Module m s) where
     pub fired-event : {e : ℕ} → t ≡ Event e → Just e ≡ fired a
     unfolding fired stepEvent eventOf
     fired-event q = ap eventOf (sym q) ∙ ap stepEvent (sym j) ∙ ap fired (sym i)
+
+-- ---- the command
+
+module _ (rs : List Record) (a : Answer) {m : Maybe} (e : m ≡ fired a) where
+  pub command-none : m ≡ Nothing → Nothing ≡ command rs a
+  unfolding commandOf
+  command-none q = ap (commandOf rs) (sym q ∙ e)
+
+  module _ {n : ℕ} {t : Bool} (q : m ≡ Just n) (f : t ≡ controllable rs n) where
+    pub command-is : t ≡ true → Just n ≡ command rs a
+    unfolding commandOf
+    command-is h = ap (λ (b : Bool). cond b (Just n) Nothing) (sym h ∙ f) ∙ ap (commandOf rs) (sym q ∙ e)
+
+    pub command-not : t ≡ false → Nothing ≡ command rs a
+    unfolding commandOf
+    command-not h = ap (λ (b : Bool). cond b (Just n) Nothing) (sym h ∙ f) ∙ ap (commandOf rs) (sym q ∙ e)

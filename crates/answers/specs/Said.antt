@@ -6,6 +6,8 @@ use lib.ListN.{set, replicate}
 use lib.Dec.{leb, ltb}
 use Rattle.bits.specs.declared.Maybe.{Maybe}
 use Rattle.bits.specs.declared.Maybe.the-variants.{Just, Nothing}
+use Rattle.records.specs.declared.Record.{Record}
+use Rattle.rules.specs.LookUp.{controllable}
 use Rattle.modules.specs.declared.Turn.{Turn}
 use Rattle.modules.specs.declared.Turn.the-variants.{Event, Stray, Nothing as NoTurn}
 use Rattle.modules.specs.declared.Called.{Called}
@@ -24,6 +26,16 @@ unfoldable pub deliveryLine : Message → Called → List ℕ
 deliveryLine g Done = deliveredLine (messageBytes g)
 deliveryLine g (Refused n o) = refusedLine n
 
+-- "any other is 10"
+abbrev pub lineNumber : Answer → ℕ
+lineNumber (Module m a) = 0
+lineNumber (Supervisor v a) = 0
+lineNumber (Delivery g a) = 0
+lineNumber NoMessage = 0
+lineNumber (Response m e a) = 0
+lineNumber (Tick m a) = 0
+lineNumber Misshapen = 10
+
 unfoldable pub answerLine : Answer → List ℕ
 answerLine (Module m a) = steppedLine m a
 answerLine (Supervisor v a) = servedLine v a
@@ -31,7 +43,7 @@ answerLine (Delivery g a) = deliveryLine g a
 answerLine NoMessage = nothingLine
 answerLine (Response m e a) = responseLine m e a
 answerLine (Tick m a) = tickLine m a
-answerLine Misshapen = refusedLine 10
+answerLine Misshapen = refusedLine (lineNumber Misshapen)
 
 -- "The record lists the events fired, in order"
 unfoldable pub eventOf : Turn → Maybe
@@ -53,6 +65,14 @@ fired NoMessage = Nothing
 fired (Response m e a) = Nothing
 fired (Tick m a) = Nothing
 fired Misshapen = Nothing
+
+-- "commands are its controllable ones"
+unfoldable pub commandOf : List Record → Maybe → Maybe
+commandOf rs (Just e) = cond (controllable rs e) (Just e) Nothing
+commandOf rs Nothing = Nothing
+
+abbrev pub command : List Record → Answer → Maybe
+command rs a = commandOf rs (fired a)
 
 -- a row of events, at most 1024 to a line
 abbrev pub noRow : Row

@@ -1,9 +1,10 @@
 // What the simulation prints of what a line of its script got, and the rows of events: specs/Said.antt.
 ghost use mathlib.Core.Path.{_≡_};
+ghost use Rattle.reader.specs.Walk.{recordsOf};
 ghost use Rattle.messages.specs.Message.{messageBytes};
 ghost use Rattle.script.specs.Text.{textOf};
 ghost use Rattle.script.specs.Said.{sentLine, deliveredLine};
-ghost use Rattle.answers.specs.Said.{deliveryLine, answerLine, fired, noRow, rowFull, withNumber};
+ghost use Rattle.answers.specs.Said.{deliveryLine, answerLine, fired, command, noRow, rowFull, withNumber};
 use bits::Maybe;
 use messages::Message;
 use modules::Called;
@@ -77,6 +78,20 @@ pub fn fired(a: Answer) -> Maybe
         return Maybe::Nothing;
     };
     Maybe::Just(e)
+}
+
+// The command, if the event that fired is one.
+pub fn command(image: &[u8], a: Answer) -> Maybe
+    ensures { λ r. ⌜ r ≡ command (recordsOf (now (image .entry))) a ⌝ }
+{
+    let Maybe::Just(e) = fired(a) else {
+        return Maybe::Nothing;
+    };
+    if plan::controllable(image, e) {
+        Maybe::Just(e)
+    } else {
+        Maybe::Nothing
+    }
 }
 
 // ---- rows of events

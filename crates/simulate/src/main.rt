@@ -42,8 +42,11 @@ fn say_row(word: &[u8], r: Row) {
     io::write_all(1, b"\n");
 }
 
-// The row with an event more; a full one is printed first.
-fn gathered(word: &[u8], r: Row, e: u8) -> Row {
+// The row with one event more, if there is one; a full row is printed first.
+fn gathered(word: &[u8], r: Row, event: Maybe) -> Row {
+    let Maybe::Just(e) = event else {
+        return r;
+    };
     if answers::is_full(r) {
         say_row(word, r);
         answers::with_number(answers::no_row(), e)
@@ -64,18 +67,13 @@ fn say_sent(w: Wire, from: usize) {
     }
 }
 
-// The rows with the event that fired, if one did.
+// The rows with the event that fired and the command, if there are any.
 fn recorded(image: &[u8], t: Trial, a: Answer) -> Trial {
-    let Maybe::Just(e) = answers::fired(a) else {
-        return t;
-    };
     let fired = t.fired;
     let commands = t.commands;
     let mut next = t;
-    next.fired = gathered(b"record", fired, e);
-    if plan::controllable(image, e) {
-        next.commands = gathered(b"commands", commands, e);
-    }
+    next.fired = gathered(b"record", fired, answers::fired(a));
+    next.commands = gathered(b"commands", commands, answers::command(image, a));
     next
 }
 
