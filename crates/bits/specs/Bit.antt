@@ -24,12 +24,13 @@ everyEvent m p = allBelow (λ e. not (bit m e) || p e) 64
 unfoldable pub putBit : ℕ → ℕ → Bool → ℕ
 putBit m e on = cond (ltb e 64) (cond on (bitOr m (2 ^ e)) (bitAnd m (2 ^ 64 - 1 - 2 ^ e))) m
 
--- the lowest number below n that passes the test p
+-- what was found, or else n where the test is passed there
 unfoldable pub orElse : Option ℕ → Bool → ℕ → Option ℕ
 orElse (some i) t n = some i
 orElse none true n = some n
 orElse none false n = none
 
+-- the lowest number below n that passes the test p
 unfoldable pub least : (ℕ → Bool) → ℕ → Option ℕ
 least p zero = none
 least p (suc n) = orElse (least p n) (p n) n

@@ -38,7 +38,7 @@ stateOf states v = getD states v 0
 abbrev pub stateAt : Device → ℕ → ℕ
 stateAt d v = stateOf (d .supervisors) v
 
--- the list f 0, f 1, .. of n members
+-- the list f i, f (i + 1), .. of n members
 unfoldable pub listFrom : {A : Type 0} → (ℕ → A) → ℕ → ℕ → List A
 listFrom f i zero = []
 listFrom f i (suc n) = f i ∷ listFrom f (suc i) n

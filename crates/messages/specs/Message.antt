@@ -28,10 +28,11 @@ short answer buffer = ltb (length buffer) (length answer)
 abbrev pub written : List ℕ → List ℕ → List ℕ
 written answer buffer = answer ++ drop (length answer) buffer
 
--- a message put at an offset of a buffer, where there is room; else the buffer stays
+-- whether there is room for bytes at an offset of a buffer
 unfoldable pub fitsAt : List ℕ → ℕ → List ℕ → Bool
 fitsAt bytes at buffer = leb (at + length bytes) (length buffer)
 
+-- the bytes put there, if there is room; else the buffer stays
 unfoldable pub putAt : List ℕ → ℕ → List ℕ → List ℕ
 putAt bytes at buffer = cond (fitsAt bytes at buffer) (take at buffer ++ bytes ++ drop (at + length bytes) buffer) buffer
 

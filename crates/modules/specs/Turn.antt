@@ -46,11 +46,11 @@ turnOn rs m k own [] =
 unfoldable pub turnOf : List Record → ℕ → ℕ → Own → Turned
 turnOf rs m k own = turnOn rs m k own (queueOf own)
 
--- "A wish is a queued response, or an idle procedure where the present state has a controllable move."
 unfoldable pub queuedAny : List ℕ → Bool
 queuedAny [] = false
 queuedAny (e ∷ q) = true
 
+-- "A wish is a queued response, or an idle procedure where the present state has a controllable move."
 unfoldable pub wish : List Record → ℕ → Own → Bool
 wish rs m own =
     queuedAny (queueOf own) || (not (own .procedure .running) && someBelow (hasCommand rs m (own .state)) 64)

@@ -35,7 +35,7 @@ use Rattle.permits.specs.declared.Stepped.{Stepped}
 use Rattle.permits.specs.declared.Stepped.the-variants.{Turned as Turns, Bids, Waits, Refused as StepRefused}
 use Rattle.permits.specs.Names.{named}
 
--- the lowest neighbour whose permit is not held, by the masks of the neighbours and of those held
+-- "its lowest neighbour not held", by the masks of the neighbours and of those held
 unfoldable pub missingIn : ℕ → ℕ → Option ℕ
 missingIn near held = least (λ v. bit near v && not (bit held v)) 32
 
@@ -200,10 +200,11 @@ moduleRespond image m x e = replyBy (verdictOf image) (recordsOf image) m x (res
 abbrev pub moduleTick : List ℕ → ℕ → Module → Flow → ModuleCalled
 moduleTick image m x f = replyBy (verdictOf image) (recordsOf image) m x (tickOf (recordsOf image) f (x .own))
 
--- "At the start all are in their initial states, permits are home, nothing is noted, queued or bid"
+-- a refused start gives the all-zero state
 abbrev pub emptyModule : Module
 emptyModule = record { own = emptyOwn; held = 0; received = 0; bid = false }
 
+-- "At the start all are in their initial states, permits are home, nothing is noted, queued or bid"
 abbrev pub startModule : List Record → ℕ → Module
 startModule rs m = record { own = startOwn rs m; held = 0; received = 0; bid = false }
 

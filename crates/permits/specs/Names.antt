@@ -1,4 +1,4 @@
--- What a message names. Document 01, "Numbers for what is turned down", 11 and 12.
+-- What a message names. Document 01, "Numbers for what is turned down", 11.
 use Prim.Native.Nat.{ℕ}
 use mathlib.Core.List.{List}
 use mathlib.Core.Bool.{Bool, _&&_, _||_}

@@ -136,10 +136,11 @@ deliverBy (Refused n o) rs v y g = callRefused y n o
 abbrev pub supervisorDeliver : List ℕ → ℕ → Supervisor → List ℕ → SupervisorCalled
 supervisorDeliver image v y bytes = deliverBy (verdictOf image) (recordsOf image) v y (parse bytes)
 
--- "permits are home, nothing is noted"; "the last served (15 at the start)"
+-- a refused start gives the all-zero state
 abbrev pub emptySupervisor : Supervisor
 emptySupervisor = record { state = 0; noted = 0; holder = Home; last = 0 }
 
+-- "permits are home, nothing is noted"; "the last served (15 at the start)"
 abbrev pub startSupervisor : List Record → ℕ → Supervisor
 startSupervisor rs v = record { state = supervisorInitial rs v; noted = 0; holder = Home; last = 15 }
 

@@ -17,7 +17,7 @@ use Rattle.records.specs.Key.{keyOf, sameKey}
 use Rattle.records.specs.declared.Record.{Record}
 use Rattle.records.specs.declared.RecordKey.{RecordKey}
 use Rattle.reader.specs.Read.{recordOf, readAt, readNumber}
-use Rattle.reader.specs.Walk.{Walk, more, stop, walkOf, walkFrom, recordsIn, Stopped, StopsAsRead}
+use Rattle.reader.specs.Walk.{Walk, more, stop, walkOf, walkFrom, recordsIn, Stopped, StopsAsRead, GoesOnAsRead}
 use Rattle.reader.specs.Find.{findIn}
 use Rattle.reader.specs.declared.Read.{Read}
 use Rattle.reader.specs.declared.Read.the-variants.{Whole, Unknown, Cut, Nothing}
@@ -114,6 +114,9 @@ module _ (s : List ℕ) (i : ℕ) where
       go : (a : Bool) → leb (length s) i ≡ a → walkFrom s i ≡ next s i (readAt s i)
       go true p = rw (reads-nothing s i (leb-true _ _ p), drop-of-length-le s (leb-true _ _ p))
       go false p = rw (drop-cons s i 0 (leb-false _ _ p), p) (here (getD s i 0) _ _ refl refl)
+
+pub goes-on-as-read : GoesOnAsRead
+goes-on-as-read s i r n e = walks s i ∙ ap (next s i) e
 
 -- where a read is refused, the walk stops as it says
 pub stops-as-read : StopsAsRead

@@ -23,6 +23,7 @@ recordOf k b =
     (cond (eqb k 0x16) (Disabling (getD b 0 0) (getD b 1 0) (wordAt b 2))
     (cond (eqb k 0x17) (Step (getD b 0 0) (getD b 1 0) (getD b 2 0) (wordAt b 3)) End)))))))
 
+-- "A record is one byte of kind, then a body whose length the kind alone fixes."
 unfoldable pub readAt : List ℕ → ℕ → Read
 readAt s at =
     cond (leb (length s) at) Nothing
@@ -38,9 +39,9 @@ readNumber Unknown = 2
 readNumber Cut = 3
 readNumber Nothing = 3
 
--- the offset: "that of the faulty record's kind byte, the image length where no record is left"
+-- the offset: "that of the faulty record's kind byte, the image length where no record is left"; 0 for a whole record
 abbrev pub readOffset : List ℕ → ℕ → Read → ℕ
-readOffset s at (Whole r n) = at
+readOffset s at (Whole r n) = 0
 readOffset s at Unknown = at
 readOffset s at Cut = at
 readOffset s at Nothing = length s

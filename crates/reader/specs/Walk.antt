@@ -9,6 +9,7 @@ use Rattle.records.specs.Kinds.{bodyLen, noLen}
 use Rattle.reader.specs.Read.{recordOf, readAt, readNumber, readOffset}
 use Rattle.records.specs.declared.Record.{Record}
 use Rattle.reader.specs.declared.Read.{Read}
+use Rattle.reader.specs.declared.Read.the-variants.{Whole, Unknown, Cut, Nothing}
 
 -- a whole record at an offset, and what follows it; or the number and the offset at which nothing more can be read: 2 for an unknown
 -- kind, 3 for a cut body and where no record is left
@@ -18,10 +19,10 @@ pub data Walk : Type 0 where
 
 -- the bytes stand at offset o, and the first n of them are skipped
 unfoldable pub walkOf : ℕ → ℕ → List ℕ → Walk
-walkOf n o [] = stop 3 o
+walkOf n o [] = stop (readNumber Nothing) o
 walkOf zero o (k ∷ bs) =
-    cond (eqb (bodyLen k) noLen) (stop 2 o)
-    (cond (leb (bodyLen k) (length bs)) (more o (recordOf k bs) (walkOf (bodyLen k) (suc o) bs)) (stop 3 o))
+    cond (eqb (bodyLen k) noLen) (stop (readNumber Unknown) o)
+    (cond (leb (bodyLen k) (length bs)) (more o (recordOf k bs) (walkOf (bodyLen k) (suc o) bs)) (stop (readNumber Cut) o))
 walkOf (suc n) o (b ∷ bs) = walkOf n (suc o) bs
 
 -- the walk of an image from an offset on
@@ -50,3 +51,7 @@ pub record Stopped (s : List ℕ) (i : ℕ) (r : Read) : Type 0 where
 
 abbrev pub StopsAsRead : Type 0
 StopsAsRead = (s : List ℕ) (i : ℕ) → (readNumber (readAt s i) ≡ 0 → ⊥) → Stopped s i (readAt s i)
+
+-- where it gives a record, the walk has that record and goes on behind it
+abbrev pub GoesOnAsRead : Type 0
+GoesOnAsRead = (s : List ℕ) (i : ℕ) (r : Record) (n : ℕ) → readAt s i ≡ Whole r n → walkFrom s i ≡ more i r (walkFrom s n)

@@ -82,7 +82,7 @@ supervisorStepped image p v b =
 
 -- ---- deliveries, responses and ticks
 
--- a message that was taken is "under way until delivered"
+-- a message that was taken is under way no more, a refused one still is
 unfoldable pub wireAfter : Wire → ℕ → Called → Wire
 wireAfter w k Done = without w k
 wireAfter w k (CallRefused n o) = w
