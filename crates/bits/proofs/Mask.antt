@@ -1,6 +1,6 @@
 -- The mask of the numbers that pass a test.
 use mathlib.Core.Path.{_≡_, refl, sym, ap, ap₂, _∙_}
-use mathlib.Core.Bool.{Bool, true, false, cond, not, _&&_, _||_, true≢false}
+use mathlib.Core.Bool.{Bool, true, false, cond, not, _&&_, _||_, true≢false, or-false, and-true}
 use mathlib.Core.Option.{Option, none, some}
 use Prim.Native.Nat.{ℕ, zero, suc, _≤_, _<_, _^_}
 use native.Mathlib.Omega.{arith}
@@ -21,20 +21,12 @@ mask-bit p (suc n) v = one (mask-bit p n v) (p n) refl ∙ two (eqb v n) refl
   where
     one : bit (maskOf p n) v ≡ (ltb v n && p v) → (b : Bool) → p n ≡ b → bit (cond b (bitOr (maskOf p n) (2 ^ n)) (maskOf p n)) v ≡ ((ltb v n && p v) || (b && eqb v n))
     one ih true q = bit-or (maskOf p n) (2 ^ n) v ∙ ap₂ _||_ ih (bit-pow n v)
-    one ih false q = ih ∙ sym (or-off (ltb v n && p v))
-      where
-        or-off : (a : Bool) → (a || false) ≡ a
-        or-off true = refl
-        or-off false = refl
+    one ih false q = ih ∙ sym (or-false (ltb v n && p v))
 
     two : (b : Bool) → eqb v n ≡ b → ((ltb v n && p v) || (p n && eqb v n)) ≡ (ltb v (suc n) && p v)
     two true q =
         let e : v ≡ n = eqb-true v n q in
         ap₂ (λ (a b : Bool). (a && p v) || (p n && b)) (le-ltb v n (omega arith)) q ∙ and-true (p n) ∙ ap p (sym e) ∙ sym (ap (λ (a : Bool). a && p v) (lt-ltb v (suc n) (omega arith)))
-      where
-        and-true : (a : Bool) → (a && true) ≡ a
-        and-true true = refl
-        and-true false = refl
     two false q = three (ltb v n) refl
       where
         off : (a b : Bool) → (a || (b && false)) ≡ a

@@ -4,9 +4,9 @@ use native.Mathlib.Nat.{add-zero, add-suc, suc-add, zero-add}
 use native.Mathlib.Numerals.{add-one}
 use native.Mathlib.Omega.{arith}
 use mathlib.Core.Path.{_≡_, refl, sym, ap, ap₂, _∙_, subst}
-use mathlib.Core.List.{List, [], _∷_, _++_, map, append-assoc, append-nil}
+use mathlib.Core.List.{List, [], _∷_, _++_, append-assoc, append-nil}
 use mathlib.Core.Bool.{Bool, true, false, _&&_, true≢false}
-use lib.ListN.{length, getD, set, replicate, length-append, length-map}
+use lib.ListN.{length, getD, set, replicate, length-append}
 use lib.Bits.{bitOr}
 use lib.Seq.{set-append-seam}
 use Rattle.bits.specs.Bit.{allBelow}
@@ -16,10 +16,6 @@ use Rattle.modules.specs.declared.Turn.{Turn}
 use Rattle.modules.specs.declared.Turn.the-variants.{Event}
 use Rattle.device.specs.declared.Device.{Device}
 use Rattle.device.specs.Device.{stateOf, listFrom, ownSlotFits, stateSlotFits, shownBy, ledBy, statesAfter}
-
--- the length of an array of structs, from what a function is handed of it
-pub mapped : {X Y : Type 0} (f : X → Y) (l : List X) (n : ℕ) → length (map f l) ≡ n → length l ≡ n
-mapped f l n e = sym (length-map l f) ∙ e
 
 -- ---- every slot below i passes
 
@@ -93,12 +89,6 @@ module _ {A : Type 0} (d : A) where
   pub same-slots : (l : List A) → listFrom (λ v. getD l v d) 0 (length l) ≡ l
   same-slots l = slots-from [] l
 
-  -- past the last slot
-  pub no-slot : (l : List A) (i : ℕ) → length l ≤ i → getD l i d ≡ d
-  no-slot [] i h = refl
-  no-slot (x ∷ l) zero h = absurd (omega arith)
-  no-slot (x ∷ l) (suc i) h = no-slot l i (omega arith)
-
   -- a slot, whatever stands for what is not there
   pub any-slot : (b : A) (l : List A) (i j : ℕ) → i ≡ j → j < length l → getD l i d ≡ getD l j b
   any-slot b [] i j e h = absurd (omega arith)
@@ -106,12 +96,6 @@ module _ {A : Type 0} (d : A) where
   any-slot b (x ∷ l) zero (suc j) e h = absurd (omega arith)
   any-slot b (x ∷ l) (suc i) zero e h = absurd (omega arith)
   any-slot b (x ∷ l) (suc i) (suc j) e h = any-slot b l i j (omega arith) (omega arith)
-
-  -- nothing is set past the last slot
-  pub set-past : (l : List A) (i : ℕ) (x : A) → length l ≤ i → set l i x ≡ l
-  set-past [] i x h = refl
-  set-past (y ∷ l) zero x h = absurd (omega arith)
-  set-past (y ∷ l) (suc i) x h = ap (λ (k : List A). y ∷ k) (set-past l i x (omega arith))
 
 -- ---- the slots of modules and of supervisors, from what the loops are told
 module _ (rs : List Record) (d : Device) where

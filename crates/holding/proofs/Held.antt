@@ -133,10 +133,10 @@ module _ (near held : ℕ) (p : near < 2 ^ 32) (q : held < 2 ^ 32) where
       record {
         counted = refl;
         is =
-          λ f.
-          ap₂ (λ (x y : ℕ). not (eqb x y)) (sym (ones-in 32 held q)) (sym (ones-in 32 near p))
-          ∙ counted-is (someBelow (lackAt near held) 32) (onesIn 32 held) (onesIn 32 near) (counted near held 32 (within f))
-          ∙ some-least (lackAt near held) 32;
+            λ f.
+            ap₂ (λ (x y : ℕ). not (eqb x y)) (sym (ones-in 32 held q)) (sym (ones-in 32 near p))
+            ∙ counted-is (someBelow (lackAt near held) 32) (onesIn 32 held) (onesIn 32 near) (counted near held 32 (within f))
+            ∙ some-least (lackAt near held) 32;
       }
 
 -- ---- the fit

@@ -1,7 +1,7 @@
 -- What the masks of the pass mean: the look-ups of the definitions at every event that a mask can hold.
 use mathlib.Core.Path.{_≡_, refl, sym, ap, ap₂, _∙_, subst}
 use mathlib.Core.List.{List, [], _∷_}
-use mathlib.Core.Bool.{Bool, true, false, cond, not, _&&_, _||_, and-true}
+use mathlib.Core.Bool.{Bool, true, false, cond, not, _&&_, _||_, and-true, or-false}
 use Prim.Native.Nat.{ℕ, _^_, _<_}
 use native.Mathlib.Nat.{lt-of-le-of-lt}
 use lib.Dec.{eqb}
@@ -136,11 +136,7 @@ module _ (m st : ℕ) where
   moved-all : (rs : List Record) (s : Seen) (j : ℕ) → s .moves < 2 ^ 64 → j < 64
       → bit (seenIn m st s rs .moves) j ≡ (bit (s .moves) j || isSome (moduleMove rs m st j))
   unfolding seenIn seenBy findIn target
-  moved-all [] s j p l = sym (or-none (bit (s .moves) j))
-    where
-      or-none : (a : Bool) → (a || false) ≡ a
-      or-none true = refl
-      or-none false = refl
+  moved-all [] s j p l = sym (or-false (bit (s .moves) j))
   moved-all (r ∷ rs) s j p l =
       moved-all rs (seenBy m st s r) j (put-if-fits (moves m st r) (s .moves) (field3 r) true p) l ∙ moved-one s r rs j p l
 

@@ -1,6 +1,6 @@
 -- The notes of 16 modules: one put, and all turned round by the place last served.
 use mathlib.Core.Path.{_≡_, refl, sym, ap, ap₂, _∙_}
-use mathlib.Core.Bool.{Bool, true, false, _&&_, _||_, and-true}
+use mathlib.Core.Bool.{Bool, true, false, _&&_, _||_, and-true, or-false}
 use Prim.Native.Nat.{ℕ, zero, suc, _+_, _-_, _*_, _/_, _%_, _^_, _≤_, _<_}
 use native.Mathlib.Nat.{not-suc-le-zero, le-of-suc-le-suc, pow-suc, mul-assoc, lt-of-le-of-lt}
 use native.Mathlib.Omega.{arith}
@@ -45,14 +45,10 @@ module _ (n : ℕ) (p : n < 2 ^ 16) where
   twice-bit : (j : ℕ) → j < 32 → bit (bitOr n (n * 2 ^ 16)) j ≡ bit n (j % 16)
   twice-bit j h = bit-or n (n * 2 ^ 16) j ∙ go (ltb j 16) refl
     where
-      off : (b : Bool) → (b || false) ≡ b
-      off true = refl
-      off false = refl
-
       go : (t : Bool) → ltb j 16 ≡ t → (bit n j || bit (n * 2 ^ 16) j) ≡ bit n (j % 16)
       go true l =
           let k : j < 16 = ltb-true j 16 l in
-          ap (λ (b : Bool). bit n j || b) (bit-shl-low n 16 j k) ∙ off (bit n j) ∙ ap (bit n) (let q : j ≡ j % 16 = omega arith in q)
+          ap (λ (b : Bool). bit n j || b) (bit-shl-low n 16 j k) ∙ or-false (bit n j) ∙ ap (bit n) (let q : j ≡ j % 16 = omega arith in q)
       go false l =
           let k : 16 ≤ j = ltb-false j 16 l in
           let q : j ≡ 16 + j % 16 = omega arith in

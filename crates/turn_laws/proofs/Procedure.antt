@@ -22,7 +22,8 @@ use Rattle.modules.specs.Procedure.{idle, arriveAt, withProcedure}
 use Rattle.modules.specs.Fits.{queueFits, idleFits, stepFits, procedureFits, ownFits}
 use Rattle.turn_laws.specs.Laws.{operationAt, operandAt, AtStep}
 use Rattle.turn_laws.proofs.Found.{step-law}
-use Rattle.turn_laws.proofs.Water.{waterZero-none, starts, total-small}
+use Rattle.water.proofs.Laws.{total-small}
+use Rattle.turn_laws.proofs.Water.{waterZero-none, starts}
 
 -- a test chosen by another one
 pub chosen : (a b c : Bool) → (a ≡ true → T b) → (a ≡ false → T c) → T (cond a b c)
@@ -150,5 +151,5 @@ module _ (rs : List Record) (plan : Sound rs) (m : ℕ) where
         owner = eqb→eq (ownerOf rs (p .event)) m (search both);
         step = l;
         ticks = ticks-small o x (p .count) (l .operand) (s .ticks);
-        eighths = λ q. let t = litres-range o x (l .operand) q in total-small x (p .water) t (if-so (eqb o 4) (running x (p .water)) (waterZero (p .water)) (eq-eqb o 4 q) (s .water));
+        eighths = λ q. let t = litres-range o x (l .operand) q in total-small x (p .water) (if-so (eqb o 4) (running x (p .water)) (waterZero (p .water)) (eq-eqb o 4 q) (s .water));
       }

@@ -34,9 +34,6 @@ at-most own = omega (arith, length-take (own .length) (own .queue))
 pub in-places : (own : Own) → EightPlaces own → length (queueOf own) ≤ 8
 in-places own h = omega (arith, length-take (own .length) (own .queue))
 
-pub eight : (q : List ℕ) → length q ≤ 8 → length (places q) ≡ 8
-eight q h = omega (arith, length-append q (replicate (8 - length q) 0), length-replicate {A = ℕ} (8 - length q) 0)
-
 pub one-more : (q : List ℕ) (e : ℕ) → length (q ++ (e ∷ [])) ≡ suc (length q)
 one-more q e = omega (arith, length-append q (e ∷ []))
 

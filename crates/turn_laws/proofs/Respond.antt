@@ -14,14 +14,15 @@ use Rattle.modules.specs.Queue.{queueOf, full, queued}
 use Rattle.modules.specs.Procedure.{taken, refused, respondOf}
 use Rattle.modules.specs.Fits.{ownFits}
 use Rattle.turn_laws.specs.Laws.{EightPlaces}
-use Rattle.turn_laws.proofs.Queue.{short, more-fits, one-more, at-most, eight}
+use Rattle.modules.proofs.Queue.{places-length}
+use Rattle.turn_laws.proofs.Queue.{short, more-fits, one-more, at-most}
 use Rattle.turn_laws.proofs.Procedure.{Parts, parts, whole}
 
 -- ---- one response more in a queue that is not full
 
 module _ (own : Own) (e : ℕ) (room : full own ≡ false) where
   pub queued-places : own .length ≤ 8 → EightPlaces (queued own e)
-  queued-places h = eight (queueOf own ++ (e ∷ [])) (omega (arith, one-more (queueOf own) e, at-most own, leb-false 8 (own .length) room))
+  queued-places h = places-length (queueOf own ++ (e ∷ [])) (omega (arith, one-more (queueOf own) e, at-most own, leb-false 8 (own .length) room))
 
   pub queued-parts : (rs : List Record) (m : ℕ) → T (ownUncontrollable rs m e) → Parts rs m own → Parts rs m (queued own e)
   queued-parts rs m u a =

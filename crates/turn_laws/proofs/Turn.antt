@@ -27,7 +27,8 @@ use Rattle.modules.specs.Fits.{queueFits, ownFits}
 use Rattle.turn_laws.specs.Laws.{fitsAt, EightPlaces, TurnOk, Command}
 use Rattle.turn_laws.proofs.Found.{module-move}
 use Rattle.bits.proofs.Least.{Lowest, least-some, least-same}
-use Rattle.turn_laws.proofs.Queue.{rest-fits, head-own, in-places, eight}
+use Rattle.modules.proofs.Queue.{places-length}
+use Rattle.turn_laws.proofs.Queue.{rest-fits, head-own, in-places}
 use Rattle.turn_laws.proofs.Procedure.{Parts, parts, whole, arrives}
 
 module _ (rs : List Record) (m : ℕ) (own : Own) where
@@ -69,7 +70,7 @@ module _ (rs : List Record) (m : ℕ) (own : Own) where
   turn-places k p = turn-cases k (λ t. EightPlaces (t .own)) (λ e q st h g. fewer e q h) fewer (λ e st h r l g. p) p
     where
       fewer : (e : ℕ) (q : List ℕ) → queueOf own ≡ e ∷ q → EightPlaces (withQueue own q)
-      fewer e q h = let n : length (queueOf own) ≡ suc (length q) = ap length h in eight q (omega (arith, in-places own p))
+      fewer e q h = let n : length (queueOf own) ≡ suc (length q) = ap length h in places-length q (omega (arith, in-places own p))
 
   module _ (plan : Sound rs) where
     -- a listed move is by an own event

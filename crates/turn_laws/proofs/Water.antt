@@ -11,6 +11,7 @@ use borrow.Author.Tests.{leb-false}
 use Rattle.litres.specs.Eighths.{eighths, isEighths, count, targetOk}
 use Rattle.litres.proofs.Laws.{eighths-is-eighths, count-eighths}
 use Rattle.rules.proofs.Valid.{both}
+use Rattle.water.proofs.Laws.{total-small}
 use Rattle.water.specs.Water.{flowOk, noWater, waterOf, added, reached, waterZero, running}
 use Rattle.water.specs.declared.Water.{Water}
 use Rattle.water.specs.declared.Flow.{Flow}
@@ -39,18 +40,11 @@ starts x t =
     is : waterOf x ≡ record { target = ofBits binary64 x; total = eighths 0 }
     is = unfold waterOf in ap (λ (b : Bool). cond b (record { target = ofBits binary64 x; total = eighths 0 }) noWater) (is-true (targetOk x) t)
 
-pub total-small : (x : ℕ) (w : Water) → T (targetOk x) → T (running x w) → count (w .total) < 2 ^ 20
-total-small x w t r =
-    let top : count (ofBits binary64 x) ≤ 2 ^ 20 = leb→le (count (ofBits binary64 x)) (2 ^ 20) (search both) in
-    let is : count (w .target) ≡ count (ofBits binary64 x) = eqb→eq _ _ (search both) in
-    let low : count (w .total) < count (w .target) = ltb→lt _ _ (search both) in
-    omega arith
-
 pub goes-on : (x : ℕ) (w : Water) (f : Flow) → T (targetOk x) → T (running x w) → T (flowOk f) → reached (added w f) ≡ false → T (running x (added w f))
 unfolding flowOk added
 goes-on x w (Litres y) t r ok q =
     let some : count y ≤ 512 = leb→le (count y) 512 (search both) in
-    let l : count (w .total) < 2 ^ 20 = total-small x w t r in
+    let l : count (w .total) < 2 ^ 20 = total-small x w r in
     let n : ℕ = count (w .total) + count y in
     let s : n < 2 ^ 53 = omega arith in
     let below : count (eighths n) < count (w .target) = leb-false (count (w .target)) (count (eighths n)) q in

@@ -1,10 +1,10 @@
 -- Laws of the number that eight bytes are.
 use mathlib.Core.Path.{_≡_, refl, sym, ap, _∙_}
-use mathlib.Core.List.{List, _++_}
+use mathlib.Core.List.{List, _++_, map}
 use Prim.Native.Nat.{ℕ, _+_, _*_, _/_, _%_, _^_, _≤_, _<_}
 use native.Mathlib.Nat.{add-assoc, div-div-eq-div-mul, div-add-mod'}
 use native.Mathlib.Omega.{arith}
-use lib.ListN.{length, getD, drop, List·getD-eq-default}
+use lib.ListN.{length, getD, drop, length-map, List·getD-eq-default}
 use lib.Seq.{sets, getD-drop}
 use borrow.Author.Tests.{le-leb, lt-leb}
 use Rattle.words.specs.Word.{wordAt, wordBytes, wordPut, appendByte}
@@ -54,3 +54,7 @@ word-read x t h = digits x h
 pub length-word : (x : ℕ) → length (wordBytes x) ≡ 8
 unfolding wordBytes
 length-word x = refl
+
+-- the length of an array of structs, from what a function is handed of it
+pub mapped : {X Y : Type 0} (f : X → Y) (l : List X) (n : ℕ) → length (map f l) ≡ n → length l ≡ n
+mapped f l n e = sym (length-map l f) ∙ e

@@ -1,8 +1,9 @@
 use mathlib.Core.Path.{_≡_, sym, _∙_}
-use lib.ListN.{length}
+use lib.ListN.{length, List·getD-eq-default}
 use native.Mathlib.Omega.{arith}
 use Rattle.modules.specs.Turn.{emptyOwn}
-use Rattle.device.proofs.Slots.{no-slot, any-slot, mapped}
+use Rattle.words.proofs.Laws.{mapped}
+use Rattle.device.proofs.Slots.{any-slot}
 use borrow.Author.Needs.{needs}
 use Rattle.device.proofs.own_of.Statement.{statement}
 use Rattle.device.proofs.own_of.Tie as tie
@@ -28,7 +29,7 @@ returns c =
 returns-2 : tie.Need-returns-2
 returns-2 c =
     let h : length (c .before .before .args .t1 .modules) ≡ 16 = search mapped in
-    c .empty .ensures ∙ sym (no-slot emptyOwn (c .before .before .args .t1 .modules) (c .before .before .args .m) (omega (arith, c .before .if1 .left)))
+    c .empty .ensures ∙ sym (List·getD-eq-default (c .before .before .args .t1 .modules) emptyOwn {n = (c .before .before .args .m)} (omega (arith, c .before .if1 .left)))
 
 pub own-of-spec : {M : Type 1} → statement M
 own-of-spec =

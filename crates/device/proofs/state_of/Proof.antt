@@ -1,8 +1,7 @@
 use mathlib.Core.Path.{_≡_, sym}
-use lib.ListN.{length}
+use lib.ListN.{length, List·getD-eq-default}
 use native.Mathlib.Omega.{arith}
 use borrow.Author.Needs.{needs}
-use Rattle.device.proofs.Slots.{no-slot}
 use Rattle.device.proofs.state_of.Statement.{statement}
 use Rattle.device.proofs.state_of.Tie as tie
 
@@ -18,7 +17,7 @@ returns c = simp (c .wide .ensures)
 returns-2 : tie.Need-returns-2
 returns-2 c =
     let h : length (c .before .args .t1) ≡ 32 = search needs in
-    sym (no-slot 0 (c .before .args .t1) (c .before .args .v) (omega (arith, c .if1 .left)))
+    sym (List·getD-eq-default (c .before .args .t1) 0 {n = (c .before .args .v)} (omega (arith, c .if1 .left)))
 
 pub state-of-spec : {M : Type 1} → statement M
 state-of-spec = tie.close (tie.spec wide-requires array-read-result returns returns-2)

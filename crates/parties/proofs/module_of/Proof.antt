@@ -1,8 +1,9 @@
 use mathlib.Core.Path.{_≡_, sym, _∙_}
-use lib.ListN.{length}
+use lib.ListN.{length, List·getD-eq-default}
 use native.Mathlib.Omega.{arith}
 use Rattle.permits.specs.Module.{emptyModule}
-use Rattle.device.proofs.Slots.{no-slot, any-slot, mapped}
+use Rattle.words.proofs.Laws.{mapped}
+use Rattle.device.proofs.Slots.{any-slot}
 use borrow.Author.Needs.{needs}
 use Rattle.parties.proofs.module_of.Statement.{statement}
 use Rattle.parties.proofs.module_of.Tie as tie
@@ -28,7 +29,7 @@ returns c =
 returns-2 : tie.Need-returns-2
 returns-2 c =
     let h : length (c .before .before .args .t1 .modules) ≡ 16 = search mapped in
-    c .no-module .ensures ∙ sym (no-slot emptyModule (c .before .before .args .t1 .modules) (c .before .before .args .m) (omega (arith, c .before .if1 .left)))
+    c .no-module .ensures ∙ sym (List·getD-eq-default (c .before .before .args .t1 .modules) emptyModule {n = (c .before .before .args .m)} (omega (arith, c .before .if1 .left)))
 
 pub module-of-spec : {M : Type 1} → statement M
 module-of-spec =

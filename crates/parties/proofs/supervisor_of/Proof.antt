@@ -1,8 +1,9 @@
 use mathlib.Core.Path.{_≡_, sym, _∙_}
-use lib.ListN.{length}
+use lib.ListN.{length, List·getD-eq-default}
 use native.Mathlib.Omega.{arith}
 use Rattle.permits.specs.Supervisor.{emptySupervisor}
-use Rattle.device.proofs.Slots.{no-slot, any-slot, mapped}
+use Rattle.words.proofs.Laws.{mapped}
+use Rattle.device.proofs.Slots.{any-slot}
 use borrow.Author.Needs.{needs}
 use Rattle.parties.proofs.supervisor_of.Statement.{statement}
 use Rattle.parties.proofs.supervisor_of.Tie as tie
@@ -28,7 +29,7 @@ returns c =
 returns-2 : tie.Need-returns-2
 returns-2 c =
     let h : length (c .before .before .args .t1 .supervisors) ≡ 32 = search mapped in
-    c .no-supervisor .ensures ∙ sym (no-slot emptySupervisor (c .before .before .args .t1 .supervisors) (c .before .before .args .v) (omega (arith, c .before .if1 .left)))
+    c .no-supervisor .ensures ∙ sym (List·getD-eq-default (c .before .before .args .t1 .supervisors) emptySupervisor {n = (c .before .before .args .v)} (omega (arith, c .before .if1 .left)))
 
 pub supervisor-of-spec : {M : Type 1} → statement M
 supervisor-of-spec =

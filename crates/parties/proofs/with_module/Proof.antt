@@ -1,8 +1,8 @@
 use mathlib.Core.Path.{_≡_}
 use lib.ListN.{length}
 use native.Mathlib.Omega.{arith}
-use Rattle.permits.specs.Module.{emptyModule}
-use Rattle.device.proofs.Slots.{set-past, mapped}
+use Rattle.words.proofs.Laws.{mapped}
+use lib.Seq.{set-out}
 use borrow.Author.Needs.{needs}
 use Rattle.parties.proofs.with_module.Statement.{statement}
 use Rattle.parties.proofs.with_module.Tie as tie
@@ -22,7 +22,7 @@ returns c = simp (c .wide .ensures)
 returns-2 : tie.Need-returns-2
 returns-2 c =
     let h : length (c .before .args .p .modules) ≡ 16 = search mapped in
-    let s = set-past emptyModule (c .before .args .p .modules) (c .before .args .m) (c .before .args .x) (omega (arith, c .if1 .left)) in
+    let s = set-out (c .before .args .p .modules) (c .before .args .m) (c .before .args .x) (omega (arith, c .if1 .left)) in
     simp s
 
 pub with-module-spec : {M : Type 1} → statement M

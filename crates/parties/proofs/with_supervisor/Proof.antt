@@ -1,8 +1,8 @@
 use mathlib.Core.Path.{_≡_}
 use lib.ListN.{length}
 use native.Mathlib.Omega.{arith}
-use Rattle.permits.specs.Supervisor.{emptySupervisor}
-use Rattle.device.proofs.Slots.{set-past, mapped}
+use Rattle.words.proofs.Laws.{mapped}
+use lib.Seq.{set-out}
 use borrow.Author.Needs.{needs}
 use Rattle.parties.proofs.with_supervisor.Statement.{statement}
 use Rattle.parties.proofs.with_supervisor.Tie as tie
@@ -22,7 +22,7 @@ returns c = simp (c .wide .ensures)
 returns-2 : tie.Need-returns-2
 returns-2 c =
     let h : length (c .before .args .p .supervisors) ≡ 32 = search mapped in
-    let s = set-past emptySupervisor (c .before .args .p .supervisors) (c .before .args .v) (c .before .args .y) (omega (arith, c .if1 .left)) in
+    let s = set-out (c .before .args .p .supervisors) (c .before .args .v) (c .before .args .y) (omega (arith, c .if1 .left)) in
     simp s
 
 pub with-supervisor-spec : {M : Type 1} → statement M

@@ -3,7 +3,8 @@ use Prim.Native.Nat.{_-_}
 use mathlib.Core.Path.{_≡_, refl}
 use lib.ListN.{length, take, drop}
 use Rattle.wire.specs.Wire.{withMessages}
-use Rattle.wire.proofs.Laws.{mapped, copy-again, copy-done, copy-full}
+use Rattle.words.proofs.Laws.{mapped}
+use Rattle.wire.proofs.Laws.{copy-again, copy-done, copy-full}
 use Rattle.wire.proofs.copied.Statement.{statement}
 use Rattle.wire.proofs.copied.Tie as tie
 

@@ -1,7 +1,8 @@
 use borrow.Author.Needs.{needs}
 use mathlib.Core.Path.{_≡_}
 use lib.ListN.{length}
-use Rattle.wire.proofs.Laws.{mapped, nth-uncounted, nth-unplaced, nth-found}
+use Rattle.words.proofs.Laws.{mapped}
+use Rattle.wire.proofs.Laws.{nth-uncounted, nth-unplaced, nth-found}
 use Rattle.wire.proofs.message_at.Statement.{statement}
 use Rattle.wire.proofs.message_at.Tie as tie
 
