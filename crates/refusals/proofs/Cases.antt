@@ -1,0 +1,93 @@
+-- The cases of every call: taken, refused at offset 0, refused as the check says, and a reply of the own part.
+use Prim.Native.Nat.{ℕ, _≤_}
+use native.Mathlib.Omega.{arith}
+use mathlib.Core.Path.{_≡_, refl, sym, ap, _∙_, subst}
+use mathlib.Core.Logic.{_≢_}
+use mathlib.Core.List.{List, _++_}
+use mathlib.Core.Bool.{Bool, true, false, cond}
+use lib.ListN.{length, drop, length-append, length-drop}
+use lib.Seq.{drop-at}
+use lib.Dec.{leb}
+use borrow.Author.Tests.{leb-true}
+use Rattle.modules.specs.Numbers.{replyNumber, calledNumber, calledOffset}
+use Rattle.modules.specs.Procedure.{calledBy}
+use Rattle.modules.specs.declared.Own.{Own}
+use Rattle.modules.specs.declared.Called.the-variants.{Done, Refused as CallRefused}
+use Rattle.modules.specs.declared.Reply.{Reply}
+use Rattle.modules.specs.declared.Reply.the-variants.{Taken, Refused}
+use Rattle.refusals.specs.Refusals.{InTable, Placed, Answer, Unchanged, Lent, CallAnswer, Call}
+
+-- what holds of both answers of a test
+pub either : {A : Type 0} (P : A → Type 0) (b : Bool) {x y : A} → P x → P y → P (cond b x y)
+either P true p q = p
+either P false p q = q
+
+-- what no constructor equals: `cc` finds the 0 ≡ 1 in such an equation
+pub never : _≡_ {A = ℕ} 0 1 → ⊥
+never e = omega arith
+
+-- ---- answers
+
+pub in-table : (n : ℕ) → leb 1 n ≡ true → leb n 15 ≡ true → InTable n
+in-table n p q = (leb-true _ _ p, leb-true _ _ q)
+
+pub at-zero : (n : ℕ) → Placed n 0
+at-zero n = record { long = λ e. refl; call = λ h. refl }
+
+module _ {E : Type 0} (number offset : E → ℕ) (refusal : ℕ → ℕ → E) where
+  pub accepts : (a : E) → ((n o : ℕ) → a ≢ refusal n o) → offset a ≡ 0 → Answer number offset refusal a
+  accepts a d z = record { numbered = λ n o e. absurd (d n o e); placed = record { long = λ e. z; call = λ h. z } }
+
+  pub refuses : ((n o : ℕ) → number (refusal n o) ≡ n) → ((n o : ℕ) → offset (refusal n o) ≡ o) → (n o : ℕ) → InTable n → Placed n o
+      → Answer number offset refusal (refusal n o)
+  refuses is at n o t p =
+      record {
+        numbered = λ k l e. subst InTable (sym (is n o) ∙ ap number e ∙ is k l) t;
+        placed = subst (λ (k : ℕ). Placed k (offset (refusal n o))) (sym (is n o)) (subst (Placed n) (sym (at n o)) p);
+      }
+
+-- ---- states and buffers
+
+pub taken : {A : Type 0} (x y : A) → Unchanged 0 x y
+taken x y t = absurd (t refl)
+
+pub same : {A : Type 0} (n : ℕ) (x : A) → Unchanged n x x
+same n x t = refl
+
+pub untouched : (n : ℕ) (b : List ℕ) → Lent n 0 b b
+untouched n b = record { untouched = same n b; nothing = λ t. refl; rest = refl; size = refl }
+
+-- the bytes a, which are k, written from the buffer's start
+pub put : (k : ℕ) (a b : List ℕ) → length a ≡ k → k ≤ length b → Lent 0 k b (a ++ drop k b)
+put k a b e h =
+    record {
+      untouched = taken b _;
+      nothing = λ t. absurd (t refl);
+      rest = drop-at a (drop k b) k e;
+      size = simp (length-append, length-drop) (omega arith);
+    }
+
+-- ---- a call without a buffer
+
+pub done : CallAnswer Done
+done = accepts calledNumber calledOffset CallRefused Done (λ n o e. never (cc)) refl
+
+pub call-refused : (n o : ℕ) → InTable n → Placed n o → CallAnswer (CallRefused n o)
+call-refused = refuses calledNumber calledOffset CallRefused (λ n o. refl) (λ n o. refl)
+
+module _ {A : Type 0} (x : A) where
+  pub takes : (y : A) → Call x Done y
+  takes y = record { answer = done; state = taken x y }
+
+  pub turns-down : (n o : ℕ) → InTable n → Placed n o → Call x (CallRefused n o) x
+  turns-down n o t p = record { answer = call-refused n o t p; state = same n x }
+
+  pub refused : (n : ℕ) → leb 1 n ≡ true → leb n 15 ≡ true → Call x (CallRefused n 0) x
+  refused n p q = turns-down n 0 (in-table n p q) (at-zero n)
+
+  -- a reply that is refused gives back the own part, and with it the whole state
+  pub replied : (with-own : Own → A) (before after : Own) (r : Reply) → with-own before ≡ x
+      → ((n : ℕ) → r ≡ Refused n → InTable n) → Unchanged (replyNumber r) before after → Call x (calledBy r) (with-own after)
+  unfolding calledBy
+  replied with-own before after Taken e t k = takes (with-own after)
+  replied with-own before after (Refused n) e t k = record { answer = call-refused n 0 (t n refl) (at-zero n); state = λ d. ap with-own (k d) ∙ e }

@@ -1,0 +1,7 @@
+pub mod Cases
+pub mod Checked
+pub mod Writers
+pub mod Device
+pub mod Modules
+pub mod Supervisors
+pub mod Refusals

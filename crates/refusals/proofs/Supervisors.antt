@@ -1,0 +1,98 @@
+-- What a refused call leaves of a supervisor.
+use Prim.Native.Nat.{ℕ}
+use mathlib.Core.Path.{_≡_, refl}
+use mathlib.Core.List.{List}
+use mathlib.Core.Option.{Option, none, some}
+use mathlib.Core.Bool.{Bool, true, false, cond, not, _&&_}
+use lib.Dec.{eqb, ltb}
+use borrow.Author.Tests.{ltb-false}
+use Rattle.bits.specs.Bit.{bit}
+use Rattle.records.specs.declared.Record.{Record}
+use Rattle.reader.specs.Walk.{recordsOf}
+use Rattle.rules.specs.LookUp.{supervisorsOf}
+use Rattle.rules.specs.Check.{verdictOf}
+use Rattle.rules.specs.declared.Verdict.{Verdict}
+use Rattle.rules.specs.declared.Verdict.the-variants.{Accepted, Refused}
+use Rattle.messages.specs.Message.{short, written, parse}
+use Rattle.messages.specs.declared.Message.{Message}
+use Rattle.messages.specs.declared.Message.the-variants.{Bid, Permit, Release}
+use Rattle.messages.specs.declared.Parsed.{Parsed}
+use Rattle.messages.specs.declared.Parsed.the-variants.{Whole, Misshapen}
+use Rattle.permits.specs.Names.{named}
+use Rattle.permits.specs.Supervisor.{supervisorFits, served, sentTo, sentBytes, answerBy, stateAfter, stepRefused, stepIn, stepBy, heldBy, takenBy, deliverIn, absent, deliverBy, startBy}
+use Rattle.permits.specs.Numbers.{servedNumber, servedOffset}
+use Rattle.permits.specs.declared.Supervisor.{Supervisor}
+use Rattle.permits.specs.declared.SupervisorCalled.{SupervisorCalled}
+use Rattle.permits.specs.declared.Served.the-variants.{Refused as ServeRefused}
+use Rattle.refusals.specs.Refusals.{InTable, Placed, CheckAnswer, CallAnswer, ServeAnswer, SupervisorStep, SupervisorCall, Supervisors}
+use Rattle.refusals.proofs.Cases.{either, never, in-table, at-zero, accepts, refuses, taken, same, untouched, put, done, call-refused, takes, turns-down, refused}
+use Rattle.refusals.proofs.Checked.{checked}
+
+start : (w : Verdict) (rs : List Record) (v : ℕ) → CheckAnswer w → CallAnswer (startBy w rs v .answer)
+unfolding startBy
+start Accepted rs v j = either (λ (c : SupervisorCalled). CallAnswer (c .answer)) (ltb v (supervisorsOf rs)) done (call-refused 11 0 (in-table 11 refl refl) (at-zero 11))
+start (Refused n o) rs v j = call-refused n o (j .numbered n o refl) (j .placed)
+
+-- the answer of an accepted step
+accepted : (bytes : List ℕ) (t : Option ℕ) → ServeAnswer (answerBy bytes t)
+unfolding answerBy
+accepted bytes none = accepts servedNumber servedOffset ServeRefused _ (λ n o e. never (cc)) refl
+accepted bytes (some m) = accepts servedNumber servedOffset ServeRefused _ (λ n o e. never (cc)) refl
+
+module _ (rs : List Record) (v : ℕ) (y : Supervisor) where
+  -- ---- a step
+  module _ (b : List ℕ) where
+    step-refused : (n o : ℕ) → InTable n → Placed n o → SupervisorStep y b (stepRefused y b n o)
+    step-refused n o t p =
+        record {
+          answer = refuses servedNumber servedOffset ServeRefused (λ n o. refl) (λ n o. refl) n o t p;
+          state = same n y;
+          buffer = untouched n b;
+        }
+
+    step-in : (t : Option ℕ) (q : Bool) → short (sentBytes (sentTo rs v y t)) b ≡ q
+        → SupervisorStep y b (cond q (stepRefused y b 15 0) (record { answer = answerBy (sentBytes (sentTo rs v y t)) t; state = stateAfter y t; buffer = written (sentBytes (sentTo rs v y t)) b }))
+    unfolding answerBy sentTo sentBytes
+    step-in t true e = step-refused 15 0 (in-table 15 refl refl) (at-zero 15)
+    step-in none false e = record { answer = accepted (sentBytes (sentTo rs v y none)) none; state = taken y _; buffer = put 0 (sentBytes (sentTo rs v y none)) b refl (ltb-false _ _ e) }
+    step-in (some m) false e =
+        record { answer = accepted (sentBytes (sentTo rs v y (some m))) (some m); state = taken y _; buffer = put _ (sentBytes (sentTo rs v y (some m))) b refl (ltb-false _ _ e) }
+
+    step-by : (w : Verdict) → CheckAnswer w → SupervisorStep y b (stepBy w rs v y b)
+    unfolding stepBy stepIn
+    step-by Accepted j =
+        either (SupervisorStep y b) (ltb v (supervisorsOf rs))
+        (either (SupervisorStep y b) (supervisorFits rs v y) (step-in (served y) _ refl) (step-refused 9 0 (in-table 9 refl refl) (at-zero 9)))
+        (step-refused 11 0 (in-table 11 refl refl) (at-zero 11))
+    step-by (Refused n o) j = step-refused n o (j .numbered n o refl) (j .placed)
+
+  -- ---- a delivery
+  take : (g : Message) → SupervisorCall y (takenBy rs v y g)
+  unfolding takenBy
+  take (Bid m w) = either (SupervisorCall y) (eqb w v && not (bit (y .noted) m)) (takes y _) (refused y 12 refl refl)
+  take (Permit w m k) = refused y 12 refl refl
+  take (Release m w e) = either (SupervisorCall y) (eqb w v && heldBy (y .holder) m) (takes y _) (refused y 12 refl refl)
+
+  deliver-in : (p : Parsed) → SupervisorCall y (deliverIn rs v y p)
+  unfolding deliverIn
+  deliver-in Misshapen = refused y 10 refl refl
+  deliver-in (Whole g) = either (SupervisorCall y) (named rs g) (take g) (refused y 11 refl refl)
+
+  to-absent : (p : Parsed) → SupervisorCall y (absent y p)
+  unfolding absent
+  to-absent Misshapen = refused y 10 refl refl
+  to-absent (Whole g) = refused y 11 refl refl
+
+  deliver-by : (w : Verdict) (p : Parsed) → CheckAnswer w → SupervisorCall y (deliverBy w rs v y p)
+  unfolding deliverBy
+  deliver-by Accepted p j =
+      either (SupervisorCall y) (ltb v (supervisorsOf rs)) (either (SupervisorCall y) (supervisorFits rs v y) (deliver-in p) (refused y 9 refl refl)) (to-absent p)
+  deliver-by (Refused n o) p j = turns-down y n o (j .numbered n o refl) (j .placed)
+
+pub supervisors : Supervisors
+supervisors =
+    record {
+      start = λ s v. start (verdictOf s) (recordsOf s) v (checked s);
+      step = λ s v y b. step-by (recordsOf s) v y b (verdictOf s) (checked s);
+      deliver = λ s v y bytes. deliver-by (recordsOf s) v y (verdictOf s) (parse bytes) (checked s);
+    }

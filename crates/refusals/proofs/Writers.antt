@@ -1,0 +1,74 @@
+-- What a refused writer leaves of the buffer.
+use Prim.Native.Nat.{ℕ}
+use mathlib.Core.Path.{_≡_, refl}
+use mathlib.Core.List.{List}
+use mathlib.Core.Bool.{Bool, true, false, cond}
+use lib.ListN.{length}
+use lib.Dec.{ltb}
+use borrow.Author.Tests.{ltb-false}
+use Rattle.records.specs.Kinds.{sizeOf}
+use Rattle.records.specs.Bytes.{bytesOf}
+use Rattle.records.specs.Range.{inRange}
+use Rattle.records.specs.declared.Record.{Record}
+use Rattle.rules.specs.Check.{verdictOf}
+use Rattle.rules.specs.declared.Verdict.{Verdict}
+use Rattle.rules.specs.declared.Verdict.the-variants.{Accepted, Refused}
+use Rattle.writer.specs.Write.{answerOf}
+use Rattle.writer.specs.declared.Written.the-variants.{Length, Refused as WriteRefused}
+use Rattle.writer.proofs.Writing.{length-bytes}
+use Rattle.rewrite.specs.Rewrite.{planBytes, answerBy as rewriteAnswer, bufferBy as rewriteBuffer}
+use Rattle.rewrite.specs.declared.Rewritten.the-variants.{Length as Copied, Refused as CopyRefused}
+use Rattle.messages.specs.Message.{messageBytes, fitsAt, putAt}
+use Rattle.messages.specs.declared.Message.{Message}
+use Rattle.refusals.specs.Numbers.{writtenNumber, writtenOffset, rewrittenNumber, rewrittenOffset}
+use Rattle.refusals.specs.Refusals.{InTable, Placed, CheckAnswer, Write, Rewrite, Writers}
+use Rattle.refusals.proofs.Cases.{either, never, in-table, at-zero, accepts, refuses, untouched, put}
+use Rattle.refusals.proofs.Checked.{checked}
+
+-- one record
+write-refused : (n : ℕ) (r : Record) (b : List ℕ) → InTable n → Write r b (WriteRefused n 0)
+write-refused n r b t =
+    record {
+      answer = refuses writtenNumber writtenOffset WriteRefused (λ n o. refl) (λ n o. refl) n 0 t (at-zero n);
+      offset = refl;
+      buffer = untouched n b;
+    }
+
+write : (r : Record) (b : List ℕ) → Write r b (answerOf r b)
+unfolding answerOf
+write r b = either (Write r b) (inRange r) (go (ltb (length b) (sizeOf r)) refl) (write-refused 5 r b (in-table 5 refl refl))
+  where
+    go : (q : Bool) → ltb (length b) (sizeOf r) ≡ q → Write r b (cond q (WriteRefused 15 0) (Length (sizeOf r)))
+    go true e = write-refused 15 r b (in-table 15 refl refl)
+    go false e =
+        record {
+          answer = accepts writtenNumber writtenOffset WriteRefused _ (λ n o e. never (cc)) refl;
+          offset = refl;
+          buffer = put (sizeOf r) (bytesOf r) b (length-bytes r) (ltb-false _ _ e);
+        }
+
+-- an accepted plan
+rewrite-refused : (n o : ℕ) (s b : List ℕ) → InTable n → Placed n o → Rewrite s b (CopyRefused n o)
+unfolding rewriteBuffer
+rewrite-refused n o s b t p =
+    record { answer = refuses rewrittenNumber rewrittenOffset CopyRefused (λ n o. refl) (λ n o. refl) n o t p; buffer = untouched n b }
+
+rewrite : (s b : List ℕ) (v : Verdict) → CheckAnswer v → Rewrite s b (rewriteAnswer v s b)
+unfolding rewriteAnswer rewriteBuffer
+rewrite s b (Refused n o) j = rewrite-refused n o s b (j .numbered n o refl) (j .placed)
+rewrite s b Accepted j = go (ltb (length b) (length (planBytes s))) refl
+  where
+    go : (q : Bool) → ltb (length b) (length (planBytes s)) ≡ q → Rewrite s b (cond q (CopyRefused 15 0) (Copied (length (planBytes s))))
+    go true e = rewrite-refused 15 0 s b (in-table 15 refl refl) (at-zero 15)
+    go false e =
+        record {
+          answer = accepts rewrittenNumber rewrittenOffset CopyRefused _ (λ n o e. never (cc)) refl;
+          buffer = put (length (planBytes s)) (planBytes s) b refl (ltb-false _ _ e);
+        }
+
+message : (g : Message) (at : ℕ) (b : List ℕ) → fitsAt (messageBytes g) at b ≡ false → putAt (messageBytes g) at b ≡ b
+unfolding putAt
+message g at b e = simp e
+
+pub writers : Writers
+writers = record { write = write; rewrite = λ s b. rewrite s b (verdictOf s) (checked s); message = message }

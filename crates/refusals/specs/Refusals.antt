@@ -1,0 +1,197 @@
+-- Demand 1: "a refused call returns the state unchanged and writes nothing into lent memory", of every image, state, number, buffer, message
+-- and reading. It speaks of the definitions that the contracts cite, in their numbers: "For an answer that is an enum, a definition gives
+-- this paper's number and values for each case. The promises use that definition."
+use Prim.Native.Nat.{ℕ, _≤_}
+use mathlib.Core.Path.{_≡_}
+use mathlib.Core.Logic.{_≢_}
+use mathlib.Core.List.{List}
+use mathlib.Core.Option.{none}
+use mathlib.Core.Bool.{false}
+use lib.ListN.{length, drop}
+use Rattle.records.specs.declared.Record.{Record}
+use Rattle.rules.specs.Check.{verdictOf, IsPlan}
+use Rattle.rules.specs.declared.Verdict.{Verdict}
+use Rattle.rules.specs.declared.Verdict.the-variants.{Refused}
+use Rattle.writer.specs.Write.{answerOf, bufferBy}
+use Rattle.writer.specs.declared.Written.{Written}
+use Rattle.writer.specs.declared.Written.the-variants.{Refused as WriteRefused}
+use Rattle.rewrite.specs.Rewrite.{answerBy as rewriteAnswer, bufferBy as rewriteBuffer}
+use Rattle.rewrite.specs.declared.Rewritten.{Rewritten}
+use Rattle.rewrite.specs.declared.Rewritten.the-variants.{Refused as CopyRefused}
+use Rattle.messages.specs.Message.{messageBytes, fitsAt, putAt}
+use Rattle.messages.specs.declared.Message.{Message}
+use Rattle.water.specs.declared.Flow.{Flow}
+use Rattle.modules.specs.Numbers.{replyNumber, calledNumber, calledOffset}
+use Rattle.modules.specs.Procedure.{respondOf, tickOf}
+use Rattle.modules.specs.declared.Own.{Own}
+use Rattle.modules.specs.declared.Called.{Called}
+use Rattle.modules.specs.declared.Called.the-variants.{Refused as CallRefused}
+use Rattle.modules.specs.declared.Reply.the-variants.{Refused as ReplyRefused}
+use Rattle.modules.specs.declared.Replied.{Replied}
+use Rattle.device.specs.Device.{startCall, turnCall, respondCall, tickCall}
+use Rattle.device.specs.Numbers.{turningNumber, turningOffset, turningEvent, turningStray}
+use Rattle.device.specs.declared.Device.{Device}
+use Rattle.device.specs.declared.Turning.{Turning}
+use Rattle.device.specs.declared.Turning.the-variants.{Refused as TurnRefused}
+use Rattle.device.specs.declared.DeviceTurned.{DeviceTurned}
+use Rattle.device.specs.declared.DeviceCalled.{DeviceCalled}
+use Rattle.permits.specs.Module.{StepCall, moduleStep, moduleDeliver, moduleRespond, moduleTick, moduleStart}
+use Rattle.permits.specs.Supervisor.{ServeCall, supervisorStep, supervisorDeliver, supervisorStart}
+use Rattle.permits.specs.Numbers.{steppedNumber, steppedOffset, steppedBytes, servedNumber, servedOffset, servedBytes}
+use Rattle.permits.specs.declared.Module.{Module}
+use Rattle.permits.specs.declared.ModuleCalled.{ModuleCalled}
+use Rattle.permits.specs.declared.Stepped.{Stepped}
+use Rattle.permits.specs.declared.Stepped.the-variants.{Refused as StepRefused}
+use Rattle.permits.specs.declared.Supervisor.{Supervisor}
+use Rattle.permits.specs.declared.SupervisorCalled.{SupervisorCalled}
+use Rattle.permits.specs.declared.Served.{Served}
+use Rattle.permits.specs.declared.Served.the-variants.{Refused as ServeRefused}
+use Rattle.refusals.specs.Numbers.{verdictNumber, verdictOffset, writtenNumber, writtenOffset, writtenLength, rewrittenNumber, rewrittenOffset, rewrittenLength}
+
+-- what is turned down has a number, and what is taken has 0
+abbrev pub TurnedDown : ℕ → Type 0
+TurnedDown n = n ≢ 0
+
+-- a number of the table
+abbrev pub InTable : ℕ → Type 0
+InTable n = (1 ≤ n) × (n ≤ 15)
+
+-- the number n stands with the byte offset o: "0 for 1 and for 9 and above"
+pub record Placed (n o : ℕ) : Type 0 where
+  pub long : n ≡ 1 → o ≡ 0
+  pub call : 9 ≤ n → o ≡ 0
+
+-- an answer a, by the definitions of its number and its offset and by its case of a refusal
+pub record Answer {E : Type 0} (number offset : E → ℕ) (refusal : ℕ → ℕ → E) (a : E) : Type 0 where
+  -- "Bad input gets its number from document 01": so a refusal never has the 0 of what is taken
+  pub numbered : (n o : ℕ) → a ≡ refusal n o → InTable n
+  pub placed : Placed (number a) (offset a)
+
+-- "a refused call returns the state unchanged": x is given and y returned, with the number n
+abbrev pub Unchanged : {A : Type 0} → ℕ → A → A → Type 0
+Unchanged n x y = TurnedDown n → y ≡ x
+
+-- "writes nothing into lent memory": the buffer is b before and c after, with the number n and k bytes written
+pub record Lent (n k : ℕ) (b c : List ℕ) : Type 0 where
+  pub untouched : Unchanged n b c
+  pub nothing : TurnedDown n → k ≡ 0
+  -- "An accepted call writes its answer from the buffer's start and nothing else."
+  pub rest : drop k c ≡ drop k b
+  pub size : length c ≡ length b
+
+-- ---- each kind of answer
+
+abbrev pub CheckAnswer : Verdict → Type 0
+CheckAnswer a = Answer verdictNumber verdictOffset Refused a
+
+abbrev pub WriteAnswer : Written → Type 0
+WriteAnswer a = Answer writtenNumber writtenOffset WriteRefused a
+
+abbrev pub RewriteAnswer : Rewritten → Type 0
+RewriteAnswer a = Answer rewrittenNumber rewrittenOffset CopyRefused a
+
+abbrev pub CallAnswer : Called → Type 0
+CallAnswer a = Answer calledNumber calledOffset CallRefused a
+
+abbrev pub TurnAnswer : Turning → Type 0
+TurnAnswer a = Answer turningNumber turningOffset TurnRefused a
+
+abbrev pub StepAnswer : Stepped → Type 0
+StepAnswer a = Answer steppedNumber steppedOffset StepRefused a
+
+abbrev pub ServeAnswer : Served → Type 0
+ServeAnswer a = Answer servedNumber servedOffset ServeRefused a
+
+-- ---- one call: its answer, its state and its buffer
+
+pub record Write (r : Record) (b : List ℕ) (a : Written) : Type 0 where
+  pub answer : WriteAnswer a
+  -- "The writer of one record gives 5 or 15 only, at offset 0."
+  pub offset : writtenOffset a ≡ 0
+  pub buffer : Lent (writtenNumber a) (writtenLength a) b (bufferBy a r b)
+
+pub record Rewrite (s b : List ℕ) (a : Rewritten) : Type 0 where
+  pub answer : RewriteAnswer a
+  pub buffer : Lent (rewrittenNumber a) (rewrittenLength a) b (rewriteBuffer a s b)
+
+-- a reply of a module's own part, which has no offset
+pub record OwnCall (own : Own) (c : Replied) : Type 0 where
+  pub numbered : (n : ℕ) → c .reply ≡ ReplyRefused n → InTable n
+  pub state : Unchanged (replyNumber (c .reply)) own (c .own)
+
+pub record Call {A : Type 0} (x : A) (a : Called) (y : A) : Type 0 where
+  pub answer : CallAnswer a
+  pub state : Unchanged (calledNumber a) x y
+
+abbrev pub DeviceCall : Device → DeviceCalled → Type 0
+DeviceCall d c = Call d (c .answer) (c .device)
+
+abbrev pub ModuleCall : Module → ModuleCalled → Type 0
+ModuleCall x c = Call x (c .answer) (c .state)
+
+abbrev pub SupervisorCall : Supervisor → SupervisorCalled → Type 0
+SupervisorCall y c = Call y (c .answer) (c .state)
+
+pub record DeviceTurn (d : Device) (c : DeviceTurned) : Type 0 where
+  pub answer : TurnAnswer (c .answer)
+  pub state : Unchanged (turningNumber (c .answer)) d (c .device)
+  -- a refused turn has no event, fired or stray
+  pub event : TurnedDown (turningNumber (c .answer)) → turningEvent (c .answer) ≡ none
+  pub stray : TurnedDown (turningNumber (c .answer)) → turningStray (c .answer) ≡ none
+
+pub record ModuleStep (x : Module) (b : List ℕ) (c : StepCall) : Type 0 where
+  pub answer : StepAnswer (c .answer)
+  pub state : Unchanged (steppedNumber (c .answer)) x (c .state)
+  pub buffer : Lent (steppedNumber (c .answer)) (steppedBytes (c .answer)) b (c .buffer)
+
+pub record SupervisorStep (y : Supervisor) (b : List ℕ) (c : ServeCall) : Type 0 where
+  pub answer : ServeAnswer (c .answer)
+  pub state : Unchanged (servedNumber (c .answer)) y (c .state)
+  pub buffer : Lent (servedNumber (c .answer)) (servedBytes (c .answer)) b (c .buffer)
+
+-- ---- every call, party by party. A start is given no state, and the check lends nothing.
+
+pub record Checker : Type 0 where
+  pub check : (image : List ℕ) → CheckAnswer (verdictOf image)
+  -- "A plan is accepted if its check gives no number."
+  pub accepted : (image : List ℕ) → verdictNumber (verdictOf image) ≡ 0 → IsPlan image
+  -- 9 and above are a call's own
+  pub numbers : (image : List ℕ) → verdictNumber (verdictOf image) ≤ 8
+
+pub record Writers : Type 0 where
+  pub write : (r : Record) (b : List ℕ) → Write r b (answerOf r b)
+  pub rewrite : (s b : List ℕ) → Rewrite s b (rewriteAnswer (verdictOf s) s b)
+  -- a message for which there is no room
+  pub message : (g : Message) (at : ℕ) (b : List ℕ) → fitsAt (messageBytes g) at b ≡ false → putAt (messageBytes g) at b ≡ b
+
+-- a module's own part, on one device and on many
+pub record OwnPart : Type 0 where
+  pub respond : (rs : List Record) (m e : ℕ) (own : Own) → OwnCall own (respondOf rs m e own)
+  pub tick : (rs : List Record) (f : Flow) (own : Own) → OwnCall own (tickOf rs f own)
+
+pub record OneDevice : Type 0 where
+  pub start : (image : List ℕ) → CallAnswer (startCall image .answer)
+  pub turn : (image : List ℕ) (d : Device) (m : ℕ) → DeviceTurn d (turnCall image d m)
+  pub respond : (image : List ℕ) (d : Device) (m e : ℕ) → DeviceCall d (respondCall image d m e)
+  pub tick : (image : List ℕ) (d : Device) (m : ℕ) (f : Flow) → DeviceCall d (tickCall image d m f)
+
+pub record Modules : Type 0 where
+  pub start : (image : List ℕ) (m : ℕ) → CallAnswer (moduleStart image m .answer)
+  pub step : (image : List ℕ) (m : ℕ) (x : Module) (b : List ℕ) → ModuleStep x b (moduleStep image m x b)
+  pub deliver : (image : List ℕ) (m : ℕ) (x : Module) (bytes : List ℕ) → ModuleCall x (moduleDeliver image m x bytes)
+  pub respond : (image : List ℕ) (m : ℕ) (x : Module) (e : ℕ) → ModuleCall x (moduleRespond image m x e)
+  pub tick : (image : List ℕ) (m : ℕ) (x : Module) (f : Flow) → ModuleCall x (moduleTick image m x f)
+
+pub record Supervisors : Type 0 where
+  pub start : (image : List ℕ) (v : ℕ) → CallAnswer (supervisorStart image v .answer)
+  pub step : (image : List ℕ) (v : ℕ) (y : Supervisor) (b : List ℕ) → SupervisorStep y b (supervisorStep image v y b)
+  pub deliver : (image : List ℕ) (v : ℕ) (y : Supervisor) (bytes : List ℕ) → SupervisorCall y (supervisorDeliver image v y bytes)
+
+-- "a refused call returns the state unchanged and writes nothing into lent memory"
+pub record Refusals : Type 0 where
+  pub checker : Checker
+  pub writers : Writers
+  pub own : OwnPart
+  pub device : OneDevice
+  pub modules : Modules
+  pub supervisors : Supervisors

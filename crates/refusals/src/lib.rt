@@ -1,0 +1,1 @@
+// What a refused call leaves as it was: specs/Refusals.antt.
