@@ -27,14 +27,14 @@ deliveryLine g Done = deliveredLine (messageBytes g)
 deliveryLine g (Refused n o) = refusedLine n
 
 -- "any other is 10"
-abbrev pub lineNumber : Answer → ℕ
-lineNumber (Module m a) = 0
-lineNumber (Supervisor v a) = 0
-lineNumber (Delivery g a) = 0
-lineNumber NoMessage = 0
-lineNumber (Response m e a) = 0
-lineNumber (Tick m a) = 0
-lineNumber Misshapen = 10
+abbrev pub answerNumber : Answer → ℕ
+answerNumber (Module m a) = 0
+answerNumber (Supervisor v a) = 0
+answerNumber (Delivery g a) = 0
+answerNumber NoMessage = 0
+answerNumber (Response m e a) = 0
+answerNumber (Tick m a) = 0
+answerNumber Misshapen = 10
 
 unfoldable pub answerLine : Answer → List ℕ
 answerLine (Module m a) = steppedLine m a
@@ -43,7 +43,7 @@ answerLine (Delivery g a) = deliveryLine g a
 answerLine NoMessage = nothingLine
 answerLine (Response m e a) = responseLine m e a
 answerLine (Tick m a) = tickLine m a
-answerLine Misshapen = refusedLine (lineNumber Misshapen)
+answerLine Misshapen = refusedLine (answerNumber Misshapen)
 
 -- "The record lists the events fired, in order"
 unfoldable pub eventOf : Turn → Maybe

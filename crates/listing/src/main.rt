@@ -1,9 +1,9 @@
-// The listing program: plays the script of standard input on the plan of `plan.bin` and prints what each line got. Lines come byte by
-// byte, so that script and lines may be of any length.
+// The listing program: plays the script of standard input on the plan of `plan.bin` and prints what each line got. Crate sheet says what a line
+// does and prints, and what a whole script prints (`listed`); here it is read and printed. Lines come byte by byte, so that script and lines may
+// be of any length.
 use device::Device;
 use lines::Partial;
 use modules::Called;
-use script::Line;
 use script::Text;
 
 // One byte more than a plan may have, so that a longer file is seen to be one.
@@ -12,31 +12,17 @@ const ROOM: usize = 49153;
 fn say(t: Text) {
     let bytes = t.bytes;
     let n = t.length;
-    if n < 208 {
+    if n <= 208 {
         io::write_all(1, &bytes[..n]);
     }
 }
 
-// Does what a line asks, says what it got, and gives the device after it.
-fn answer(image: &[u8], d: Device, line: Line) -> Device {
-    match line {
-        Line::Turn(m) => {
-            let t = device::turn(image, d, m);
-            let a = t.answer;
-            say(script::turn_line(m, a));
-            t.device
-        }
-        Line::Response(m, e) => {
-            let r = device::respond(image, d, m, e);
-            let a = r.answer;
-            say(script::response_line(m, e, a));
-            r.device
-        }
-        Line::Misshapen => {
-            say(script::refused_line(10));
-            d
-        }
-    }
+// Plays a line, prints what it got, and gives the device after it.
+fn answer(image: &[u8], d: Device, line: Partial) -> Device {
+    let got = sheet::play(image, d, script::parsed(line));
+    let text = got.line;
+    say(text);
+    got.device
 }
 
 // How far the script has come: the device, and the line that is still coming.
@@ -46,13 +32,13 @@ struct Course {
 }
 
 // The bytes of a part of the script, one after the other.
-fn play(image: &[u8], c: Course, s: &[u8]) -> Course {
+fn take(image: &[u8], c: Course, s: &[u8]) -> Course {
     let mut d = c.device;
     let mut line = c.line;
     let mut i: usize = 0;
     while i < s.len() {
         if s[i] == b'\n' {
-            d = answer(image, d, script::parsed(line));
+            d = answer(image, d, line);
             line = lines::begun();
         } else {
             line = lines::with_byte(line, s[i]);
@@ -67,7 +53,7 @@ fn end(image: &[u8], c: Course) -> Device {
     let d = c.device;
     let line = c.line;
     if lines::has_byte(line) {
-        answer(image, d, script::parsed(line))
+        answer(image, d, line)
     } else {
         d
     }
@@ -89,7 +75,7 @@ fn hear(image: &[u8], c: Course) -> Heard {
         };
     }
     let n = io::count(got, &buf);
-    let next = play(image, c, &buf[..n]);
+    let next = take(image, c, &buf[..n]);
     Heard {
         course: next,
         more: true,

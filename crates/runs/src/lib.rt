@@ -1,1 +1,1 @@
-// A longer run of the two-valve plan on many devices, by computation: specs/Run.antt.
+// Runs of the two-valve plan, by computation: the sheet's listing, specs/Listing.antt, and a longer one on many devices, specs/Run.antt.

@@ -5,7 +5,7 @@ use Prim.Native.Nat.{ℕ, _-_, _≤_, _<_}
 use native.Mathlib.Nat.{le-of-lt, le-refl}
 use lib.ListN.{length, take, drop, length-drop}
 use lib.Seq.{length-take-le, take-all}
-use borrow.Author.Needs.{below-field}
+use borrow.Author.Needs.{length-unmapped}
 
 pub slice-count : (s : List ℕ) {k : ℕ} → k < length s → k ≡ length (take k s)
 slice-count s {k} h = sym (length-take-le k s (le-of-lt h))
@@ -17,9 +17,9 @@ tail s j = take (length s - j) (drop j s)
 pub tail-is : (s : List ℕ) (j : ℕ) → tail s j ≡ drop j s
 tail-is s j = take-all (length s - j) (drop j s) (simp length-drop (le-refl (length s - j)))
 
-module _ (X : Type 0) (l : List X) (i n : ℕ) (e : length (map (λ (v : X). v) l) ≡ n) (h : i < n) where
+module _ (X : Type 0) (l : List X) (i n : ℕ) (e : length (map (λ (v : X). v) l) ≡ n) (h : i ≤ n) where
   pub part-within : i ≤ length l
-  part-within = le-of-lt (below-field X l i n e h)
+  part-within = rw (length-unmapped X l n e) h
 
   pub part-count : i ≡ length (take i l)
   part-count = sym (length-take-le i l part-within)

@@ -24,7 +24,7 @@ struct Trial {
 fn say(t: Text) {
     let bytes = t.bytes;
     let n = t.length;
-    if n < 208 {
+    if n <= 208 {
         io::write_all(1, &bytes[..n]);
     }
 }

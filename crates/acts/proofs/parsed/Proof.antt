@@ -1,3 +1,4 @@
+use native.Mathlib.Nat.{le-of-lt}
 use borrow.Author.Needs.{needs}
 use borrow.Author.Tests.{lt-ltb, le-ltb}
 use Rattle.lines.specs.Partial.{partly}
@@ -6,10 +7,10 @@ use Rattle.acts.proofs.parsed.Statement.{statement}
 use Rattle.acts.proofs.parsed.Tie as tie
 
 array-share-prefix-bytes : tie.Need-array-share-prefix-bytes
-array-share-prefix-bytes c = search part-within
+array-share-prefix-bytes c = search (part-within, le-of-lt)
 
 slice-aggregate-act-of : tie.Need-slice-aggregate-act-of
-slice-aggregate-act-of c = search part-count
+slice-aggregate-act-of c = search (part-count, le-of-lt)
 
 act-of-requires : tie.Need-act-of-requires
 act-of-requires c κs = search needs

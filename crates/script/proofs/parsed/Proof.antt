@@ -1,3 +1,4 @@
+use native.Mathlib.Nat.{le-of-lt}
 use borrow.Author.Needs.{needs}
 use borrow.Author.Tests.{lt-ltb, le-ltb}
 use Rattle.lines.specs.Partial.{partly}
@@ -6,10 +7,10 @@ use Rattle.script.proofs.parsed.Statement.{statement}
 use Rattle.script.proofs.parsed.Tie as tie
 
 array-share-prefix-bytes : tie.Need-array-share-prefix-bytes
-array-share-prefix-bytes c = search part-within
+array-share-prefix-bytes c = search (part-within, le-of-lt)
 
 slice-aggregate-line-of : tie.Need-slice-aggregate-line-of
-slice-aggregate-line-of c = search part-count
+slice-aggregate-line-of c = search (part-count, le-of-lt)
 
 line-of-requires : tie.Need-line-of-requires
 line-of-requires c κs = search needs

@@ -1,8 +1,8 @@
 use Prim.Native.Nat.{_-_}
 use lib.ListN.{length}
 use borrow.Author.Needs.{needs}
-use Rattle.listing.proofs.play.Statement.{statement}
-use Rattle.listing.proofs.play.Tie as tie
+use Rattle.listing.proofs.take.Statement.{statement}
+use Rattle.listing.proofs.take.Tie as tie
 
 abbrev Inv-loop : tie.InvT-loop
 Inv-loop image s d₀ line₀ i₀ d line i = Unit {0}
@@ -15,9 +15,6 @@ loop-holds c = search needs
 
 shared-slice-read-if1 : tie.Need-shared-slice-read-if1 Inv-loop μ-loop
 shared-slice-read-if1 c = search needs
-
-parsed-requires : tie.Need-parsed-requires Inv-loop μ-loop
-parsed-requires c κs = search needs
 
 answer-requires : tie.Need-answer-requires Inv-loop μ-loop
 answer-requires c κs = search needs
@@ -43,15 +40,14 @@ loop-again c = search needs
 returns : tie.Need-returns Inv-loop μ-loop
 returns c = search needs
 
-pub play-spec : {M : Type 1} → statement M
-play-spec =
+pub take-spec : {M : Type 1} → statement M
+take-spec =
     tie.close
     (tie.spec
     Inv-loop
     μ-loop
     loop-holds
     shared-slice-read-if1
-    parsed-requires
     answer-requires
     begun-requires
     shared-slice-read-with-byte
