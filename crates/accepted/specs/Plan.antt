@@ -29,14 +29,17 @@ EachOf m P = (e : ℕ) → e < 64 → bit m e ≡ true → P e
 
 -- ---- what a record of each kind names
 
+-- "the number that a record of kind 11, 12 or 14 declares, and the module in kind 11, need only be below the count"
 pub record EventLaw (rs : List Record) (n o : ℕ) : Type 0 where
   pub number : n < eventsOf rs
   pub owner : o < modulesOf rs
 
+-- "number, states 1–32, initial state", a state being "below its owner's states"
 pub record ModuleLaw (rs : List Record) (n st i : ℕ) : Type 0 where
   pub number : n < modulesOf rs
   pub initial : i < st
 
+-- "names an undeclared module, supervisor, event or state" is 6, "move by another module's event" is 7
 pub record ModuleMoveLaw (rs : List Record) (m f e t : ℕ) : Type 0 where
   pub owner : m < modulesOf rs
   pub from : f < fieldOf field2 (moduleIn rs m)
@@ -44,11 +47,13 @@ pub record ModuleMoveLaw (rs : List Record) (m f e t : ℕ) : Type 0 where
   pub to : t < fieldOf field2 (moduleIn rs m)
   pub own-event : ownerOf rs e ≡ m
 
+-- "A mask bit at or above the event count is 6"
 pub record SupervisorLaw (rs : List Record) (n st i a : ℕ) : Type 0 where
   pub number : n < supervisorsOf rs
   pub initial : i < st
   pub alphabet : EachOf a (λ e. e < eventsOf rs)
 
+-- "or one outside the alphabet" is 7
 pub record SupervisorMoveLaw (rs : List Record) (v f e t : ℕ) : Type 0 where
   pub supervisor : v < supervisorsOf rs
   pub from : f < fieldOf field2 (supervisorIn rs v)
@@ -56,6 +61,7 @@ pub record SupervisorMoveLaw (rs : List Record) (v f e t : ℕ) : Type 0 where
   pub to : t < fieldOf field2 (supervisorIn rs v)
   pub in-alphabet : bit (alphabetOf rs v) e ≡ true
 
+-- "disabling mask with an event uncontrollable or outside the alphabet" is 7
 pub record DisabledLaw (rs : List Record) (v e : ℕ) : Type 0 where
   pub event : e < eventsOf rs
   pub class : controllable rs e ≡ true
@@ -66,11 +72,13 @@ pub record DisablingLaw (rs : List Record) (v st m : ℕ) : Type 0 where
   pub state : st < fieldOf field2 (supervisorIn rs v)
   pub mask : EachOf m (DisabledLaw rs v)
 
+-- "5 respond (an uncontrollable event of the same module)"
 pub record RespondLaw (rs : List Record) (e x : ℕ) : Type 0 where
   pub event : x < eventsOf rs
   pub class : controllable rs x ≡ false
   pub same-owner : ownerOf rs x ≡ ownerOf rs e
 
+-- "Only controllable events have steps."
 pub record StepLaw (rs : List Record) (e i o x : ℕ) : Type 0 where
   pub event : e < eventsOf rs
   pub class : controllable rs e ≡ true

@@ -132,6 +132,7 @@ fn start_modules(image: &[u8]) -> [Module; 16]
     let mut next = [none; 16];
     let mut i: usize = 0;
     while i < 16 {
+        // i is below 16; the remainder lets the cast lose nothing by itself.
         let m = (i % 256) as u8;
         let x = module_start(image, m);
         next[i] = x;

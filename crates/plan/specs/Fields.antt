@@ -1,4 +1,4 @@
--- The fields of a record all at once: the code takes records apart in one place.
+-- The fields of a record all at once, as the look-ups take them.
 use mathlib.Core.Path.{_≡_}
 use Rattle.records.specs.declared.Record.{Record}
 use Rattle.reader.specs.declared.Found.{Found}

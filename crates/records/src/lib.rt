@@ -76,7 +76,7 @@ const LENS: [u8; 16] = [
     0,
 ];
 
-// The body length that a kind fixes, or 255 for an unknown kind.
+// The body length that a kind fixes, or `NO_LEN` for an unknown kind.
 pub fn body_len(kind: u8) -> u8
     ensures { λ r. ⌜ r ≡ bodyLen kind ⌝ }
 {

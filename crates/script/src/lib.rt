@@ -280,7 +280,7 @@ fn states_row(word: &[u8], d: Device, modules: u8, supervisors: u8) -> Text
     push(t, b'\n')
 }
 
-// `states 0 1 0`.
+// `states 1 0 0`.
 pub fn states_line(d: Device, modules: u8, supervisors: u8) -> Text
     ensures { λ r. ⌜ r ≡ textOf (statesLine d modules supervisors) ⌝ }
 {
@@ -383,7 +383,7 @@ pub fn nothing_line() -> Text
     push_all(empty(), b"nothing\n")
 }
 
-// `device 0 1 0`.
+// `device 1 0 0`.
 pub fn device_line(d: Device, modules: u8, supervisors: u8) -> Text
     ensures { λ r. ⌜ r ≡ textOf (deviceLine d modules supervisors) ⌝ }
 {

@@ -83,7 +83,7 @@ pub fn start(image: &[u8], v: u8) -> SupervisorCalled
 
 // ---- a state that fits
 
-// A noted module is a neighbour.
+// Whether a module, if it is noted, is a neighbour.
 fn note_fits(image: &[u8], v: u8, noted: u16, m: u8) -> bool
     ensures { λ r. ⌜ r ≡ (not (bit noted m) || neighbours? (recordsOf (now (image .entry))) m v) ⌝ }
 {
