@@ -50,7 +50,7 @@ releases-fours rs m t (suc n) = fours-append (M.releases rs m t n) _ (releases-f
     one true = unfold messageBytes in (refl, tt)
     one false = tt
 
-releases-most : (rs : List Record) (m : ℕ) (t : Turn) (n : ℕ) → length (M.releases rs m t n) ≤ n
+pub releases-most : (rs : List Record) (m : ℕ) (t : Turn) (n : ℕ) → length (M.releases rs m t n) ≤ n
 unfolding M.releases
 releases-most rs m t zero = omega arith
 releases-most rs m t (suc n) = omega (arith, releases-most rs m t n, length-append (M.releases rs m t n) (cond (bit (neighbours rs m) n) (Release m n (M.eventFor rs n t) ∷ []) []), one (bit (neighbours rs m) n))

@@ -71,7 +71,7 @@ unfolding C.deviceSeen C.deviceRun
 seen-append image d [] r = refl
 seen-append image d (a ∷ l) r = ap (λ (t : List C.Seen). C.deviceActSeen image d a ∷ t) (seen-append image (C.deviceStep image d a) l r)
 
-run-append : (image : List ℕ) (d : Device) (l r : List C.DeviceAct) → C.deviceRun image d (l ++ r) ≡ C.deviceRun image (C.deviceRun image d l) r
+pub run-append : (image : List ℕ) (d : Device) (l r : List C.DeviceAct) → C.deviceRun image d (l ++ r) ≡ C.deviceRun image (C.deviceRun image d l) r
 unfolding C.deviceRun
 run-append image d [] r = refl
 run-append image d (a ∷ l) r = run-append image (C.deviceStep image d a) l r

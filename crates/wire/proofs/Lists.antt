@@ -26,7 +26,7 @@ sent-is : (w : Wire) (g : Message) → Sound w → w .count < 96 → under (with
 unfolding withMessage
 sent-is w g s h = simp (lt-ltb (w .count) 96 h, add-one) (take-suc-set (w .messages) (w .count) (sent g) (omega (arith, s .places)))
 
-all-sound : (w : Wire) (l : List Sent) → Sound w → Sound (withMessages w l)
+pub all-sound : (w : Wire) (l : List Sent) → Sound w → Sound (withMessages w l)
 unfolding withMessages
 all-sound w [] s = s
 all-sound w (g ∷ l) s = all-sound (withMessage w (g .message)) l (sent-sound w (g .message) s)
@@ -36,7 +36,7 @@ unfolding withMessage
 count-one w g h = simp (lt-ltb (w .count) 96 h)
 
 -- messages that all have places
-all-are : (w : Wire) (l : List Sent) → Sound w → w .count + length l ≤ 96 → under (withMessages w l) ≡ under w ++ l
+pub all-are : (w : Wire) (l : List Sent) → Sound w → w .count + length l ≤ 96 → under (withMessages w l) ≡ under w ++ l
 unfolding withMessages
 all-are w [] s h = sym (append-nil (under w))
 all-are w (g ∷ l) s h =

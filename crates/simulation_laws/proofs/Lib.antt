@@ -1,0 +1,5 @@
+pub mod Wire
+pub mod Party
+pub mod Line
+pub mod Few
+pub mod Whole

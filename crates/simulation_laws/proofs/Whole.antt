@@ -1,0 +1,160 @@
+-- Whole lists of lines.
+use Prim.Native.Nat.{ℕ, min, _+_, _≤_, _<_}
+use native.Mathlib.Omega.{arith}
+use mathlib.Core.Path.{_≡_, refl, sym, ap, ap₂, _∙_, subst}
+use mathlib.Core.Bool.{true}
+use mathlib.Core.List.{List, [], _∷_, _++_, map, append-assoc, append-nil}
+use lib.ListN.{length, getD, length-map, length-take, length-replicate}
+use Rattle.records.specs.declared.Record.{Record}
+use Rattle.reader.specs.Walk.{recordsOf}
+use Rattle.rules.specs.LookUp.{modulesOf, supervisorsOf}
+use Rattle.rules.specs.Check.{verdictOf, IsPlan}
+use Rattle.accepted.proofs.Accepted.{every-plan}
+use Rattle.device.specs.Device.{startCall}
+use Rattle.device.specs.declared.Device.{Device}
+use Rattle.permits.specs.Module as M
+use Rattle.permits.specs.Supervisor as S
+use Rattle.wire.specs.Wire.{under}
+use Rattle.wire.proofs.Lists.{lists}
+use Rattle.parties.specs.declared.Parties.{Parties}
+use Rattle.parties.specs.Parties as P
+use Rattle.acts.specs.declared.Act.{Act as Line}
+use Rattle.acts.specs.declared.Act.the-variants.{Module as ModuleLine, Supervisor as SupervisorLine, Delivery as DeliveryLine, Response as ResponseLine, Tick as TickLine, Unfitted as UnfittedLine, Misshapen as MisshapenLine}
+use Rattle.simulation.specs.Play.{played}
+use Rattle.turn_laws.specs.Laws.{TurnLaws}
+use Rattle.turn_laws.proofs.Laws.{turn-laws}
+use Rattle.turn_laws.proofs.Words.{words}
+use Rattle.agreement.specs.System as A
+use Rattle.agreement.specs.Compared as C
+use Rattle.agreement.proofs.Device.{from-length}
+use Rattle.agreement.proofs.Whole.{run-append as device-append}
+use Rattle.agreement.proofs.Demand.{demand}
+use Rattle.simulation_laws.specs.Calls.{bytesOf, systemOf, buffer, callOf, callsOf, playedAll, allSeen, Whole, Simulated}
+use Rattle.simulation_laws.proofs.Party.{from-is, module-none, supervisor-none}
+use Rattle.simulation_laws.proofs.Line.{AllTaken, line-whole, line-system, line-device, line-seen}
+use Rattle.simulation_laws.proofs.Few.{few-under-way}
+
+-- ---- lists of calls, one after the other
+
+run-append : (image : List ℕ) (D : A.System) (l r : List A.Act) → A.run image D (l ++ r) ≡ A.run image (A.run image D l) r
+unfolding A.run
+run-append image D [] r = refl
+run-append image D (a ∷ l) r = run-append image (A.step image D a) l r
+
+fed-append : (image : List ℕ) (D : A.System) (l r : List A.Act) → C.fed image D (l ++ r) ≡ C.fed image D l ++ C.fed image (A.run image D l) r
+unfolding C.fed A.run
+fed-append image D [] r = refl
+fed-append image D (a ∷ l) r =
+    ap (λ (t : List C.DeviceAct). C.actFed (recordsOf image) D a ++ t) (fed-append image (A.step image D a) l r)
+    ∙ sym (append-assoc (C.actFed (recordsOf image) D a) (C.fed image (A.step image D a) l) (C.fed image (A.run image (A.step image D a) l) r))
+
+seen-append : (image : List ℕ) (D : A.System) (l r : List A.Act) → C.seen image D (l ++ r) ≡ C.seen image D l ++ C.seen image (A.run image D l) r
+unfolding C.seen A.run
+seen-append image D [] r = refl
+seen-append image D (a ∷ l) r =
+    ap (λ (t : List C.Seen). C.actSeen image D a ++ t) (seen-append image (A.step image D a) l r)
+    ∙ sym (append-assoc (C.actSeen image D a) (C.seen image (A.step image D a) l) (C.seen image (A.run image (A.step image D a) l) r))
+
+lent-append : (l r : List A.Act) → A.AllLent l → A.AllLent r → A.AllLent (l ++ r)
+lent-append [] r h k = k
+lent-append (a ∷ l) r h k = (h .0, lent-append l r (h .1) k)
+
+lent-buffer : length buffer ≡ A.bufferLength
+lent-buffer = length-replicate {A = ℕ} 128 0
+
+call-lent : (a : Line) → A.AllLent (callOf a)
+unfolding callOf
+call-lent (ModuleLine m) = (lent-buffer, tt)
+call-lent (SupervisorLine v) = (lent-buffer, tt)
+call-lent (DeliveryLine k) = (tt, tt)
+call-lent (ResponseLine m e) = (tt, tt)
+call-lent (TickLine m n) = (tt, tt)
+call-lent (UnfittedLine m) = (tt, tt)
+call-lent MisshapenLine = tt
+
+calls-lent : (l : List Line) → A.AllLent (callsOf l)
+unfolding callsOf
+calls-lent [] = tt
+calls-lent (a ∷ l) = lent-append (callOf a) (callsOf l) (call-lent a) (calls-lent l)
+
+module _ (image : List ℕ) (bytes : (i : ℕ) → getD image i 0 < 256) (plan : IsPlan image) where
+  abbrev rs : List Record
+  rs = recordsOf image
+
+  T : TurnLaws rs
+  T = turn-laws rs (every-plan image plan .sound) (words image bytes)
+
+  -- ---- the start
+
+  start-module : (m : ℕ) → P.moduleAt (P.start image) m ≡ M.moduleStart image m .state
+  start-module m = from-is (λ k. M.moduleStart image k .state) 16 m M.emptyModule (λ h. module-none rs (verdictOf image) plan m (let f : modulesOf rs ≤ 16 = T .few-modules in omega arith))
+
+  start-supervisor : (v : ℕ) → P.supervisorAt (P.start image) v ≡ S.supervisorStart image v .state
+  start-supervisor v = from-is (λ k. S.supervisorStart image k .state) 32 v S.emptySupervisor (λ h. supervisor-none rs (verdictOf image) plan v (let f : supervisorsOf rs ≤ 32 = T .few-supervisors in omega arith))
+
+  start-system : systemOf (P.start image) ≡ A.start image
+  unfolding A.start
+  start-system = λ i. record { moduleAt = λ m. start-module m i; supervisorAt = λ v. start-supervisor v i; underWay = [] }
+
+  start-whole : Whole (P.start image)
+  start-whole = record { modules = from-length (λ m. M.moduleStart image m .state) 0 16; supervisors = from-length (λ v. S.supervisorStart image v .state) 0 32; wire = lists .empty-sound }
+
+  -- ---- the lines, after calls that left the parties as they are
+
+  record From (p : Parties) (done : List A.Act) : Type 0 where
+    system : systemOf p ≡ A.run image (A.start image) done
+    device : p .device ≡ C.deviceRun image (startCall image .device) (C.fed image (A.start image) done)
+    whole : Whole p
+
+  few-from : (p : Parties) (done : List A.Act) → A.AllLent done → From p done → p .wire .count ≤ 48
+  few-from p done n f =
+      let e : length (map bytesOf (under (p .wire))) ≡ length (A.run image (A.start image) done .underWay) = ap (λ (D : A.System). length (D .underWay)) (f .system) in
+      let k : length (map bytesOf (under (p .wire))) ≡ min (p .wire .count) (length (p .wire .messages)) = length-map (under (p .wire)) bytesOf ∙ length-take (p .wire .count) (p .wire .messages) in
+      omega (arith, e, k, f .whole .wire .places, f .whole .wire .counted, few-under-way image plan T done n)
+
+  line-from : (a : Line) (p : Parties) (done : List A.Act) → A.AllLent done → From p done → From (played image p a .play) (done ++ callOf a)
+  line-from a p done n f =
+      let r : p .wire .count + 32 ≤ 96 = omega (arith, few-from p done n f) in
+      let D : A.System = A.run image (A.start image) done in
+      let d : Device = startCall image .device in
+      let taken : AllTaken image (systemOf p) = subst (AllTaken image) (sym (f .system)) (demand image bytes plan done n .taken) in
+      let fits : (m : ℕ) → m < modulesOf rs → M.moduleFits rs m (P.moduleAt p m) ≡ true =
+      subst (λ (E : A.System). (m : ℕ) → m < modulesOf rs → M.moduleFits rs m (E .moduleAt m) ≡ true) (sym (f .system)) (demand image bytes plan done n .module-fits) in
+      record {
+        system = line-system image plan T p (f .whole) a r taken ∙ ap (λ (E : A.System). A.run image E (callOf a)) (f .system) ∙ sym (run-append image (A.start image) done (callOf a));
+        device =
+            line-device image plan T p (f .whole) a r fits
+            ∙ ap₂ (λ (e : Device) (E : A.System). C.deviceRun image e (C.fed image E (callOf a))) (f .device) (f .system)
+            ∙ sym (device-append image d (C.fed image (A.start image) done) (C.fed image D (callOf a)))
+            ∙ ap (C.deviceRun image d) (sym (fed-append image (A.start image) done (callOf a)));
+        whole = line-whole p (f .whole) image a;
+      }
+
+  seen-from : (l : List Line) (p : Parties) (done : List A.Act) → A.AllLent done → From p done → allSeen image p l ≡ C.seen image (A.run image (A.start image) done) (callsOf l)
+  unfolding allSeen callsOf
+  seen-from [] p done n f = unfold C.seen in refl
+  seen-from (a ∷ l) p done n f =
+      let D : A.System = A.run image (A.start image) done in
+      let r : p .wire .count + 32 ≤ 96 = omega (arith, few-from p done n f) in
+      ap₂ (λ (s t : List C.Seen). s ++ t)
+      (line-seen image plan T p (f .whole) a r ∙ ap (λ (E : A.System). C.seen image E (callOf a)) (f .system))
+      (seen-from l (played image p a .play) (done ++ callOf a) (lent-append done (callOf a) n (call-lent a)) (line-from a p done n f)
+      ∙ ap (λ (E : A.System). C.seen image E (callsOf l)) (run-append image (A.start image) done (callOf a)))
+      ∙ sym (seen-append image D (callOf a) (callsOf l))
+
+  lines-from : (l : List Line) (p : Parties) (done : List A.Act) → A.AllLent done → From p done → From (playedAll image p l) (done ++ callsOf l)
+  unfolding playedAll callsOf
+  lines-from [] p done n f = subst (From p) (sym (append-nil done)) f
+  lines-from (a ∷ l) p done n f =
+      subst (From (playedAll image (played image p a .play) l)) (append-assoc done (callOf a) (callsOf l))
+      (lines-from l (played image p a .play) (done ++ callOf a) (lent-append done (callOf a) n (call-lent a)) (line-from a p done n f))
+
+  start-from : From (P.start image) []
+  unfolding A.run C.fed C.deviceRun
+  start-from = record { system = start-system; device = refl; whole = start-whole }
+
+pub simulated : Simulated
+simulated image bytes plan lines =
+    let n : A.AllLent (callsOf lines) = calls-lent lines in
+    let f = lines-from image bytes plan lines (P.start image) [] tt (start-from image bytes plan) in
+    record { lent = n; demand = demand image bytes plan (callsOf lines) n; system = f .system; device = f .device; answers = seen-from image bytes plan lines (P.start image) [] tt (start-from image bytes plan) ∙ (unfold A.run in refl); whole = f .whole; few = few-from image bytes plan (playedAll image (P.start image) lines) (callsOf lines) n f }

@@ -1,0 +1,99 @@
+-- Document 01, "What demand 3 compares": the lines that the simulation plays on arrays are the lists of calls of which demand 3 is proved.
+use Prim.Native.Nat.{ℕ, _≤_, _<_}
+use mathlib.Core.Path.{_≡_}
+use mathlib.Core.List.{List, [], _∷_, _++_, map}
+use mathlib.Core.Bool.{cond}
+use lib.ListN.{length, getD, replicate}
+use lib.Dec.{ltb}
+use Rattle.litres.specs.Eighths.{eighths}
+use Rattle.water.specs.declared.Flow.the-variants.{Litres, NoSensor}
+use Rattle.records.specs.declared.Record.{Record}
+use Rattle.reader.specs.Walk.{recordsOf}
+use Rattle.rules.specs.LookUp.{modulesOf}
+use Rattle.rules.specs.Check.{IsPlan}
+use Rattle.messages.specs.Message.{messageBytes}
+use Rattle.device.specs.Device.{startCall}
+use Rattle.wire.specs.declared.Sent.{Sent}
+use Rattle.wire.specs.Wire.{under, Sound}
+use Rattle.parties.specs.declared.Parties.{Parties}
+use Rattle.parties.specs.Parties as P
+use Rattle.acts.specs.declared.Act.{Act as Line}
+use Rattle.acts.specs.declared.Act.the-variants.{Module as ModuleLine, Supervisor as SupervisorLine, Delivery as DeliveryLine, Response as ResponseLine, Tick as TickLine, Unfitted as UnfittedLine, Misshapen as MisshapenLine}
+use Rattle.simulation.specs.declared.Answer.{Answer}
+use Rattle.simulation.specs.declared.Answer.the-variants.{Module as ModuleGot, Supervisor as SupervisorGot, Delivery, NoMessage, Response, Tick, Misshapen}
+use Rattle.simulation.specs.Play.{played}
+use Rattle.agreement.specs.System.{System, Act, moduleStep, supervisorStep, deliver, respond, tick, bufferLength, AllLent, start, run}
+use Rattle.agreement.specs.Compared.{Seen, callSeen, stepSeen, seen, fed, deviceRun}
+use Rattle.agreement.specs.Demand.{Demand3}
+
+abbrev pub bytesOf : Sent → List ℕ
+bytesOf s = messageBytes (s .message)
+
+-- the parties as demand 3 has them: the states by their numbers, and the bytes of the messages under way in the order sent
+abbrev pub systemOf : Parties → System
+systemOf p = record { moduleAt = P.moduleAt p; supervisorAt = P.supervisorAt p; underWay = map bytesOf (under (p .wire)) }
+
+-- "128-byte output buffers"
+abbrev pub buffer : List ℕ
+buffer = replicate bufferLength 0
+
+-- a line as a call; a misshapen line is none
+unfoldable pub callOf : Line → List Act
+callOf (ModuleLine m) = moduleStep m buffer ∷ []
+callOf (SupervisorLine v) = supervisorStep v buffer ∷ []
+callOf (DeliveryLine k) = deliver k ∷ []
+callOf (ResponseLine m e) = respond m e ∷ []
+callOf (TickLine m n) = tick m (Litres (eighths n)) ∷ []
+callOf (UnfittedLine m) = tick m NoSensor ∷ []
+callOf MisshapenLine = []
+
+unfoldable pub callsOf : List Line → List Act
+callsOf [] = []
+callsOf (a ∷ l) = callOf a ++ callsOf l
+
+-- the parties after all lines
+unfoldable pub playedAll : List ℕ → Parties → List Line → Parties
+playedAll image p [] = p
+playedAll image p (a ∷ l) = playedAll image (played image p a .play) l
+
+-- what is compared of a line: its answer, with the module's state after it
+unfoldable pub answerSeen : List Record → Parties → Answer → List Seen
+answerSeen rs p (ModuleGot m a) = stepSeen m a (P.moduleAt p m .own)
+answerSeen rs p (SupervisorGot v a) = []
+answerSeen rs p (Delivery g a) = []
+answerSeen rs p NoMessage = []
+answerSeen rs p (Response m e a) = cond (ltb m (modulesOf rs)) (callSeen m a (P.moduleAt p m .own) ∷ []) []
+answerSeen rs p (Tick m a) = cond (ltb m (modulesOf rs)) (callSeen m a (P.moduleAt p m .own) ∷ []) []
+answerSeen rs p Misshapen = []
+
+unfoldable pub allSeen : List ℕ → Parties → List Line → List Seen
+allSeen image p [] = []
+allSeen image p (a ∷ l) = let q = played image p a in answerSeen (recordsOf image) (q .play) (q .answer) ++ allSeen image (q .play) l
+
+-- the arrays have their lengths
+pub record Whole (p : Parties) : Type 0 where
+  pub modules : length (p .modules) ≡ 16
+  pub supervisors : length (p .supervisors) ≡ 32
+  pub wire : Sound (p .wire)
+
+pub record Plays (image : List ℕ) (lines : List Line) : Type 0 where
+  -- the lines are a list of calls that demand 3 speaks of
+  pub lent : AllLent (callsOf lines)
+  pub demand : Demand3 image (callsOf lines)
+  -- "Each call gets the state that the last call on its module or supervisor left, at first the starting state": the states and the messages
+  -- under way are those that the calls leave
+  pub system : systemOf (playedAll image (P.start image) lines) ≡ run image (start image) (callsOf lines)
+  -- "The one-device controller, from its start, is fed each response and tick as called, and a turn for each module step that by the rules
+  -- above takes one; nothing else."
+  pub device : playedAll image (P.start image) lines .device ≡ deviceRun image (startCall image .device) (fed image (start image) (callsOf lines))
+  -- "each turn taken, response and tick gets the answer that the one-device controller gives for the same turns, responses and ticks in the
+  -- same order": the answers are those of the calls, to which demand 3's clause `equal` applies
+  pub answers : allSeen image (P.start image) lines ≡ seen image (start image) (callsOf lines)
+  -- the arrays keep their lengths, and at most a bid of each module and one message for each permit are under way: of 96 places there are
+  -- always 32 left for the releases of a turn
+  pub whole : Whole (playedAll image (P.start image) lines)
+  pub few : playedAll image (P.start image) lines .wire .count ≤ 48
+
+-- for every accepted image and every list of lines
+abbrev pub Simulated : Type 0
+Simulated = (image : List ℕ) → ((i : ℕ) → getD image i 0 < 256) → IsPlan image → (lines : List Line) → Plays image lines
