@@ -11,8 +11,8 @@ pub struct Sent {
     pub message: Message,
 }
 
-// A module has one bid under way at most, and each permit is in one message at most, which carries it or brings it home: 48 in all, by the
-// rules and not by a proof. A step is lent room for all that it may write, so there are places for 32 more, and some are left.
+// At most 48 messages are under way: one bid of each module, and one message for each permit, which carries it or brings it home (`few` of
+// crate simulation_laws). A step is lent room for all that it may write, so there are places for 32 more, and some are left.
 pub struct Wire {
     pub messages: [Sent; 96],
     pub count: usize,
