@@ -21,7 +21,7 @@ use Rattle.rules.specs.declared.Verdict.the-variants.{Refused}
 use Rattle.context.specs.declared.Context.{Context}
 use Rattle.context.specs.Context.{withRecord, start, contextOf}
 use Rattle.judge.specs.Judge.{judgeBy}
-use Rattle.judge.proofs.Represents.{judge-same}
+use Rattle.judge.proofs.Represents.{judges}
 
 unfoldable pub checkBy : ℕ → Context → Walk → Verdict
 checkBy n c (stop k o) = Refused k o
@@ -33,7 +33,7 @@ agree : (n : ℕ) (rs : List Record) (w : Walk) → Valid rs → checkBy n (cont
 unfolding checkBy checkWalk contextOf Valid
 agree n rs (stop k o) v = refl
 agree n rs (more o r w) v =
-    ap (λ (j : ℕ). cond (eqb j 0) (cond (eqb (kindOf r) 0x1f) (endAt n o) (checkBy n (contextOf (r ∷ rs)) w)) (Refused j o)) (judge-same rs v r)
+    ap (λ (j : ℕ). cond (eqb j 0) (cond (eqb (kindOf r) 0x1f) (endAt n o) (checkBy n (contextOf (r ∷ rs)) w)) (Refused j o)) (judges rs v r)
     ∙ go (eqb (faultOf rs r) 0) refl (λ z. agree n (r ∷ rs) w (z, v))
   where
     go : (b : Bool) → eqb (faultOf rs r) 0 ≡ b → (faultOf rs r ≡ 0 → checkBy n (contextOf (r ∷ rs)) w ≡ checkWalk n (r ∷ rs) w)

@@ -1,5 +1,5 @@
 -- What the check remembers of the records before, and how each record changes it. No rule of the paper stands here: that this tells as much as
--- those records do, over records of which none is faulty, is proved in the crate judge.
+-- those records do, over records of which none is faulty, is `JudgesAsRules` of the crate judge.
 use Prim.Native.Nat.{ℕ, _+_, _%_}
 use mathlib.Core.List.{List, [], _∷_}
 use mathlib.Core.Bool.{Bool, true, false, cond}

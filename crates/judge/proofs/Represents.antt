@@ -26,6 +26,7 @@ use Rattle.context.specs.declared.Context.{Context}
 use Rattle.context.specs.Context.{eventsAfter, contextOf, entry, ownerAt, alphabetAt}
 use Rattle.context.proofs.Tables.{with-entry-at}
 use Rattle.judge.specs.Judge.{eventKnown, operandKnown, moduleKnown, supervisorKnown, moduleStateBy, supervisorStateBy, indexBy, orderBy, namesBy, respondBy, rulesBy, allBy, judgeBy}
+use Rattle.judge.specs.Represents.{JudgesAsRules}
 use Rattle.judge.proofs.Remembers.{counts-told, steps-length, event-told, module-told, supervisor-told, look}
 
 -- ---- what holds of records of which none is faulty
@@ -329,9 +330,9 @@ where-held : (b : Bool) {x x′ : ℕ} (y : ℕ) → (b ≡ true → x ≡ x′)
 where-held true y f = f refl
 where-held false y f = refl
 
-pub judge-same : (rs : List Record) → Valid rs → (r : Record) → judgeBy (contextOf rs) r ≡ faultOf rs r
+pub judges : JudgesAsRules
 unfolding judgeBy faultOf
-judge-same rs v r =
+judges rs v r =
     ap₂ (λ (a b : Bool). cond a (cond (inRange r) (cond b (cond (rulesBy (contextOf rs) r) (cond (allBy (contextOf rs) r) 0 8) 7) 6) 5) 4) (order-same rs v r) (names-same rs v r)
     ∙ ap (λ (x : ℕ). cond (inOrder rs r) (cond (inRange r) x 5) 4)
     (where-held (namesDeclared rs r) 6 (λ h. ap₂ (λ (a b : Bool). cond a (cond b 0 8) 7) (rules-same rs v r h) (all-declared-same rs v r)))

@@ -1,5 +1,5 @@
 -- The rules of the check by what it remembers of the records before. That this gives the same as those records do, over records of which
--- none is faulty, is proved in `proofs/Represents.antt`.
+-- none is faulty, is `JudgesAsRules` of `Represents.antt`.
 use Prim.Native.Nat.{ℕ}
 use mathlib.Core.Bool.{Bool, true, false, cond, not, _&&_, _||_}
 use lib.Dec.{eqb, ltb}
