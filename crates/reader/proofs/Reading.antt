@@ -9,51 +9,56 @@ use native.Mathlib.Omega.{arith}
 use lib.ListN.{length, getD, drop, length-drop, drop-of-length-le}
 use lib.Seq.{drop-cons, drop-drop}
 use lib.Dec.{leb, eqb}
-use borrow.Author.Tests.{le-leb, lt-leb, eq-eqb, ne-eqb, leb-true, leb-false, eqb-false}
+use borrow.Author.Tests.{le-leb, lt-leb, eq-eqb, ne-eqb, leb-true, leb-false, eqb-true, eqb-false}
 use types.Run.{OneOf, miss}
 use denote.Enum.Declared.{tagOf}
+use Rattle.words.specs.Word.{wordAt}
 use Rattle.records.specs.Kinds.{bodyLen, noLen}
 use Rattle.records.specs.Key.{keyOf, sameKey}
 use Rattle.records.specs.declared.Record.{Record}
+use Rattle.records.specs.declared.Record.the-variants.{Head, Event, Module, ModuleMove, Supervisor, SupervisorMove, Disabling, Step, End}
 use Rattle.records.specs.declared.RecordKey.{RecordKey}
-use Rattle.reader.specs.Read.{recordOf, readAt, readNumber}
+use Rattle.reader.specs.Read.{recordOf, shapeAt, readBy, readAt, readNumber}
 use Rattle.reader.specs.Walk.{Walk, more, stop, walkOf, walkFrom, recordsIn, Stopped, StopsAsRead, GoesOnAsRead}
 use Rattle.reader.specs.Find.{findIn}
+use Rattle.reader.specs.declared.Shape.{Shape}
+use Rattle.reader.specs.declared.Shape.the-variants.{Whole as WholeThere, Unknown as UnknownThere, Cut as CutThere, Nothing as NothingThere}
 use Rattle.reader.specs.declared.Read.{Read}
 use Rattle.reader.specs.declared.Read.the-variants.{Whole, Unknown, Cut, Nothing}
 use Rattle.reader.specs.declared.Found.{Found}
 use Rattle.reader.specs.declared.Found.the-variants.{It, Missing}
 use Rattle.reader.proofs.Read.{the-type}
+use Rattle.reader.proofs.Shape.{the-type as shape-type}
 
 -- the four cases, forwards
 module _ (s : List ℕ) (i : ℕ) where
-  pub reads-nothing : length s ≤ i → readAt s i ≡ Nothing
-  unfolding readAt
-  reads-nothing h = simp (le-leb (length s) i h)
+  pub shapes-nothing : length s ≤ i → shapeAt s i ≡ NothingThere
+  unfolding shapeAt
+  shapes-nothing h = simp (le-leb (length s) i h)
 
   module _ (h : i < length s) where
-    pub reads-unknown : bodyLen (getD s i 0) ≡ noLen → readAt s i ≡ Unknown
-    unfolding readAt
-    reads-unknown u = simp (lt-leb (length s) i h, eq-eqb _ _ u)
+    pub shapes-unknown : bodyLen (getD s i 0) ≡ noLen → shapeAt s i ≡ UnknownThere
+    unfolding shapeAt
+    shapes-unknown u = simp (lt-leb (length s) i h, eq-eqb _ _ u)
 
     module _ (u : bodyLen (getD s i 0) ≡ noLen → ⊥) where
-      pub reads-whole : bodyLen (getD s i 0) ≤ length s - (i + 1) → readAt s i ≡ Whole (recordOf (getD s i 0) (drop (i + 1) s)) (i + 1 + bodyLen (getD s i 0))
-      unfolding readAt
-      reads-whole w = simp (lt-leb (length s) i h, ne-eqb _ _ u, le-leb _ _ w)
+      pub shapes-whole : bodyLen (getD s i 0) ≤ length s - (i + 1) → shapeAt s i ≡ WholeThere (getD s i 0) (i + 1) (i + 1 + bodyLen (getD s i 0))
+      unfolding shapeAt
+      shapes-whole w = simp (lt-leb (length s) i h, ne-eqb _ _ u, le-leb _ _ w)
 
-      pub reads-cut : length s - (i + 1) < bodyLen (getD s i 0) → readAt s i ≡ Cut
-      unfolding readAt
-      reads-cut w = simp (lt-leb (length s) i h, ne-eqb _ _ u, lt-leb _ _ w)
+      pub shapes-cut : length s - (i + 1) < bodyLen (getD s i 0) → shapeAt s i ≡ CutThere
+      unfolding shapeAt
+      shapes-cut w = simp (lt-leb (length s) i h, ne-eqb _ _ u, lt-leb _ _ w)
 
--- the same, from what the code of `read_at` is told
-pub whole-by : (s : List ℕ) (i m : ℕ) {l : ℕ} {r : Record} → i < length s → l ≡ bodyLen (getD s i 0) → (l ≡ noLen → ⊥) → m ≡ l → m ≤ length s - (i + 1)
-    → r ≡ recordOf (getD s i 0) (drop (i + 1) s) → Whole r (i + 1 + m) ≡ readAt s i
-whole-by s i m h e u w f g =
+-- the same, from what the code of `shape_at` is told
+pub whole-by : (s : List ℕ) (i m : ℕ) {l : ℕ} → i < length s → l ≡ bodyLen (getD s i 0) → (l ≡ noLen → ⊥) → m ≡ l → m ≤ length s - (i + 1)
+    → WholeThere (getD s i 0) (i + 1) (i + 1 + m) ≡ shapeAt s i
+whole-by s i m h e u w f =
     let t : m ≡ bodyLen (getD s i 0) = w ∙ e in
-    rw (g, t) (sym (reads-whole s i h (λ q. u (e ∙ q)) (subst (λ (x : ℕ). x ≤ length s - (i + 1)) t f)))
+    rw t (sym (shapes-whole s i h (λ q. u (e ∙ q)) (subst (λ (x : ℕ). x ≤ length s - (i + 1)) t f)))
 
-pub cut-by : (s : List ℕ) (i : ℕ) {l m : ℕ} → i < length s → l ≡ bodyLen (getD s i 0) → (l ≡ noLen → ⊥) → m ≡ l → length s - (i + 1) < m → Cut ≡ readAt s i
-cut-by s i h e u w f = sym (reads-cut s i h (λ q. u (e ∙ q)) (subst (λ (x : ℕ). length s - (i + 1) < x) (w ∙ e) f))
+pub cut-by : (s : List ℕ) (i : ℕ) {l m : ℕ} → i < length s → l ≡ bodyLen (getD s i 0) → (l ≡ noLen → ⊥) → m ≡ l → length s - (i + 1) < m → CutThere ≡ shapeAt s i
+cut-by s i h e u w f = sym (shapes-cut s i h (λ q. u (e ∙ q)) (subst (λ (x : ℕ). length s - (i + 1) < x) (w ∙ e) f))
 
 -- what an answer tells of the bytes
 pub record Told (s : List ℕ) (i : ℕ) (r : Record) (n : ℕ) : Type 0 where
@@ -70,11 +75,11 @@ Seen s i Cut = i < length s
 Seen s i Nothing = length s ≤ i
 
 pub seen : (s : List ℕ) (i : ℕ) → Seen s i (readAt s i)
-unfolding readAt
+unfolding readAt shapeAt
 seen s i = go (leb (length s) i) (eqb (bodyLen (getD s i 0)) noLen) (leb (bodyLen (getD s i 0)) (length s - (i + 1))) refl refl refl
   where
     go : (a u w : Bool) → leb (length s) i ≡ a → eqb (bodyLen (getD s i 0)) noLen ≡ u → leb (bodyLen (getD s i 0)) (length s - (i + 1)) ≡ w
-        → Seen s i (cond a Nothing (cond u Unknown (cond w (Whole (recordOf (getD s i 0) (drop (i + 1) s)) (i + 1 + bodyLen (getD s i 0))) Cut)))
+        → Seen s i (readBy s (cond a NothingThere (cond u UnknownThere (cond w (WholeThere (getD s i 0) (i + 1) (i + 1 + bodyLen (getD s i 0))) CutThere))))
     go true u w p q r = leb-true _ _ p
     go false true w p q r = leb-false _ _ p
     go false false true p q r =
@@ -82,6 +87,45 @@ seen s i = go (leb (length s) i) (eqb (bodyLen (getD s i 0)) noLen) (leb (bodyLe
         let k : bodyLen (getD s i 0) ≤ length s - (i + 1) = leb-true _ _ r in
         record { inside = h; known = eqb-false _ _ q; next = refl; fits = omega arith; is = refl }
     go false false false p q r = leb-false _ _ p
+
+-- what a shape tells: the kind, the body's offset, and the read
+pub shape-kind : ℕ → Shape → ℕ
+shape-kind d (WholeThere k b n) = k
+shape-kind d UnknownThere = d
+shape-kind d CutThere = d
+shape-kind d NothingThere = d
+
+pub shape-body : ℕ → Shape → ℕ
+shape-body d (WholeThere k b n) = b
+shape-body d UnknownThere = d
+shape-body d CutThere = d
+shape-body d NothingThere = d
+
+module _ (s : List ℕ) (i : ℕ) where
+  parts : shape-kind (getD s i 0) (shapeAt s i) ≡ getD s i 0 × shape-body (i + 1) (shapeAt s i) ≡ i + 1
+  unfolding shapeAt shape-kind shape-body
+  parts = go (leb (length s) i) (eqb (bodyLen (getD s i 0)) noLen) (leb (bodyLen (getD s i 0)) (length s - (i + 1)))
+    where
+      shape : Bool → Bool → Bool → Shape
+      shape a u w = cond a NothingThere (cond u UnknownThere (cond w (WholeThere (getD s i 0) (i + 1) (i + 1 + bodyLen (getD s i 0))) CutThere))
+
+      go : (a u w : Bool) → shape-kind (getD s i 0) (shape a u w) ≡ getD s i 0 × shape-body (i + 1) (shape a u w) ≡ i + 1
+      go true u w = (refl, refl)
+      go false true w = (refl, refl)
+      go false false true = (refl, refl)
+      go false false false = (refl, refl)
+
+  pub kind-there : {k b n : ℕ} → shapeAt s i ≡ WholeThere k b n → k ≡ getD s i 0
+  unfolding shape-kind
+  kind-there e = sym (ap (shape-kind (getD s i 0)) e) ∙ parts .0
+
+  pub body-there : {k b n : ℕ} → shapeAt s i ≡ WholeThere k b n → b ≡ i + 1
+  unfolding shape-body
+  body-there e = sym (ap (shape-body (i + 1)) e) ∙ parts .1
+
+pub reads-by : (s : List ℕ) (i : ℕ) {x : Shape} → x ≡ shapeAt s i → readAt s i ≡ readBy s x
+unfolding readAt
+reads-by s i e = ap (readBy s) (sym e)
 
 -- a walk, by what stands at its offset
 abbrev pub next : List ℕ → ℕ → Read → Walk
@@ -99,7 +143,7 @@ skips (suc n) o (b ∷ bs) h = skips n (suc o) bs (omega arith) ∙ ap (λ (m : 
 
 module _ (s : List ℕ) (i : ℕ) where
   here : (k : ℕ) (u w : Bool) → eqb (bodyLen k) noLen ≡ u → leb (bodyLen k) (length s - (i + 1)) ≡ w
-      → walkOf zero i (k ∷ drop (suc i) s) ≡ next s i (cond u Unknown (cond w (Whole (recordOf k (drop (i + 1) s)) (i + 1 + bodyLen k)) Cut))
+      → walkOf zero i (k ∷ drop (suc i) s) ≡ next s i (readBy s (cond u UnknownThere (cond w (WholeThere k (i + 1) (i + 1 + bodyLen k)) CutThere)))
   unfolding walkOf
   here k true w p q = simp p
   here k false true p q =
@@ -108,11 +152,11 @@ module _ (s : List ℕ) (i : ℕ) where
   here k false false p q = simp (p, length-drop, ← add-one, q)
 
   pub walks : walkFrom s i ≡ next s i (readAt s i)
-  unfolding readAt walkOf
+  unfolding readAt shapeAt walkOf
   walks = go (leb (length s) i) refl
     where
       go : (a : Bool) → leb (length s) i ≡ a → walkFrom s i ≡ next s i (readAt s i)
-      go true p = rw (reads-nothing s i (leb-true _ _ p), drop-of-length-le s (leb-true _ _ p))
+      go true p = rw (p, drop-of-length-le s (leb-true _ _ p))
       go false p = rw (drop-cons s i 0 (leb-false _ _ p), p) (here (getD s i 0) _ _ refl refl)
 
 pub goes-on-as-read : GoesOnAsRead
@@ -156,22 +200,95 @@ module _ (s : List ℕ) (i : ℕ) {r : Read} where
       none Cut o = refl
       none Nothing o = refl
 
+-- the same, from what a caller of `shape_at` is told
+module _ (s : List ℕ) (i : ℕ) {x : Shape} where
+  pub read-there : {k b n : ℕ} → x ≡ shapeAt s i → x ≡ WholeThere k b n → readAt s i ≡ Whole (recordOf k (drop b s)) n
+  read-there e g = reads-by s i e ∙ ap (readBy s) g
+
+  pub known-there : {k b n : ℕ} → x ≡ shapeAt s i → x ≡ WholeThere k b n → bodyLen k ≡ noLen → ⊥
+  known-there e g z = told-by s i refl (read-there e g) .known (ap bodyLen (sym (kind-there s i (sym e ∙ g))) ∙ z)
+
+  pub begins-there : {k b n : ℕ} → x ≡ shapeAt s i → x ≡ WholeThere k b n → b ≤ length s
+  begins-there {b = b} e g =
+      let w : i < length s = inside-by s i refl (read-there e g) in
+      let q : b ≡ i + 1 = body-there s i (sym e ∙ g) in
+      omega arith
+
+  pub less-there : {k b : ℕ} (n : ℕ) → x ≡ shapeAt s i → x ≡ WholeThere k b n → length s - n < length s - i
+  less-there n e g = less-by s i n refl (read-there e g)
+
+  pub whole-there : {k b n : ℕ} {r : Record} → x ≡ shapeAt s i → x ≡ WholeThere k b n → r ≡ recordOf k (drop b s) → Whole r n ≡ readAt s i
+  whole-there {n = n} e g f = ap (λ (y : Record). Whole y n) f ∙ sym (read-there e g)
+
+  pub other-there : {y : Shape} {r : Read} → x ≡ shapeAt s i → x ≡ y → readBy s y ≡ r → r ≡ readAt s i
+  other-there e g f = sym (reads-by s i e ∙ ap (readBy s) g ∙ f)
+
+-- the kind of a record is the one that it was read by
+pub kind-kept : (k : ℕ) (b : List ℕ) → (bodyLen k ≡ noLen → ⊥) → keyOf (recordOf k b) .kind ≡ k
+unfolding recordOf keyOf bodyLen
+kind-kept k b h =
+    go (eqb k 0x10) (eqb k 0x11) (eqb k 0x12) (eqb k 0x13) (eqb k 0x14) (eqb k 0x15) (eqb k 0x16) (eqb k 0x17) (eqb k 0x1f)
+    refl refl refl refl refl refl refl refl refl h
+  where
+    lens : Bool → Bool → Bool → Bool → Bool → Bool → Bool → Bool → Bool → ℕ
+    lens a0 a1 a2 a3 a4 a5 a6 a7 a8 =
+        cond a0 3 (cond a1 3 (cond a2 3 (cond a3 4 (cond a4 11 (cond a5 4 (cond a6 10 (cond a7 11 (cond a8 0 noLen))))))))
+
+    read : Bool → Bool → Bool → Bool → Bool → Bool → Bool → Bool → Record
+    read a0 a1 a2 a3 a4 a5 a6 a7 =
+        cond a0 (Head (getD b 0 0) (getD b 1 0) (getD b 2 0))
+        (cond a1 (Event (getD b 0 0) (getD b 1 0) (getD b 2 0))
+        (cond a2 (Module (getD b 0 0) (getD b 1 0) (getD b 2 0))
+        (cond a3 (ModuleMove (getD b 0 0) (getD b 1 0) (getD b 2 0) (getD b 3 0))
+        (cond a4 (Supervisor (getD b 0 0) (getD b 1 0) (getD b 2 0) (wordAt b 3))
+        (cond a5 (SupervisorMove (getD b 0 0) (getD b 1 0) (getD b 2 0) (getD b 3 0))
+        (cond a6 (Disabling (getD b 0 0) (getD b 1 0) (wordAt b 2))
+        (cond a7 (Step (getD b 0 0) (getD b 1 0) (getD b 2 0) (wordAt b 3)) End)))))))
+
+    go : (a0 a1 a2 a3 a4 a5 a6 a7 a8 : Bool) → eqb k 0x10 ≡ a0 → eqb k 0x11 ≡ a1 → eqb k 0x12 ≡ a2 → eqb k 0x13 ≡ a3 → eqb k 0x14 ≡ a4
+        → eqb k 0x15 ≡ a5 → eqb k 0x16 ≡ a6 → eqb k 0x17 ≡ a7 → eqb k 0x1f ≡ a8 → (lens a0 a1 a2 a3 a4 a5 a6 a7 a8 ≡ noLen → ⊥)
+        → keyOf (read a0 a1 a2 a3 a4 a5 a6 a7) .kind ≡ k
+    go true a1 a2 a3 a4 a5 a6 a7 a8 e0 e1 e2 e3 e4 e5 e6 e7 e8 h = sym (eqb-true _ _ e0)
+    go false true a2 a3 a4 a5 a6 a7 a8 e0 e1 e2 e3 e4 e5 e6 e7 e8 h = sym (eqb-true _ _ e1)
+    go false false true a3 a4 a5 a6 a7 a8 e0 e1 e2 e3 e4 e5 e6 e7 e8 h = sym (eqb-true _ _ e2)
+    go false false false true a4 a5 a6 a7 a8 e0 e1 e2 e3 e4 e5 e6 e7 e8 h = sym (eqb-true _ _ e3)
+    go false false false false true a5 a6 a7 a8 e0 e1 e2 e3 e4 e5 e6 e7 e8 h = sym (eqb-true _ _ e4)
+    go false false false false false true a6 a7 a8 e0 e1 e2 e3 e4 e5 e6 e7 e8 h = sym (eqb-true _ _ e5)
+    go false false false false false false true a7 a8 e0 e1 e2 e3 e4 e5 e6 e7 e8 h = sym (eqb-true _ _ e6)
+    go false false false false false false false true a8 e0 e1 e2 e3 e4 e5 e6 e7 e8 h = sym (eqb-true _ _ e7)
+    go false false false false false false false false true e0 e1 e2 e3 e4 e5 e6 e7 e8 h = sym (eqb-true _ _ e8)
+    go false false false false false false false false false e0 e1 e2 e3 e4 e5 e6 e7 e8 h = absurd (h refl)
+
 -- a look-up among the records from i, by the same
-module _ (p : RecordKey) (s : List ℕ) (i : ℕ) {r : Read} {x : Found} where
-  pub finds-by : {t : Record} {n : ℕ} {q : RecordKey} {b : Bool} → r ≡ readAt s i → r ≡ Whole t n → q ≡ keyOf t → b ≡ sameKey q p → b ≡ true
-      → findIn p (recordsIn (walkFrom s i)) ≡ x → It t ≡ x
+module _ (p : RecordKey) (s : List ℕ) (i : ℕ) {x : Shape} {y : Found} where
+  pub finds-by : {k b n : ℕ} {r : Record} {q : RecordKey} {t : Bool} → x ≡ shapeAt s i → x ≡ WholeThere k b n → q ≡ keyOf (recordOf k (drop b s))
+      → t ≡ sameKey q p → t ≡ true → r ≡ recordOf k (drop b s) → findIn p (recordsIn (walkFrom s i)) ≡ y → It r ≡ y
   unfolding findIn
-  finds-by {t = t} e g h m f v =
-      let a : sameKey (keyOf t) p ≡ true = cc in
-      sym (ap (findIn p) (records-by s i e g) ∙ simp a) ∙ v
+  finds-by {k = k} {b = b} e g h m f w v =
+      let a : sameKey (keyOf (recordOf k (drop b s))) p ≡ true = cc in
+      ap It w ∙ sym (ap (findIn p) (records-by s i refl (read-there s i e g)) ∙ simp a) ∙ v
 
-  pub again-by : {t : Record} (n : ℕ) {q : RecordKey} {b : Bool} → r ≡ readAt s i → r ≡ Whole t n → q ≡ keyOf t → b ≡ sameKey q p → b ≡ false
-      → findIn p (recordsIn (walkFrom s i)) ≡ x → findIn p (recordsIn (walkFrom s n)) ≡ x
+  pub again-by : {k b : ℕ} (n : ℕ) {q : RecordKey} {t : Bool} → x ≡ shapeAt s i → x ≡ WholeThere k b n → q ≡ keyOf (recordOf k (drop b s))
+      → t ≡ sameKey q p → t ≡ false → findIn p (recordsIn (walkFrom s i)) ≡ y → findIn p (recordsIn (walkFrom s n)) ≡ y
   unfolding findIn
-  again-by {t = t} n e g h m f v =
-      let a : sameKey (keyOf t) p ≡ false = cc in
-      sym (ap (findIn p) (records-by s i e g) ∙ simp a) ∙ v
+  again-by {k = k} {b = b} n e g h m f v =
+      let a : sameKey (keyOf (recordOf k (drop b s))) p ≡ false = cc in
+      sym (ap (findIn p) (records-by s i refl (read-there s i e g)) ∙ simp a) ∙ v
 
-  pub missing-by : r ≡ readAt s i → OneOf (1 ∷ 2 ∷ 3 ∷ []) (tagOf the-type r) → findIn p (recordsIn (walkFrom s i)) ≡ x → Missing ≡ x
-  unfolding findIn
-  missing-by e t v = sym (ap (findIn p) (no-records-by s i e t)) ∙ v
+  pub passes-by : {k b : ℕ} (n : ℕ) → x ≡ shapeAt s i → x ≡ WholeThere k b n → (k ≡ p .kind → ⊥) → findIn p (recordsIn (walkFrom s i)) ≡ y
+      → findIn p (recordsIn (walkFrom s n)) ≡ y
+  unfolding sameKey
+  passes-by {k = k} {b = b} n e g d v =
+      let c : keyOf (recordOf k (drop b s)) .kind ≡ k = kind-kept k (drop b s) (known-there s i e g) in
+      let a : sameKey (keyOf (recordOf k (drop b s))) p ≡ false = simp (ne-eqb _ _ (λ z. d (sym c ∙ z))) in
+      again-by n e g refl refl a v
+
+  pub missing-by : x ≡ shapeAt s i → OneOf (1 ∷ 2 ∷ 3 ∷ []) (tagOf shape-type x) → findIn p (recordsIn (walkFrom s i)) ≡ y → Missing ≡ y
+  unfolding findIn recordsIn
+  missing-by e t v = sym (ap (λ w. findIn p (recordsIn w)) (walks s i ∙ ap (next s i) (reads-by s i e)) ∙ none x t) ∙ v
+    where
+      none : (z : Shape) → OneOf (1 ∷ 2 ∷ 3 ∷ []) (tagOf shape-type z) → findIn p (recordsIn (next s i (readBy s z))) ≡ Missing
+      none (WholeThere k b n) o = absurd (miss (1 ∷ 2 ∷ 3 ∷ []) 0 tt o)
+      none UnknownThere o = refl
+      none CutThere o = refl
+      none NothingThere o = refl

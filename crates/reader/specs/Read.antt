@@ -8,6 +8,8 @@ use Rattle.words.specs.Word.{wordAt}
 use Rattle.records.specs.Kinds.{bodyLen, noLen}
 use Rattle.records.specs.declared.Record.{Record}
 use Rattle.records.specs.declared.Record.the-variants.{Head, Event, Module, ModuleMove, Supervisor, SupervisorMove, Disabling, Step, End}
+use Rattle.reader.specs.declared.Shape.{Shape}
+use Rattle.reader.specs.declared.Shape.the-variants.{Whole as WholeThere, Unknown as UnknownThere, Cut as CutThere, Nothing as NothingThere}
 use Rattle.reader.specs.declared.Read.{Read}
 use Rattle.reader.specs.declared.Read.the-variants.{Whole, Unknown, Cut, Nothing}
 
@@ -24,13 +26,21 @@ recordOf k b =
     (cond (eqb k 0x17) (Step (getD b 0 0) (getD b 1 0) (getD b 2 0) (wordAt b 3)) End)))))))
 
 -- "A record is one byte of kind, then a body whose length the kind alone fixes."
+unfoldable pub shapeAt : List ℕ → ℕ → Shape
+shapeAt s at =
+    cond (leb (length s) at) NothingThere
+    (cond (eqb (bodyLen (getD s at 0)) noLen) UnknownThere
+    (cond (leb (bodyLen (getD s at 0)) (length s - (at + 1))) (WholeThere (getD s at 0) (at + 1) (at + 1 + bodyLen (getD s at 0))) CutThere))
+
+-- the record itself, where it is whole
+abbrev pub readBy : List ℕ → Shape → Read
+readBy s (WholeThere k b n) = Whole (recordOf k (drop b s)) n
+readBy s UnknownThere = Unknown
+readBy s CutThere = Cut
+readBy s NothingThere = Nothing
+
 unfoldable pub readAt : List ℕ → ℕ → Read
-readAt s at =
-    cond (leb (length s) at) Nothing
-    (cond (eqb (bodyLen (getD s at 0)) noLen) Unknown
-    (cond (leb (bodyLen (getD s at 0)) (length s - (at + 1)))
-    (Whole (recordOf (getD s at 0) (drop (at + 1) s)) (at + 1 + bodyLen (getD s at 0)))
-    Cut))
+readAt s at = readBy s (shapeAt s at)
 
 -- Document 01, "Numbers for what is turned down": 2 is "unknown kind", 3 is "body cut, or no end record"; 0 for a whole record
 abbrev pub readNumber : Read → ℕ

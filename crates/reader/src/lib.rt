@@ -2,7 +2,8 @@
 ghost use mathlib.Core.Path.{_≡_};
 ghost use Prim.Native.Nat.{_≤_};
 ghost use lib.ListN.{length, drop};
-ghost use Rattle.reader.specs.Read.{recordOf, readAt};
+ghost use Rattle.records.specs.Key.{keyBy, keyOf};
+ghost use Rattle.reader.specs.Read.{recordOf, shapeAt, readAt};
 ghost use Rattle.reader.specs.Find.{findIn};
 ghost use Rattle.reader.specs.Walk.{recordsOf};
 use records::Record;
@@ -89,24 +90,43 @@ pub enum Read {
     Nothing,
 }
 
-pub fn read_at(s: &[u8], at: usize) -> Read
-    ensures { λ r. ⌜ r ≡ readAt (now (s .entry)) at ⌝ }
+// The same without the fields.
+enum Shape {
+    // the kind, and the offsets of the body and of what follows it
+    Whole(u8, usize, usize),
+    Unknown,
+    Cut,
+    Nothing,
+}
+
+fn shape_at(s: &[u8], at: usize) -> Shape
+    ensures { λ r. ⌜ r ≡ shapeAt (now (s .entry)) at ⌝ }
 {
     if s.len() <= at {
-        return Read::Nothing;
+        return Shape::Nothing;
     }
     let k = s[at];
     let n = records::body_len(k);
     if n == records::NO_LEN {
-        return Read::Unknown;
+        return Shape::Unknown;
     }
     let m = words::wide(n);
     let b = at + 1;
     if m <= s.len() - b {
-        let r = record_of(k, s, b);
-        Read::Whole(r, b + m)
+        Shape::Whole(k, b, b + m)
     } else {
-        Read::Cut
+        Shape::Cut
+    }
+}
+
+pub fn read_at(s: &[u8], at: usize) -> Read
+    ensures { λ r. ⌜ r ≡ readAt (now (s .entry)) at ⌝ }
+{
+    match shape_at(s, at) {
+        Shape::Whole(k, b, next) => Read::Whole(record_of(k, s, b), next),
+        Shape::Unknown => Read::Unknown,
+        Shape::Cut => Read::Cut,
+        Shape::Nothing => Read::Nothing,
     }
 }
 
@@ -115,18 +135,52 @@ pub enum Found {
     Missing,
 }
 
-// The first record with a kind and key, as far as the image can be read, also after an end record;
-// in an accepted plan the end record is the last.
+fn key_by(kind: u8, first: u8, second: u8, third: u8) -> RecordKey
+    ensures { λ p. ⌜ p ≡ keyBy kind first second third ⌝ }
+{
+    RecordKey {
+        kind,
+        first,
+        second,
+        third,
+    }
+}
+
+// The key of the record of a kind of the table whose body begins at an offset of the slice.
+fn key_at(kind: u8, s: &[u8], b: usize) -> RecordKey
+    requires { ⌜ b ≤ length (now s) ⌝ }
+    ensures { λ r. ⌜ r ≡ keyOf (recordOf kind (drop b (now (s .entry)))) ⌝ }
+{
+    let first = words::byte_at(s, b);
+    let second = words::byte_at(s, b + 1);
+    let third = words::byte_at(s, b + 2);
+    match kind {
+        0x10 => key_by(0x10, 0, 0, 0),
+        0x11 => key_by(0x11, first, 0, 0),
+        0x12 => key_by(0x12, first, 0, 0),
+        0x13 => key_by(0x13, first, second, third),
+        0x14 => key_by(0x14, first, 0, 0),
+        0x15 => key_by(0x15, first, second, third),
+        0x16 => key_by(0x16, first, second, 0),
+        0x17 => key_by(0x17, first, second, 0),
+        _ => key_by(0x1f, 0, 0, 0),
+    }
+}
+
+// The first record with a kind and key, as far as the image can be read, also after an end record; in an accepted plan the end
+// record is the last. The keys of the kind alone are compared, and only the record found is read whole.
 pub fn find(s: &[u8], key: RecordKey) -> Found
     ensures { λ r. ⌜ r ≡ findIn key (recordsOf (now (s .entry))) ⌝ }
 {
     let mut i: usize = 0;
     loop {
-        let Read::Whole(r, next) = read_at(s, i) else {
+        let Shape::Whole(k, b, next) = shape_at(s, i) else {
             return Found::Missing;
         };
-        if records::same_key(records::key_of(r), key) {
-            return Found::It(r);
+        if k == key.kind {
+            if records::same_key(key_at(k, s, b), key) {
+                return Found::It(record_of(k, s, b));
+            }
         }
         i = next;
     }

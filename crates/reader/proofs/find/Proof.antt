@@ -4,7 +4,7 @@ use lib.ListN.{length}
 use borrow.Author.Needs.{needs}
 use Rattle.reader.specs.Walk.{walkFrom, recordsIn, recordsOf}
 use Rattle.reader.specs.Find.{findIn}
-use Rattle.reader.proofs.Reading.{missing-by, finds-by, less-by, again-by}
+use Rattle.reader.proofs.Reading.{begins-there, missing-by, finds-by, less-there, again-by, passes-by}
 use Rattle.reader.proofs.find.Statement.{statement}
 use Rattle.reader.proofs.find.Tie as tie
 
@@ -17,29 +17,38 @@ abbrev μ-loop : tie.MeasureT-loop
 loop-holds : tie.Need-loop-holds Inv-loop μ-loop
 loop-holds c = refl
 
-read-at-requires : tie.Need-read-at-requires Inv-loop μ-loop
-read-at-requires c κs = search needs
+shape-at-requires : tie.Need-shape-at-requires Inv-loop μ-loop
+shape-at-requires c κs = search needs
 
-enum-known-r : tie.Need-enum-known-r Inv-loop μ-loop
-enum-known-r c = search needs
+enum-known-k : tie.Need-enum-known-k Inv-loop μ-loop
+enum-known-k c = search needs
 
 returns : tie.Need-returns Inv-loop μ-loop
 returns c = search missing-by
 
-key-of-requires : tie.Need-key-of-requires Inv-loop μ-loop
-key-of-requires c κs = search needs
+key-at-requires : tie.Need-key-at-requires Inv-loop μ-loop
+key-at-requires c κs = search begins-there
 
 same-key-requires : tie.Need-same-key-requires Inv-loop μ-loop
 same-key-requires c κs = search needs
+
+record-of-requires : tie.Need-record-of-requires Inv-loop μ-loop
+record-of-requires c κs = search begins-there
 
 returns-2 : tie.Need-returns-2 Inv-loop μ-loop
 returns-2 c = search finds-by
 
 loop-less : tie.Need-loop-less Inv-loop μ-loop
-loop-less c = search less-by
+loop-less c = search less-there
 
 loop-again : tie.Need-loop-again Inv-loop μ-loop
 loop-again c = search again-by
+
+loop-less-2 : tie.Need-loop-less-2 Inv-loop μ-loop
+loop-less-2 c = search less-there
+
+loop-again-2 : tie.Need-loop-again-2 Inv-loop μ-loop
+loop-again-2 c = search passes-by
 
 pub find-spec : {M : Type 1} → statement M
 find-spec =
@@ -48,11 +57,14 @@ find-spec =
     Inv-loop
     μ-loop
     loop-holds
-    read-at-requires
-    enum-known-r
+    shape-at-requires
+    enum-known-k
     returns
-    key-of-requires
+    key-at-requires
     same-key-requires
+    record-of-requires
     returns-2
     loop-less
-    loop-again)
+    loop-again
+    loop-less-2
+    loop-again-2)

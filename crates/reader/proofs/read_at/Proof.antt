@@ -1,54 +1,49 @@
-use mathlib.Core.Path.{sym, _∙_}
-use Rattle.reader.proofs.Reading.{reads-nothing, reads-unknown, whole-by, cut-by}
+use Rattle.reader.proofs.Reading.{begins-there, whole-there, other-there}
 use borrow.Author.Needs.{needs}
 use Rattle.reader.proofs.read_at.Statement.{statement}
 use Rattle.reader.proofs.read_at.Tie as tie
 
-returns : tie.Need-returns
-returns c = sym (reads-nothing _ _ (c .if1 .taken))
+shape-at-requires : tie.Need-shape-at-requires
+shape-at-requires c κs = search needs
 
-shared-slice-read-k : tie.Need-shared-slice-read-k
-shared-slice-read-k c = search needs
-
-body-len-requires : tie.Need-body-len-requires
-body-len-requires c κs = search needs
-
-returns-2 : tie.Need-returns-2
-returns-2 c = sym (reads-unknown _ _ (c .before .before .before .if1 .left) (sym (c .before .body-len .ensures) ∙ c .if2 .taken))
-
-wide-requires : tie.Need-wide-requires
-wide-requires c κs = search needs
-
-add-b : tie.Need-add-b
-add-b c = search needs
-
-sub-if3 : tie.Need-sub-if3
-sub-if3 c = search needs
+enum-known-k : tie.Need-enum-known-k
+enum-known-k c = search needs
 
 record-of-requires : tie.Need-record-of-requires
-record-of-requires c κs = search needs
+record-of-requires c κs = search begins-there
 
-add-t14 : tie.Need-add-t14
-add-t14 c = search needs
+enum-told : tie.Need-enum-told
+enum-told c = search needs
+
+enum-told-2 : tie.Need-enum-told-2
+enum-told-2 c = search needs
+
+enum-told-3 : tie.Need-enum-told-3
+enum-told-3 c = search needs
+
+returns : tie.Need-returns
+returns c = search whole-there
+
+returns-2 : tie.Need-returns-2
+returns-2 c = search other-there
 
 returns-3 : tie.Need-returns-3
-returns-3 c = search whole-by
+returns-3 c = search other-there
 
 returns-4 : tie.Need-returns-4
-returns-4 c = search cut-by
+returns-4 c = search other-there
 
 pub read-at-spec : {M : Type 1} → statement M
 read-at-spec =
     tie.close
     (tie.spec
-    returns
-    shared-slice-read-k
-    body-len-requires
-    returns-2
-    wide-requires
-    add-b
-    sub-if3
+    shape-at-requires
+    enum-known-k
     record-of-requires
-    add-t14
+    enum-told
+    enum-told-2
+    enum-told-3
+    returns
+    returns-2
     returns-3
     returns-4)
