@@ -11,7 +11,7 @@ use Rattle.messages.specs.Message.{messageBytes, parse}
 use Rattle.messages.specs.declared.Message.{Message}
 use Rattle.messages.specs.declared.Message.the-variants.{Bid, Permit, Release}
 use Rattle.messages.specs.declared.Parsed.the-variants.{Whole}
-use Rattle.permits.specs.Module.{bytesOfMessages}
+use Rattle.permits.specs.Step.{bytesOfMessages}
 use Rattle.agreement.specs.System.{pieces}
 
 -- a permit's mask has 64 bits

@@ -105,7 +105,7 @@ module _ (rs : List Record) (L : Laws (planOf rs)) (D : System) (O : R.OneDevice
     event-named none h = refl
     event-named (some n) h =
         let q = and-true (inAlphabet rs v n) (eqb (ownerOf rs n) m) h in
-        let f : eventNamed rs m v n ≡ true = and-intro (and-intro (lt-ltb n (eventsOf rs) (L .alphabet-event v n (q .0))) (q .0)) (q .1) in
+        let f : eventNamed rs m v n ≡ true = and-intro (and-intro (lt-ltb n (eventsOf rs) (L .alphabet-event v n (q .0))) (q .1)) (q .0) in
         ap (λ (b : Bool). eqb n noEvent || b) f ∙ or-on (eqb n noEvent)
       where
         or-on : (b : Bool) → (b || true) ≡ true

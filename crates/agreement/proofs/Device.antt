@@ -28,9 +28,10 @@ use Rattle.modules.specs.declared.Replied.{Replied}
 use Rattle.modules.specs.Procedure.{calledBy}
 use Rattle.modules.specs.Turn.{turnOf, emptyOwn}
 use Rattle.modules.specs.Fits.{ownFits, ownEmpty}
-use Rattle.device.specs.declared.Device.{Device}
+use Rattle.device_states.specs.declared.Device.{Device}
 use Rattle.device.specs.declared.Turning.the-variants.{Turned as DeviceTurned}
-use Rattle.device.specs.Device.{ownAt, stateAt, listFrom, ownSlotFits, stateSlotFits, deviceFits, shownBy, ledBy, withOwn, turned, afterTurn, deviceNumber, turnIn, turnBy, replyIn, replyBy}
+use Rattle.device_states.specs.States.{ownAt, stateAt, listFrom, ownSlotFits, stateSlotFits, deviceFits, shownBy, ledBy, withOwn}
+use Rattle.device.specs.Device.{turned, afterTurn, deviceNumber, turnIn, turnBy, replyIn, replyBy}
 use Rattle.protocol.specs.Generic.{update}
 use Rattle.protocol.specs.Rules as R
 use Rattle.protocol.proofs.Tools.{update-same, update-other}

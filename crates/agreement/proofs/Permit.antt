@@ -48,8 +48,8 @@ module _ (rs : List Record) (v : ℕ) (y : Supervisor) where
       refl
     where
       go : (t : Option ℕ) → Serves (S.stepIn rs v y b t)
-      go none = either Serves (ltb (length b) (length (S.sentBytes (S.sentTo rs v y none)))) _ _ refl refl
-      go (some m) = either Serves (ltb (length b) (length (S.sentBytes (S.sentTo rs v y (some m))))) _ _ refl refl
+      go none = either Serves (ltb (length b) (length (S.stepBytes rs v y none))) _ _ refl refl
+      go (some m) = either Serves (ltb (length b) (length (S.stepBytes rs v y (some m)))) _ _ refl refl
 
   -- a claim of every refusal and of what an accepted message does holds of the call
   delivers : (Q : SupervisorCalled → Type 0) (g : Message) → ((n o : ℕ) → Q (S.callRefused y n o)) → Q (S.takenBy rs v y g) → (w : Verdict)

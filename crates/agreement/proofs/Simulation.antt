@@ -218,10 +218,10 @@ module _ (image : List ℕ) (plan : IsPlan image) (L : Laws (planOf (recordsOf i
 
   pub supervisor-call : (v : ℕ) (b : List ℕ) → v < supervisorsOf rs → length b ≡ 128
       → S.supervisorStep image v (B .supervisorAt v) b
-      ≡ record { answer = S.answerBy (S.sentBytes (S.sentTo rs v (B .supervisorAt v) (R.served (D .supervisorAt v)))) (R.served (D .supervisorAt v)); state = S.stateAfter (B .supervisorAt v) (R.served (D .supervisorAt v)); buffer = written (S.sentBytes (S.sentTo rs v (B .supervisorAt v) (R.served (D .supervisorAt v)))) b }
+      ≡ record { answer = S.answerBy (S.stepBytes rs v (B .supervisorAt v) (R.served (D .supervisorAt v))) (R.served (D .supervisorAt v)); state = S.stateAfter (B .supervisorAt v) (R.served (D .supervisorAt v)); buffer = written (S.stepBytes rs v (B .supervisorAt v) (R.served (D .supervisorAt v))) b }
   supervisor-call v b l n =
       serve-is rs v (B .supervisorAt v) (verdictOf image) b plan l (supervisor-fits rs L D O I v (B .supervisorAt v) l (s .supervisors v l)) n
-      ∙ ap (λ (t : Option ℕ). record { answer = S.answerBy (S.sentBytes (S.sentTo rs v (B .supervisorAt v) t)) t; state = S.stateAfter (B .supervisorAt v) t; buffer = written (S.sentBytes (S.sentTo rs v (B .supervisorAt v) t)) b })
+      ∙ ap (λ (t : Option ℕ). record { answer = S.answerBy (S.stepBytes rs v (B .supervisorAt v) t) t; state = S.stateAfter (B .supervisorAt v) t; buffer = written (S.stepBytes rs v (B .supervisorAt v) t) b })
       (served-is rs v (B .supervisorAt v) (D .supervisorAt v) (s .supervisors v l))
 
   pub supervisor-done : (v : ℕ) (b : List ℕ) → length b ≡ 128 → Done image B D (A.supervisorStep v b)

@@ -27,6 +27,8 @@ use Rattle.permits.specs.declared.Holder.{Holder}
 use Rattle.permits.specs.declared.Holder.the-variants.{Home, Out}
 use Rattle.permits.specs.Module as M
 use Rattle.permits.specs.Supervisor as S
+use Rattle.permits.specs.Step.{bytesOfMessages}
+use Rattle.permits.proofs.Stepping.{bytes-one}
 use Rattle.protocol.specs.Plan.{Plan, Laws}
 use Rattle.protocol.specs.Rules as R
 use Rattle.agreement.specs.PlanOf.{planOf}
@@ -66,8 +68,8 @@ module _ (rs : List Record) (m : ℕ) (x : Module) where
   step-room : (c : M.Choice) → length (M.stepBytes rs m x c) ≤ 128
   unfolding M.sentBy
   step-room M.takesTurn = omega (arith, length-fours turnMessages (releases-fours rs m (M.turnTaken rs m x .turn) 32), releases-most rs m (M.turnTaken rs m x .turn) 32)
-  step-room M.waits = unfold M.bytesOfMessages in (omega arith)
-  step-room (M.bidsTo v) = unfold M.bytesOfMessages messageBytes in (omega arith)
+  step-room M.waits = unfold bytesOfMessages in (omega arith)
+  step-room (M.bidsTo v) = unfold bytesOfMessages messageBytes in (omega arith)
 
   -- the whole answer of an accepted step
   pub step-is : (w : Verdict) (b : List ℕ) → w ≡ Accepted → m < modulesOf rs → M.moduleFits rs m x ≡ true → length b ≡ 128
@@ -88,11 +90,11 @@ module _ (rs : List Record) (m : ℕ) (x : Module) where
   unfolding M.sentBy M.answerBy sent
   sent-is M.takesTurn b =
       let n = length-fours turnMessages (releases-fours rs m (M.turnTaken rs m x .turn) 32) in
-      let e : length (M.bytesOfMessages turnMessages) / 4 ≡ length turnMessages = omega arith in
-      ap (λ (k : ℕ). pieces k (written (M.bytesOfMessages turnMessages) b)) e ∙ pieces-of turnMessages (drop (length (M.bytesOfMessages turnMessages)) b) (releases-fours rs m (M.turnTaken rs m x .turn) 32)
+      let e : length (bytesOfMessages turnMessages) / 4 ≡ length turnMessages = omega arith in
+      ap (λ (k : ℕ). pieces k (written (bytesOfMessages turnMessages) b)) e ∙ pieces-of turnMessages (drop (length (bytesOfMessages turnMessages)) b) (releases-fours rs m (M.turnTaken rs m x .turn) 32)
   sent-is M.waits b = refl
   sent-is (M.bidsTo v) b =
-      ap (λ (l : List ℕ). l ∷ []) (take-at (M.bytesOfMessages (Bid m v ∷ [])) (drop (length (M.bytesOfMessages (Bid m v ∷ []))) b) (length (M.bytesOfMessages (Bid m v ∷ []))) refl ∙ (unfold M.bytesOfMessages in (append-nil (messageBytes (Bid m v)))))
+      ap (λ (l : List ℕ). l ∷ []) (take-at (bytesOfMessages (Bid m v ∷ [])) (drop (length (bytesOfMessages (Bid m v ∷ []))) b) (length (bytesOfMessages (Bid m v ∷ []))) refl ∙ (unfold bytesOfMessages in (append-nil (messageBytes (Bid m v)))))
 
 -- the rules' messages of a choice
 unfoldable pub sentOf : Plan → ℕ → R.ModuleState → R.Choice → List R.Message
@@ -127,17 +129,17 @@ module _ (rs : List Record) (L : Laws (planOf rs)) (m : ℕ) (x : Module) (y : R
 -- ---- a supervisor step
 
 module _ (rs : List Record) (v : ℕ) (x : Supervisor) where
-  serve-room : (t : Option ℕ) → length (S.sentBytes (S.sentTo rs v x t)) ≤ 128
-  unfolding S.sentBytes S.sentTo
+  serve-room : (t : Option ℕ) → length (S.stepBytes rs v x t) ≤ 128
+  unfolding bytesOfMessages S.sentTo messageBytes
   serve-room none = omega arith
-  serve-room (some m) = unfold messageBytes in (omega (arith, length-word (shown rs v (x .state))))
+  serve-room (some m) = omega (arith, ap length (bytes-one (Permit v m (shown rs v (x .state)))), length-word (shown rs v (x .state)))
 
   pub serve-is : (w : Verdict) (b : List ℕ) → w ≡ Accepted → v < supervisorsOf rs → S.supervisorFits rs v x ≡ true → length b ≡ 128
       → S.stepBy w rs v x b
-      ≡ record { answer = S.answerBy (S.sentBytes (S.sentTo rs v x (S.served x))) (S.served x); state = S.stateAfter x (S.served x); buffer = written (S.sentBytes (S.sentTo rs v x (S.served x))) b }
+      ≡ record { answer = S.answerBy (S.stepBytes rs v x (S.served x)) (S.served x); state = S.stateAfter x (S.served x); buffer = written (S.stepBytes rs v x (S.served x)) b }
   unfolding S.stepBy S.stepIn
   serve-is w b a l f n =
-      let r : ltb (length b) (length (S.sentBytes (S.sentTo rs v x (S.served x)))) ≡ false = le-ltb (length b) (length (S.sentBytes (S.sentTo rs v x (S.served x)))) (omega (arith, serve-room (S.served x))) in
+      let r : ltb (length b) (length (S.stepBytes rs v x (S.served x))) ≡ false = le-ltb (length b) (length (S.stepBytes rs v x (S.served x))) (omega (arith, serve-room (S.served x))) in
       rw (a, lt-ltb v (supervisorsOf rs) l, f, r)
 
   pub serve-absent : (w : Verdict) (b : List ℕ) → w ≡ Accepted → supervisorsOf rs ≤ v → S.stepBy w rs v x b ≡ S.stepRefused x b 11 0
@@ -145,10 +147,10 @@ module _ (rs : List Record) (v : ℕ) (x : Supervisor) where
       ap (λ (z : Verdict). S.stepBy z rs v x b) a
       ∙ (unfold S.stepBy in (ap (λ (p : Bool). cond p (cond (S.supervisorFits rs v x) (S.stepIn rs v x b (S.served x)) (S.stepRefused x b 9 0)) (S.stepRefused x b 11 0)) (le-ltb v (supervisorsOf rs) l)))
 
-  pub served-bytes : (t : Option ℕ) (b : List ℕ) → sentOut (S.answerBy (S.sentBytes (S.sentTo rs v x t)) t) (written (S.sentBytes (S.sentTo rs v x t)) b) ≡ map messageBytes (S.sentTo rs v x t)
-  unfolding S.sentBytes S.sentTo S.answerBy sentOut
+  pub served-bytes : (t : Option ℕ) (b : List ℕ) → sentOut (S.answerBy (S.stepBytes rs v x t) t) (written (S.stepBytes rs v x t) b) ≡ map messageBytes (S.sentTo rs v x t)
+  unfolding S.sentTo S.answerBy sentOut
   served-bytes none b = refl
-  served-bytes (some m) b = ap (λ (l : List ℕ). l ∷ []) (take-at (messageBytes (Permit v m (shown rs v (x .state)))) (drop (length (messageBytes (Permit v m (shown rs v (x .state))))) b) (length (messageBytes (Permit v m (shown rs v (x .state))))) refl)
+  served-bytes (some m) b = ap (λ (l : List ℕ). l ∷ []) (take-at (S.stepBytes rs v x (some m)) (drop (length (S.stepBytes rs v x (some m))) b) (length (S.stepBytes rs v x (some m))) refl ∙ bytes-one (Permit v m (shown rs v (x .state))))
 
 unfoldable pub permitOf : Plan → ℕ → R.SupervisorState → Option ℕ → List R.Message
 permitOf P v y none = []

@@ -16,9 +16,10 @@ use Rattle.modules.specs.declared.Own.{Own}
 use Rattle.modules.specs.declared.Replied.{Replied}
 use Rattle.modules.specs.Procedure.{calledBy, respondOf, tickOf}
 use Rattle.modules.specs.Fits.{ownFits}
-use Rattle.device.specs.Device.{deviceFits}
-use Rattle.device.specs.declared.Device.{Device}
+use Rattle.device_states.specs.States.{deviceFits}
+use Rattle.device_states.specs.declared.Device.{Device}
 use Rattle.device.specs.declared.Turning.the-variants.{Turned}
+use Rattle.device_states.specs.States as States
 use Rattle.device.specs.Device as Dev
 use Rattle.protocol.specs.Plan.{Plan, Laws}
 use Rattle.protocol.specs.Generic.{update}
@@ -97,20 +98,20 @@ module _ (image : List ℕ) (plan : IsPlan image) (L : Laws (planOf (recordsOf i
     seen : C.deviceActSeen image d (fedOf x) ≡ seenOf (P.deviceActSeen (planOf rs) O x)
 
   reply-fed : (d : Device) (O : R.OneDevice) (m : ℕ) (r : Own → Replied) → Same rs d O → m < modulesOf rs → ownFits rs m (r (O .owns m) .own) ≡ true
-      → Same rs (Dev.replyBy (verdictOf image) rs d m (r (Dev.ownAt d m)) .device) (record { owns = update (O .owns) m (r (O .owns m) .own); states = O .states })
+      → Same rs (Dev.replyBy (verdictOf image) rs d m (r (States.ownAt d m)) .device) (record { owns = update (O .owns) m (r (O .owns m) .own); states = O .states })
   reply-fed d O m r s l f =
-      rw (reply-call rs few-modules (few rs L) (watched rs L) kept (verdictOf image) d m (r (Dev.ownAt d m)) plan (s .fits) l, s .owns m l)
+      rw (reply-call rs few-modules (few rs L) (watched rs L) kept (verdictOf image) d m (r (States.ownAt d m)) plan (s .fits) l, s .owns m l)
       (reply-same rs few-modules (few rs L) (watched rs L) kept d O m (r (O .owns m) .own) s l f)
 
-  own-of : (d : Device) (O : R.OneDevice) (m : ℕ) (o : Own) (st : ℕ → ℕ) → m < modulesOf rs → Same rs d (record { owns = update (O .owns) m o; states = st }) → Dev.ownAt d m ≡ o
+  own-of : (d : Device) (O : R.OneDevice) (m : ℕ) (o : Own) (st : ℕ → ℕ) → m < modulesOf rs → Same rs d (record { owns = update (O .owns) m o; states = st }) → States.ownAt d m ≡ o
   own-of d O m o st l s = s .owns m l ∙ update-same (O .owns) m o
 
   reply-seen : (d : Device) (O : R.OneDevice) (m : ℕ) (r : Own → Replied) → Same rs d O → m < modulesOf rs → ownFits rs m (r (O .owns m) .own) ≡ true
-      → C.callSeen m (Dev.replyBy (verdictOf image) rs d m (r (Dev.ownAt d m)) .answer) (Dev.ownAt (Dev.replyBy (verdictOf image) rs d m (r (Dev.ownAt d m)) .device) m)
+      → C.callSeen m (Dev.replyBy (verdictOf image) rs d m (r (States.ownAt d m)) .answer) (States.ownAt (Dev.replyBy (verdictOf image) rs d m (r (States.ownAt d m)) .device) m)
       ≡ C.callSeen m (calledBy (r (O .owns m) .reply)) (r (O .owns m) .own)
   reply-seen d O m r s l f =
       ap₂ (C.callSeen m)
-      (rw (reply-call rs few-modules (few rs L) (watched rs L) kept (verdictOf image) d m (r (Dev.ownAt d m)) plan (s .fits) l, s .owns m l))
+      (rw (reply-call rs few-modules (few rs L) (watched rs L) kept (verdictOf image) d m (r (States.ownAt d m)) plan (s .fits) l, s .owns m l))
       (own-of _ O m (r (O .owns m) .own) (O .states) l (reply-fed d O m r s l f))
 
   -- a turn of a module of the plan
@@ -132,11 +133,11 @@ module _ (image : List ℕ) (plan : IsPlan image) (L : Laws (planOf (recordsOf i
     turn-fed : Same rs (Dev.turnBy (verdictOf image) rs d m .device) after
     turn-fed = subst (λ c. Same rs (c .device) after) (sym call-is) turn-after
 
-    turn-seen : C.turningSeen m (Dev.turnBy (verdictOf image) rs d m .answer) (Dev.ownAt (Dev.turnBy (verdictOf image) rs d m .device) m)
+    turn-seen : C.turningSeen m (Dev.turnBy (verdictOf image) rs d m .answer) (States.ownAt (Dev.turnBy (verdictOf image) rs d m .device) m)
         ≡ C.turnSeen m (R.deviceTurn (planOf rs) O m .turn) (R.deviceTurn (planOf rs) O m .own)
     unfolding C.turningSeen
     turn-seen =
-        ap (λ c. C.turningSeen m (c .answer) (Dev.ownAt (c .device) m)) call-is
+        ap (λ c. C.turningSeen m (c .answer) (States.ownAt (c .device) m)) call-is
         ∙ ap (C.turnSeen m (R.deviceTurn (planOf rs) O m .turn)) (own-of _ O m (R.deviceTurn (planOf rs) O m .own) (after .states) l turn-after)
 
   fed-act : (d : Device) (O : R.OneDevice) (x : R.DeviceAct) → Same rs d O → moduleOf x < modulesOf rs

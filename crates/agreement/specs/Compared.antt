@@ -12,8 +12,9 @@ use Rattle.modules.specs.declared.Own.{Own}
 use Rattle.modules.specs.declared.Turn.{Turn}
 use Rattle.modules.specs.declared.Called.{Called}
 use Rattle.modules.specs.declared.Called.the-variants.{Done, Refused as CallRefused}
-use Rattle.device.specs.Device.{ownAt, turnCall, respondCall, tickCall}
-use Rattle.device.specs.declared.Device.{Device}
+use Rattle.device_states.specs.States.{ownAt}
+use Rattle.device.specs.Device.{turnCall, respondCall, tickCall}
+use Rattle.device_states.specs.declared.Device.{Device}
 use Rattle.device.specs.declared.Turning.{Turning}
 use Rattle.device.specs.declared.Turning.the-variants.{Turned as DeviceTurned, Refused as DeviceRefused}
 use Rattle.permits.specs.declared.Stepped.{Stepped}

@@ -11,7 +11,8 @@ use Rattle.rules.specs.LookUp.{modulesOf, supervisorsOf}
 use Rattle.rules.specs.Check.{IsPlan}
 use Rattle.water.specs.declared.Flow.{Flow}
 use Rattle.modules.specs.declared.Called.the-variants.{Done}
-use Rattle.device.specs.Device.{deviceFits, startCall}
+use Rattle.device_states.specs.States.{deviceFits}
+use Rattle.device.specs.Device.{startCall}
 use Rattle.messages.specs.Message.{parse}
 use Rattle.messages.specs.declared.Message.the-variants.{Bid, Permit, Release}
 use Rattle.messages.specs.declared.Parsed.{Parsed}

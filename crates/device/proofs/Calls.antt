@@ -18,12 +18,13 @@ use Rattle.modules.specs.declared.Turned.{Turned}
 use Rattle.modules.specs.declared.Replied.{Replied}
 use Rattle.modules.specs.declared.Called.the-variants.{Done}
 use Rattle.modules.proofs.Turn.{the-type}
-use Rattle.device.specs.declared.Device.{Device}
+use Rattle.device_states.specs.declared.Device.{Device}
 use Rattle.device.specs.declared.DeviceTurned.{DeviceTurned}
 use Rattle.device.specs.declared.DeviceCalled.{DeviceCalled}
 use Rattle.device.specs.declared.Turning.the-variants.{Turned as Turns, Refused as TurnRefused}
-use Rattle.device.specs.Device.{stateOf, listFrom, ledBy, withOwn, turned, statesAfter, afterTurn, deviceNumber, turnRefused, turnIn, turnBy, turnCall, callRefused, replyIn, replyBy, emptyDevice, startDevice, startBy, startCall}
-use Rattle.device.proofs.Slots.{same-slots}
+use Rattle.device_states.specs.States.{stateOf, listFrom, ledBy, withOwn, statesAfter, emptyDevice, startDevice}
+use Rattle.device.specs.Device.{turned, afterTurn, deviceNumber, turnRefused, turnIn, turnBy, turnCall, callRefused, replyIn, replyBy, startBy, startCall}
+use Rattle.device_states.proofs.Slots.{same-slots}
 
 -- ---- the state after a turn
 

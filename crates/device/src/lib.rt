@@ -1,22 +1,16 @@
-// The one-device controller: its state and its calls. specs/Device.antt says what each gives.
+// The calls of the one-device controller. specs/Device.antt says what each gives.
 ghost use mathlib.Core.Path.{_≡_};
-ghost use Rattle.bits.specs.Bit.{allBelow};
 ghost use Rattle.reader.specs.Walk.{recordsOf};
 ghost use Rattle.modules.specs.Procedure.{respondOf, tickOf};
-ghost use Rattle.device.specs.Device.{ownAt, stateOf, withOwn, ownSlotFits, stateSlotFits, deviceFits, shownBy, statesAfter, turned, afterTurn, deviceNumber, turnIn, turnCall, callRefused, replyIn, respondCall, tickCall, emptyDevice, startSlot, startState, listFrom, startDevice, startCall};
+ghost use Rattle.device_states.specs.States.{ownAt};
+ghost use Rattle.device.specs.Device.{turned, afterTurn, deviceNumber, turnIn, turnCall, callRefused, replyIn, respondCall, tickCall, startCall};
+use device_states::Device;
 use modules::Called;
-use modules::Own;
 use modules::Replied;
 use modules::Turn;
 use modules::Turned;
 use rules::Verdict;
 use water::Flow;
-
-// Each module's own part and each supervisor's state. Slots that the plan lacks hold 0.
-pub struct Device {
-    pub modules: [Own; 16],
-    pub supervisors: [u8; 32],
-}
 
 // What a turn got.
 pub enum Turning {
@@ -36,146 +30,17 @@ pub struct DeviceCalled {
     pub device: Device,
 }
 
-// The own part of a module, and the empty one past the last slot.
-fn own_of(d: Device, m: u8) -> Own
-    ensures { λ r. ⌜ r ≡ ownAt d m ⌝ }
-{
-    if m < 16 {
-        let i = words::wide(m);
-        d.modules[i]
-    } else {
-        modules::empty()
-    }
-}
-
-// The state of a supervisor, and 0 past the last slot.
-fn state_of(states: [u8; 32], v: u8) -> u8
-    ensures { λ r. ⌜ r ≡ stateOf states v ⌝ }
-{
-    if v < 32 {
-        let i = words::wide(v);
-        states[i]
-    } else {
-        0
-    }
-}
-
-// The device with another own part of a module; past the last slot it stays.
-fn with_own(d: Device, m: u8, own: Own) -> Device
-    ensures { λ r. ⌜ r ≡ withOwn d m own ⌝ }
-{
-    if m < 16 {
-        let i = words::wide(m);
-        let mut next = d;
-        next.modules[i] = own;
-        next
-    } else {
-        d
-    }
-}
-
-fn own_slot_fits(image: &[u8], d: Device, m: u8) -> bool
-    ensures { λ r. ⌜ r ≡ ownSlotFits (recordsOf (now (image .entry))) d m ⌝ }
-{
-    let own = own_of(d, m);
-    if m < plan::modules_of(image) {
-        fitting::fits(image, m, own)
-    } else {
-        fitting::is_empty(own)
-    }
-}
-
-fn owns_fit(image: &[u8], d: Device) -> bool
-    ensures { λ r. ⌜ r ≡ allBelow (ownSlotFits (recordsOf (now (image .entry))) d) 16 ⌝ }
-{
-    let mut m: u8 = 0;
-    while m < 16 {
-        if own_slot_fits(image, d, m) {
-            m += 1;
-        } else {
-            return false;
-        }
-    }
-    true
-}
-
-fn state_slot_fits(image: &[u8], states: [u8; 32], v: u8) -> bool
-    ensures { λ r. ⌜ r ≡ stateSlotFits (recordsOf (now (image .entry))) states v ⌝ }
-{
-    let st = state_of(states, v);
-    if v < plan::supervisors_of(image) {
-        plan::supervisor_state(image, v, st)
-    } else {
-        st == 0
-    }
-}
-
-fn states_fit(image: &[u8], states: [u8; 32]) -> bool
-    ensures { λ r. ⌜ r ≡ allBelow (stateSlotFits (recordsOf (now (image .entry))) states) 32 ⌝ }
-{
-    let mut v: u8 = 0;
-    while v < 32 {
-        if state_slot_fits(image, states, v) {
-            v += 1;
-        } else {
-            return false;
-        }
-    }
-    true
-}
-
-// Whether the whole state fits the plan.
-pub fn fits(image: &[u8], d: Device) -> bool
-    ensures { λ r. ⌜ r ≡ deviceFits (recordsOf (now (image .entry))) d ⌝ }
-{
-    if owns_fit(image, d) {
-        let states = d.supervisors;
-        states_fit(image, states)
-    } else {
-        false
-    }
-}
-
-// The union of the masks that the first n supervisors show.
-fn shown_by(image: &[u8], states: [u8; 32], n: u8) -> u64
-    ensures { λ r. ⌜ r ≡ shownBy (recordsOf (now (image .entry))) (stateOf states) n ⌝ }
-{
-    let mut k: u64 = 0;
-    let mut v: u8 = 0;
-    while v < n {
-        let st = state_of(states, v);
-        k = k | plan::shown(image, v, st);
-        v += 1;
-    }
-    k
-}
-
-// The states after an event fired.
-fn led_by(image: &[u8], states: [u8; 32], e: u8) -> [u8; 32]
-    ensures { λ r. ⌜ r ≡ statesAfter (recordsOf (now (image .entry))) states (Turn.Event e) ⌝ }
-{
-    let mut next = [0u8; 32];
-    let mut i: usize = 0;
-    while i < 32 {
-        let v = (i % 256) as u8;
-        let st = states[i];
-        next[i] = plan::supervisor_after(image, v, st, e);
-        i += 1;
-    }
-    next
-}
-
 fn after_turn(image: &[u8], d: Device, m: u8, t: Turned) -> Device
     ensures { λ r. ⌜ r ≡ afterTurn (recordsOf (now (image .entry))) d m t ⌝ }
 {
     let own = t.own;
-    let mut next = with_own(d, m, own);
+    let mut next = device_states::with_own(d, m, own);
     let states = d.supervisors;
     let did = t.turn;
     let Turn::Event(e) = did else {
         return next;
     };
-    let led = led_by(image, states, e);
+    let led = device_states::led_by(image, states, e);
     next.supervisors = led;
     next
 }
@@ -184,7 +49,7 @@ fn after_turn(image: &[u8], d: Device, m: u8, t: Turned) -> Device
 fn number(image: &[u8], d: Device, m: u8) -> u8
     ensures { λ r. ⌜ r ≡ deviceNumber (recordsOf (now (image .entry))) d m ⌝ }
 {
-    if fits(image, d) {
+    if device_states::fits(image, d) {
         if m < plan::modules_of(image) { 0 } else { 11 }
     } else {
         9
@@ -197,8 +62,8 @@ fn turned(image: &[u8], d: Device, m: u8) -> Turned
 {
     let states = d.supervisors;
     let n = plan::supervisors_of(image);
-    let k = shown_by(image, states, n);
-    let own = own_of(d, m);
+    let k = device_states::shown_by(image, states, n);
+    let own = device_states::own_of(d, m);
     turns::turn(image, m, k, own)
 }
 
@@ -254,7 +119,7 @@ fn replied(d: Device, m: u8, r: Replied) -> DeviceCalled
     let reply = r.reply;
     DeviceCalled {
         answer: modules::answer(reply),
-        device: with_own(d, m, own),
+        device: device_states::with_own(d, m, own),
     }
 }
 
@@ -263,7 +128,7 @@ fn respond_in(image: &[u8], d: Device, m: u8, e: u8) -> DeviceCalled
 {
     let n = number(image, d, m);
     if n == 0 {
-        let own = own_of(d, m);
+        let own = device_states::own_of(d, m);
         let r = modules::respond(image, m, e, own);
         replied(d, m, r)
     } else {
@@ -286,7 +151,7 @@ fn tick_in(image: &[u8], d: Device, m: u8, f: Flow) -> DeviceCalled
 {
     let n = number(image, d, m);
     if n == 0 {
-        let own = own_of(d, m);
+        let own = device_states::own_of(d, m);
         let r = modules::tick(image, f, own);
         replied(d, m, r)
     } else {
@@ -304,78 +169,6 @@ pub fn tick(image: &[u8], d: Device, m: u8, f: Flow) -> DeviceCalled
     }
 }
 
-// What a module's slot holds at the start.
-fn start_slot(image: &[u8], m: u8) -> Own
-    ensures { λ r. ⌜ r ≡ startSlot (recordsOf (now (image .entry))) m ⌝ }
-{
-    if m < plan::modules_of(image) {
-        modules::started(image, m)
-    } else {
-        modules::empty()
-    }
-}
-
-fn start_slots(image: &[u8]) -> [Own; 16]
-    ensures { λ r. ⌜ r ≡ listFrom (startSlot (recordsOf (now (image .entry)))) 0 16 ⌝ }
-{
-    let empty = modules::empty();
-    let mut next = [empty; 16];
-    let mut i: usize = 0;
-    while i < 16 {
-        let m = (i % 256) as u8;
-        let own = start_slot(image, m);
-        next[i] = own;
-        i += 1;
-    }
-    next
-}
-
-// A supervisor's state at the start, and 0 for one that the plan lacks.
-fn start_state(image: &[u8], v: u8) -> u8
-    ensures { λ r. ⌜ r ≡ startState (recordsOf (now (image .entry))) v ⌝ }
-{
-    if v < plan::supervisors_of(image) {
-        plan::supervisor_initial(image, v)
-    } else {
-        0
-    }
-}
-
-fn start_states(image: &[u8]) -> [u8; 32]
-    ensures { λ r. ⌜ r ≡ listFrom (startState (recordsOf (now (image .entry)))) 0 32 ⌝ }
-{
-    let mut next = [0u8; 32];
-    let mut i: usize = 0;
-    while i < 32 {
-        let v = (i % 256) as u8;
-        next[i] = start_state(image, v);
-        i += 1;
-    }
-    next
-}
-
-// The device with every number 0.
-fn empty_device() -> Device
-    ensures { λ d. ⌜ d ≡ emptyDevice ⌝ }
-{
-    let empty = modules::empty();
-    Device {
-        modules: [empty; 16],
-        supervisors: [0; 32],
-    }
-}
-
-fn start_device(image: &[u8]) -> Device
-    ensures { λ d. ⌜ d ≡ startDevice (recordsOf (now (image .entry))) ⌝ }
-{
-    let modules = start_slots(image);
-    let supervisors = start_states(image);
-    Device {
-        modules,
-        supervisors,
-    }
-}
-
 // The device at its start.
 pub fn start(image: &[u8]) -> DeviceCalled
     ensures { λ r. ⌜ r ≡ startCall (now (image .entry)) ⌝ }
@@ -383,8 +176,8 @@ pub fn start(image: &[u8]) -> DeviceCalled
     match checker::check(image) {
         Verdict::Accepted => DeviceCalled {
             answer: Called::Done,
-            device: start_device(image),
+            device: device_states::started(image),
         },
-        Verdict::Refused(n, o) => refused(empty_device(), n, o),
+        Verdict::Refused(n, o) => refused(device_states::empty(), n, o),
     }
 }

@@ -2,7 +2,7 @@
 // tests/reference/one_device.py says what a line is, and prints the same.
 ghost use Prim.Native.Nat.{_≤_};
 ghost use lib.ListN.{length};
-use device::Device;
+use device_states::Device;
 use device::DeviceCalled;
 use device::Turning;
 use modules::Called;

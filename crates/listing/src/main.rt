@@ -1,7 +1,7 @@
 // The listing program: plays the script of standard input on the plan of `plan.bin` and prints what each line got. Crate sheet says what a line
 // does and prints, and what a whole script prints (`listed`); here it is read and printed. Lines come byte by byte, so that script and lines may
 // be of any length.
-use device::Device;
+use device_states::Device;
 use lines::Partial;
 use modules::Called;
 use script::Text;

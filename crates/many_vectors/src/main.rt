@@ -603,7 +603,7 @@ fn module_step(image: &[u8], m: u8, x: Module, buf: &mut [u8]) -> Module {
 }
 
 fn supervisor_step(image: &[u8], v: u8, y: Supervisor, buf: &mut [u8]) -> Supervisor {
-    let t = supervisor_calls::step(image, v, y, &mut *buf);
+    let t = supervisor_steps::step(image, v, y, &mut *buf);
     let answer = t.answer;
     say_served(answer);
     say_buffer(buf);

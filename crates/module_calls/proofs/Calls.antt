@@ -24,14 +24,13 @@ use Rattle.modules.specs.declared.Replied.{Replied}
 use Rattle.modules.specs.declared.Called.{Called}
 use Rattle.modules.specs.declared.Called.the-variants.{Done}
 use Rattle.modules.specs.Procedure.{calledBy}
-use Rattle.modules.specs.Turn.{startOwn, emptyOwn}
 use Rattle.messages.specs.Message.{parse}
 use Rattle.messages.specs.declared.Message.{Message}
 use Rattle.messages.specs.declared.Message.the-variants.{Bid, Permit, Release}
 use Rattle.messages.specs.declared.Parsed.{Parsed}
 use Rattle.messages.specs.declared.Parsed.the-variants.{Whole, Misshapen}
 use Rattle.permits.specs.Names.{named}
-use Rattle.permits.specs.Module.{missingIn, fitsIn, callRefused, isFor, bidWith, takenBy, deliverIn, absent, deliverBy, moduleDeliver, withOwn, replyBy, startBy, moduleStart}
+use Rattle.permits.specs.Module.{missingIn, fitsIn, callRefused, isFor, bidWith, takenBy, deliverIn, absent, deliverBy, moduleDeliver, withOwn, replyBy, emptyModule, startModule, startBy, moduleStart}
 use Rattle.permits.specs.declared.Module.{Module}
 use Rattle.permits.specs.declared.ModuleCalled.{ModuleCalled}
 use Rattle.holding.proofs.Held.{missing-is}
@@ -177,27 +176,23 @@ module _ (image : List ℕ) (m : ℕ) {d : Verdict} (e : d ≡ verdictOf image) 
     reply-refused s f h = h ∙ ap (λ (y : Verdict). replyBy y (recordsOf image) m x s) (sym f ∙ e)
 
   -- the start
-  abbrev none-held : Own → Module
-  none-held own = record { own = own; held = 0; received = 0; bid = false }
+  pub start-refused : {n o : ℕ} {x : Module} {c : ModuleCalled} → d ≡ Refused n o → x ≡ emptyModule → c ≡ callRefused x n o → c ≡ moduleStart image m
+  unfolding startBy
+  start-refused {n = n} {o = o} f u h =
+      let t : verdictOf image ≡ Refused n o = sym e ∙ f in
+      h ∙ simp (t, u)
 
-  module _ {own : Own} {x : Module} (g : x ≡ none-held own) where
-    pub start-refused : {n o : ℕ} {c : ModuleCalled} → d ≡ Refused n o → own ≡ emptyOwn → c ≡ callRefused x n o → c ≡ moduleStart image m
+  module _ {k : ℕ} (f : d ≡ Accepted) (c : k ≡ modulesOf (recordsOf image)) where
+    pub start-absent : {x : Module} {r : ModuleCalled} → k ≤ m → x ≡ emptyModule → r ≡ callRefused x 11 0 → r ≡ moduleStart image m
     unfolding startBy
-    start-refused {n = n} {o = o} f u h =
-        let t : verdictOf image ≡ Refused n o = sym e ∙ f in
-        h ∙ simp (t, g, u)
+    start-absent l u h =
+        let t : verdictOf image ≡ Accepted = sym e ∙ f in
+        let n : modulesOf (recordsOf image) ≤ m = omega arith in
+        h ∙ simp (t, le-ltb m (modulesOf (recordsOf image)) n, u)
 
-    module _ {k : ℕ} (f : d ≡ Accepted) (c : k ≡ modulesOf (recordsOf image)) where
-      pub start-absent : {r : ModuleCalled} → k ≤ m → own ≡ emptyOwn → r ≡ callRefused x 11 0 → r ≡ moduleStart image m
-      unfolding startBy
-      start-absent l u h =
-          let t : verdictOf image ≡ Accepted = sym e ∙ f in
-          let n : modulesOf (recordsOf image) ≤ m = omega arith in
-          h ∙ simp (t, le-ltb m (modulesOf (recordsOf image)) n, g, u)
-
-      pub start-done : m < k → own ≡ startOwn (recordsOf image) m → (record { answer = Done; state = x }) ≡ moduleStart image m
-      unfolding startBy
-      start-done l u =
-          let t : verdictOf image ≡ Accepted = sym e ∙ f in
-          let n : m < modulesOf (recordsOf image) = omega arith in
-          simp (t, lt-ltb m (modulesOf (recordsOf image)) n, g, u)
+    pub start-done : {x : Module} → m < k → x ≡ startModule (recordsOf image) m → (record { answer = Done; state = x }) ≡ moduleStart image m
+    unfolding startBy
+    start-done l u =
+        let t : verdictOf image ≡ Accepted = sym e ∙ f in
+        let n : m < modulesOf (recordsOf image) = omega arith in
+        simp (t, lt-ltb m (modulesOf (recordsOf image)) n, u)

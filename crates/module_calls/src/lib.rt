@@ -1,7 +1,7 @@
 // The module's calls on many devices but for its step: definitions in permits/specs/Module.antt.
 ghost use mathlib.Core.Path.{_≡_};
 ghost use mathlib.Core.List.{List};
-ghost use mathlib.Core.Bool.{true, false};
+ghost use mathlib.Core.Bool.{true};
 ghost use Prim.Native.Nat.{_<_};
 ghost use Rattle.bits.specs.Bit.{putBit};
 ghost use Rattle.records.specs.declared.Record.{Record};
@@ -9,12 +9,11 @@ ghost use Rattle.reader.specs.Walk.{recordsOf};
 ghost use Rattle.rules.specs.declared.Verdict.the-variants.{Accepted};
 ghost use Rattle.plan.specs.Plan.{neighbours};
 ghost use Rattle.messages.specs.declared.Message.the-variants.{Permit};
-ghost use Rattle.permits.specs.Module.{callRefused, takenBy, deliverIn, absent, deliverBy, moduleDeliver, replyBy, moduleRespond, moduleTick, moduleStart};
+ghost use Rattle.permits.specs.Module.{callRefused, takenBy, deliverIn, absent, deliverBy, moduleDeliver, replyBy, moduleRespond, moduleTick, startModule, moduleStart};
 use bits::Maybe;
 use messages::Message;
 use messages::Parsed;
 use modules::Called;
-use modules::Own;
 use modules::Replied;
 use permits::Module;
 use permits::ModuleCalled;
@@ -186,10 +185,10 @@ pub fn tick(image: &[u8], m: u8, x: Module, f: Flow) -> ModuleCalled
 
 // ---- the start
 
-// The state with this own part, and no permit held or bid for.
-fn unbidden(own: Own) -> Module
-    ensures { λ r. ⌜ r ≡ record { own = own; held = 0; received = 0; bid = false } ⌝ }
+fn started(image: &[u8], m: u8) -> Module
+    ensures { λ r. ⌜ r ≡ startModule (recordsOf (now (image .entry))) m ⌝ }
 {
+    let own = modules::started(image, m);
     Module {
         own,
         held: 0,
@@ -207,12 +206,12 @@ pub fn start(image: &[u8], m: u8) -> ModuleCalled
             if m < plan::modules_of(image) {
                 ModuleCalled {
                     answer: Called::Done,
-                    state: unbidden(modules::started(image, m)),
+                    state: started(image, m),
                 }
             } else {
-                refused(unbidden(modules::empty()), 11, 0)
+                refused(permits::empty_module(), 11, 0)
             }
         }
-        Verdict::Refused(n, at) => refused(unbidden(modules::empty()), n, at),
+        Verdict::Refused(n, at) => refused(permits::empty_module(), n, at),
     }
 }

@@ -25,7 +25,9 @@ use Rattle.messages.specs.Write.{Wrote}
 use Rattle.messages.specs.declared.Message.{Message}
 use Rattle.messages.specs.declared.Message.the-variants.{Release}
 use Rattle.messages.proofs.Writing.{fits}
-use Rattle.permits.specs.Module.{eventFor, releases, bytesOfMessages}
+use Rattle.permits.specs.Module.{eventFor, releases}
+use Rattle.permits.specs.Step.{bytesOfMessages}
+use Rattle.permits.proofs.Stepping.{bytes-append}
 use Rattle.holding.proofs.Held.{ones-top}
 
 -- ---- the event that a release carries
@@ -54,11 +56,6 @@ pub released-by : (rs : List Record) (m v : ℕ) (t : Turn) (at : ℕ) (b : List
 released-by rs m v t at b f w = w .buffer ∙ ap (λ (x : ℕ). putAt (messageBytes (Release m v x)) at b) f
 
 -- ---- bytes after bytes
-
-bytes-append : (gs hs : List Message) → bytesOfMessages (gs ++ hs) ≡ bytesOfMessages gs ++ bytesOfMessages hs
-unfolding bytesOfMessages
-bytes-append [] hs = refl
-bytes-append (g ∷ gs) hs = ap (λ (l : List ℕ). messageBytes g ++ l) (bytes-append gs hs) ∙ sym (append-assoc (messageBytes g) (bytesOfMessages gs) (bytesOfMessages hs))
 
 -- what follows an answer that is written from the buffer's start
 written-more : (p q b : List ℕ) → length p + length q ≤ length b → putAt q (length p) (written p b) ≡ written (p ++ q) b

@@ -20,21 +20,20 @@ use Rattle.messages.specs.Message.{messageBytes, short, written}
 use Rattle.messages.specs.Write.{Wrote}
 use Rattle.messages.specs.declared.Message.the-variants.{Bid}
 use Rattle.messages.proofs.Writing.{start-fits, put-start, put-short}
-use Rattle.permits.specs.Module.{fitsIn, takesTurn, bidsTo, choice, turnTaken, afterTurn, releases, bytesOfMessages, sentBy, answerBy, stateBy, StepCall, stepRefused, stepIn, stepBy, moduleStep}
+use Rattle.permits.specs.Module.{fitsIn, takesTurn, bidsTo, choice, turnTaken, afterTurn, releases, sentBy, answerBy, stateBy, StepCall, stepRefused, stepIn, stepBy, moduleStep}
+use Rattle.permits.specs.Step.{bytesOfMessages, Gave}
 use Rattle.permits.specs.declared.Module.{Module}
 use Rattle.permits.specs.declared.ModuleStepped.{ModuleStepped}
+use Rattle.permits.specs.declared.Stepped.{Stepped}
 use Rattle.permits.specs.declared.Stepped.the-variants.{Turned as Turns, Bids, Waits, Refused as StepRefused}
-use Rattle.module_steps.specs.Step.{Gave, choiceOf}
+use Rattle.permits.proofs.Stepping.{gives}
+use Rattle.module_steps.specs.Choice.{choiceOf}
 use Rattle.module_steps.specs.declared.Chosen.{Chosen}
 use Rattle.module_steps.specs.declared.Chosen.the-variants.{Turn as ChosenTurn, Bid as ChosenBid, Wait}
 use Rattle.module_steps.proofs.Releasing.{sent, sent-count}
 use Rattle.holding.proofs.Judged.{lacking, unfit, fit}
 
--- a call that gives the same
-gives : {call same : StepCall} {r : ModuleStepped} {after : List ℕ} → same ≡ call → Gave same r after → Gave call r after
-gives {r = r} {after = after} e = subst (λ (c : StepCall). Gave c r after) e
-
-refuses : (x : Module) (b : List ℕ) (n o : ℕ) {r : ModuleStepped} → r ≡ (record { answer = StepRefused n o; state = x }) → Gave (stepRefused x b n o) r b
+refuses : (x : Module) (b : List ℕ) (n o : ℕ) {r : ModuleStepped} → r ≡ (record { answer = StepRefused n o; state = x }) → Gave (stepRefused x b n o) (r .answer) (r .state) b
 refuses x b n o e = record { answer = ap (λ (z : ModuleStepped). z .answer) e; state = ap (λ (z : ModuleStepped). z .state) e; buffer = refl }
 
 -- ---- a turn: k counts the neighbours
@@ -47,14 +46,14 @@ module _ (rs : List Record) (m : ℕ) (x : Module) (b : List ℕ) {k : ℕ} (e :
   pub turn-room : (t : Turn) → 4 * k ≤ length b → length (sent rs m t 32) ≤ length b
   turn-room t h = omega (arith, long t)
 
-  pub turn-short : {r : ModuleStepped} → length b < 4 * k → r ≡ (record { answer = StepRefused 15 0; state = x }) → Gave (stepIn rs m x b takesTurn) r b
+  pub turn-short : {r : ModuleStepped} → length b < 4 * k → r ≡ (record { answer = StepRefused 15 0; state = x }) → Gave (stepIn rs m x b takesTurn) (r .answer) (r .state) b
   unfolding stepIn sentBy
   turn-short h f =
       let t : Turn = turnTaken rs m x .turn in
       simp (lt-ltb (length b) (length (sent rs m t 32)) (omega (arith, long t))) (refuses x b 15 0 f)
 
   pub turn-taken : {t : Turned} {after : List ℕ} → 4 * k ≤ length b → t ≡ turnOf rs m (x .received) (x .own) → after ≡ written (bytesOfMessages (releases rs m (t .turn) 32)) b
-      → Gave (stepIn rs m x b takesTurn) (record { answer = Turns (t .turn) (4 * k); state = record { own = t .own; held = 0; received = 0; bid = x .bid } }) after
+      → Gave (stepIn rs m x b takesTurn) (Turns (t .turn) (4 * k)) (record { own = t .own; held = 0; received = 0; bid = x .bid }) after
   unfolding stepIn sentBy answerBy stateBy
   turn-taken {t} h f g =
       let d : Turn = turnTaken rs m x .turn in
@@ -76,31 +75,31 @@ module _ (m v : ℕ) (x : Module) (b : List ℕ) {t : Bool} {after : List ℕ} (
   tested = sym (w .answer ∙ start-fits bytes b)
 
   pub bid-made : {l : ℕ} → t ≡ true → l ≡ length (messageBytes (Bid m v)) → (rs : List Record)
-      → Gave (stepIn rs m x b (bidsTo v)) (record { answer = Bids v l; state = record { own = x .own; held = x .held; received = x .received; bid = true } }) after
+      → Gave (stepIn rs m x b (bidsTo v)) (Bids v l) (record { own = x .own; held = x .held; received = x .received; bid = true }) after
   unfolding stepIn sentBy answerBy stateBy bytesOfMessages messageBytes
   bid-made h f rs =
       let z : short bytes b ≡ false = not-true (short bytes b) (tested ∙ h) in
       simp z (record { answer = ap (Bids v) f; state = refl; buffer = w .buffer ∙ put-start bytes b z })
 
-  pub bid-short : {r : ModuleStepped} → t ≡ false → r ≡ (record { answer = StepRefused 15 0; state = x }) → (rs : List Record) → Gave (stepIn rs m x b (bidsTo v)) r after
+  pub bid-short : {r : ModuleStepped} → t ≡ false → r ≡ (record { answer = StepRefused 15 0; state = x }) → (rs : List Record) → Gave (stepIn rs m x b (bidsTo v)) (r .answer) (r .state) after
   unfolding stepIn sentBy bytesOfMessages messageBytes
   bid-short {r} h f rs =
       let z : short bytes b ≡ true = not-false (short bytes b) (tested ∙ h) in
-      simp z (subst (Gave (stepRefused x b 15 0) r) (sym (w .buffer ∙ put-short bytes b z)) (refuses x b 15 0 f))
+      simp z (subst (Gave (stepRefused x b 15 0) (r .answer) (r .state)) (sym (w .buffer ∙ put-short bytes b z)) (refuses x b 15 0 f))
 
 -- ---- what follows from the choice
 
 module _ (rs : List Record) (m : ℕ) (x : Module) (b : List ℕ) {o : Chosen} (e : choiceOf o ≡ choice rs m x) where
-  acts : {c : Chosen} {r : ModuleStepped} {after : List ℕ} → o ≡ c → Gave (stepIn rs m x b (choiceOf c)) r after → Gave (stepIn rs m x b (choice rs m x)) r after
+  acts : {c : Chosen} {a : Stepped} {s : Module} {after : List ℕ} → o ≡ c → Gave (stepIn rs m x b (choiceOf c)) a s after → Gave (stepIn rs m x b (choice rs m x)) a s after
   acts f g = gives (ap (stepIn rs m x b) (ap choiceOf (sym f) ∙ e)) g
 
-  pub act-turn : {r : ModuleStepped} {after : List ℕ} → o ≡ ChosenTurn → Gave (stepIn rs m x b takesTurn) r after → Gave (stepIn rs m x b (choice rs m x)) r after
+  pub act-turn : {a : Stepped} {s : Module} {after : List ℕ} → o ≡ ChosenTurn → Gave (stepIn rs m x b takesTurn) a s after → Gave (stepIn rs m x b (choice rs m x)) a s after
   act-turn f g = acts f g
 
-  pub act-bid : {v : ℕ} {r : ModuleStepped} {after : List ℕ} → o ≡ ChosenBid v → ((rs : List Record) → Gave (stepIn rs m x b (bidsTo v)) r after) → Gave (stepIn rs m x b (choice rs m x)) r after
+  pub act-bid : {v : ℕ} {a : Stepped} {s : Module} {after : List ℕ} → o ≡ ChosenBid v → ((rs : List Record) → Gave (stepIn rs m x b (bidsTo v)) a s after) → Gave (stepIn rs m x b (choice rs m x)) a s after
   act-bid f g = acts f (g rs)
 
-  pub act-wait : o ≡ Wait → Gave (stepIn rs m x b (choice rs m x)) (record { answer = Waits; state = x }) b
+  pub act-wait : o ≡ Wait → Gave (stepIn rs m x b (choice rs m x)) Waits x b
   unfolding stepIn sentBy answerBy stateBy bytesOfMessages
   act-wait f = acts f (simp (le-ltb (length b) 0 (omega arith)) (record { answer = refl; state = refl; buffer = refl }))
 
@@ -110,7 +109,7 @@ module _ (image : List ℕ) (m : ℕ) (x : Module) (b : List ℕ) {d : Verdict} 
   by : {v : Verdict} → d ≡ v → stepBy v (recordsOf image) m x b ≡ moduleStep image m x b
   by f = ap (λ (y : Verdict). stepBy y (recordsOf image) m x b) (sym f ∙ e)
 
-  pub step-refused-by : {n o : ℕ} {r : ModuleStepped} → d ≡ Refused n o → r ≡ (record { answer = StepRefused n o; state = x }) → Gave (moduleStep image m x b) r b
+  pub step-refused-by : {n o : ℕ} {r : ModuleStepped} → d ≡ Refused n o → r ≡ (record { answer = StepRefused n o; state = x }) → Gave (moduleStep image m x b) (r .answer) (r .state) b
   unfolding stepBy
   step-refused-by {n = n} {o = o} f h = gives (by f) (refuses x b n o h)
 
@@ -121,15 +120,15 @@ module _ (image : List ℕ) (m : ℕ) (x : Module) (b : List ℕ) {d : Verdict} 
     abbrev acted : StepCall
     acted = stepIn rs m x b (choice rs m x)
 
-    pub step-absent : {r : ModuleStepped} → k ≤ m → r ≡ (record { answer = StepRefused 11 0; state = x }) → Gave (moduleStep image m x b) r b
+    pub step-absent : {r : ModuleStepped} → k ≤ m → r ≡ (record { answer = StepRefused 11 0; state = x }) → Gave (moduleStep image m x b) (r .answer) (r .state) b
     unfolding stepBy
     step-absent l h = gives (lacking rs m x acted (stepRefused x b 9 0) (stepRefused x b 11 0) c l ∙ by f) (refuses x b 11 0 h)
 
     module _ {t : Bool} {near : ℕ} (l : m < k) (n : near ≡ neighbours (recordsOf image) m) (g : t ≡ fitsIn (recordsOf image) m near x) where
-      pub step-unfit : {r : ModuleStepped} → t ≡ false → r ≡ (record { answer = StepRefused 9 0; state = x }) → Gave (moduleStep image m x b) r b
+      pub step-unfit : {r : ModuleStepped} → t ≡ false → r ≡ (record { answer = StepRefused 9 0; state = x }) → Gave (moduleStep image m x b) (r .answer) (r .state) b
       unfolding stepBy
       step-unfit q h = gives (unfit rs m x acted (stepRefused x b 9 0) (stepRefused x b 11 0) c l n g q ∙ by f) (refuses x b 9 0 h)
 
-      pub step-fit : {r : ModuleStepped} {after : List ℕ} → t ≡ true → Gave (stepIn (recordsOf image) m x b (choice (recordsOf image) m x)) r after → Gave (moduleStep image m x b) r after
+      pub step-fit : {a : Stepped} {s : Module} {after : List ℕ} → t ≡ true → Gave (stepIn (recordsOf image) m x b (choice (recordsOf image) m x)) a s after → Gave (moduleStep image m x b) a s after
       unfolding stepBy
       step-fit q h = gives (fit rs m x acted (stepRefused x b 9 0) (stepRefused x b 11 0) c l n g q ∙ by f) h

@@ -9,8 +9,9 @@ ghost use Rattle.reader.specs.Walk.{recordsOf};
 ghost use Rattle.plan.specs.Plan.{neighbours};
 ghost use Rattle.messages.specs.Message.{messageBytes, written, putAt};
 ghost use Rattle.messages.specs.declared.Message.the-variants.{Release};
-ghost use Rattle.permits.specs.Module.{heldFits, choice, takesTurn, bidsTo, eventFor, releases, bytesOfMessages, stepIn, moduleStep};
-ghost use Rattle.module_steps.specs.Step.{Gave, choiceOf};
+ghost use Rattle.permits.specs.Module.{heldFits, choice, takesTurn, bidsTo, eventFor, releases, stepIn, moduleStep};
+ghost use Rattle.permits.specs.Step.{bytesOfMessages, Gave};
+ghost use Rattle.module_steps.specs.Choice.{choiceOf};
 use bits::Maybe;
 use messages::Message;
 use modules::Turn;
@@ -109,7 +110,7 @@ fn release(image: &[u8], m: u8, near: u32, t: Turn, buffer: &mut [u8])
 // A turn over the masks received, which releases every permit.
 fn take_turn(image: &[u8], m: u8, near: u32, x: Module, buffer: &mut [u8]) -> ModuleStepped
     requires { ⌜ near ≡ neighbours (recordsOf (now image)) m ⌝ }
-    ensures { λ r. ⌜ Gave (stepIn (recordsOf (now (image .entry))) m x (now (buffer .entry)) takesTurn) r (now (buffer .exit)) ⌝ }
+    ensures { λ r. ⌜ Gave (stepIn (recordsOf (now (image .entry))) m x (now (buffer .entry)) takesTurn) (r .answer) (r .state) (now (buffer .exit)) ⌝ }
 {
     let n = 4 * masks::neighbour_count(image, m) as usize;
     if buffer.len() < n {
@@ -132,7 +133,7 @@ fn take_turn(image: &[u8], m: u8, near: u32, x: Module, buffer: &mut [u8]) -> Mo
 
 // A bid to a supervisor.
 fn bid(m: u8, v: u8, x: Module, buffer: &mut [u8]) -> ModuleStepped
-    ensures { λ r. ⌜ ((rs : List Record) → Gave (stepIn rs m x (now (buffer .entry)) (bidsTo v)) r (now (buffer .exit))) ⌝ }
+    ensures { λ r. ⌜ ((rs : List Record) → Gave (stepIn rs m x (now (buffer .entry)) (bidsTo v)) (r .answer) (r .state) (now (buffer .exit))) ⌝ }
 {
     let g = Message::Bid {
         owner: m,
@@ -153,7 +154,7 @@ fn bid(m: u8, v: u8, x: Module, buffer: &mut [u8]) -> ModuleStepped
 fn act(image: &[u8], m: u8, near: u32, x: Module, buffer: &mut [u8]) -> ModuleStepped
     requires { ⌜ near ≡ neighbours (recordsOf (now image)) m ⌝ }
     requires { ⌜ heldFits (recordsOf (now image)) m (x .held) ≡ true ⌝ }
-    ensures { λ r. ⌜ Gave (stepIn (recordsOf (now (image .entry))) m x (now (buffer .entry)) (choice (recordsOf (now (image .entry))) m x)) r (now (buffer .exit)) ⌝ }
+    ensures { λ r. ⌜ Gave (stepIn (recordsOf (now (image .entry))) m x (now (buffer .entry)) (choice (recordsOf (now (image .entry))) m x)) (r .answer) (r .state) (now (buffer .exit)) ⌝ }
 {
     match choose(image, m, near, x) {
         Chosen::Turn => take_turn(image, m, near, x, buffer),
@@ -167,7 +168,7 @@ fn act(image: &[u8], m: u8, near: u32, x: Module, buffer: &mut [u8]) -> ModuleSt
 
 // A module step: takes a turn, bids, or waits.
 pub fn step(image: &[u8], m: u8, x: Module, buffer: &mut [u8]) -> ModuleStepped
-    ensures { λ r. ⌜ Gave (moduleStep (now (image .entry)) m x (now (buffer .entry))) r (now (buffer .exit)) ⌝ }
+    ensures { λ r. ⌜ Gave (moduleStep (now (image .entry)) m x (now (buffer .entry))) (r .answer) (r .state) (now (buffer .exit)) ⌝ }
 {
     match checker::check(image) {
         Verdict::Accepted => {

@@ -23,9 +23,9 @@ byResponse own e (some t) = record { turn = Event e; own = moved own t (own .pro
 byResponse own e none = record { turn = Stray e; own = own }
 
 -- "A controllable firing is a command and starts the event's procedure at index 0"
-unfoldable pub byCommand : List Record → ℕ → Own → ℕ → Option ℕ → Turned
-byCommand rs m own e (some t) = record { turn = Event e; own = moved own t (arriveAt rs e 0) }
-byCommand rs m own e none = record { turn = Nothing; own = own }
+unfoldable pub byCommand : List Record → Own → ℕ → Option ℕ → Turned
+byCommand rs own e (some t) = record { turn = Event e; own = moved own t (arriveAt rs e 0) }
+byCommand rs own e none = record { turn = Nothing; own = own }
 
 -- a "controllable event .. that has a move here and stands in no shown mask", k being the union of the masks
 unfoldable pub enabled : List Record → ℕ → ℕ → ℕ → ℕ → Bool
@@ -33,7 +33,7 @@ enabled rs m k st e = hasCommand rs m st e && not (bit k e)
 
 -- the event chosen fires, if there is one
 unfoldable pub byChoice : List Record → ℕ → Own → Option ℕ → Turned
-byChoice rs m own (some e) = byCommand rs m own e (moduleMove rs m (own .state) e)
+byChoice rs m own (some e) = byCommand rs own e (moduleMove rs m (own .state) e)
 byChoice rs m own none = record { turn = Nothing; own = own }
 
 -- "1. If its response queue holds anything, the head is removed. .. 2. Otherwise, if its procedure is idle, the lowest-numbered controllable

@@ -3,8 +3,9 @@
 use Prim.Native.Nat.{ℕ}
 use mathlib.Core.List.{List}
 use lib.ListN.{getD, set}
-use Rattle.device.specs.declared.Device.{Device}
-use Rattle.device.specs.Device.{listFrom, startCall}
+use Rattle.device_states.specs.declared.Device.{Device}
+use Rattle.device_states.specs.States.{listFrom}
+use Rattle.device.specs.Device.{startCall}
 use Rattle.permits.specs.declared.Module.{Module}
 use Rattle.permits.specs.declared.Supervisor.{Supervisor}
 use Rattle.permits.specs.Module as M

@@ -1,11 +1,10 @@
 // Every party of a plan with its state, the messages under way, and one device beside them: specs/Parties.antt.
 ghost use mathlib.Core.Path.{_≡_};
-ghost use Rattle.permits.specs.Module.{emptyModule, moduleStart};
-ghost use Rattle.permits.specs.Supervisor.{emptySupervisor, supervisorStart};
+ghost use Rattle.permits.specs.Module.{moduleStart};
+ghost use Rattle.permits.specs.Supervisor.{supervisorStart};
 ghost use Rattle.parties.specs.Parties.{moduleAt, supervisorAt, withModule, withSupervisor, withDevice, withWire, startModules, startSupervisors, start, statesSeen};
-use device::Device;
+use device_states::Device;
 use modules::Own;
-use permits::Holder;
 use permits::Module;
 use permits::Supervisor;
 use wire::Wire;
@@ -20,30 +19,6 @@ pub struct Parties {
 
 // ---- the parties
 
-fn no_module() -> Module
-    ensures { λ r. ⌜ r ≡ emptyModule ⌝ }
-{
-    let own = modules::empty();
-    Module {
-        own,
-        held: 0,
-        received: 0,
-        bid: false,
-    }
-}
-
-fn no_supervisor() -> Supervisor
-    ensures { λ r. ⌜ r ≡ emptySupervisor ⌝ }
-{
-    let holder = Holder::Home;
-    Supervisor {
-        state: 0,
-        noted: 0,
-        holder,
-        last: 0,
-    }
-}
-
 // The state of a module; of one past the last place the empty state.
 pub fn module_of(p: Parties, m: u8) -> Module
     ensures { λ r. ⌜ r ≡ moduleAt p m ⌝ }
@@ -52,7 +27,7 @@ pub fn module_of(p: Parties, m: u8) -> Module
         let i = words::wide(m);
         p.modules[i]
     } else {
-        no_module()
+        permits::empty_module()
     }
 }
 
@@ -63,7 +38,7 @@ pub fn supervisor_of(p: Parties, v: u8) -> Supervisor
         let i = words::wide(v);
         p.supervisors[i]
     } else {
-        no_supervisor()
+        permits::empty_supervisor()
     }
 }
 
@@ -128,7 +103,7 @@ fn supervisor_start(image: &[u8], v: u8) -> Supervisor
 fn start_modules(image: &[u8]) -> [Module; 16]
     ensures { λ r. ⌜ r ≡ startModules (now (image .entry)) ⌝ }
 {
-    let none = no_module();
+    let none = permits::empty_module();
     let mut next = [none; 16];
     let mut i: usize = 0;
     while i < 16 {
@@ -144,7 +119,7 @@ fn start_modules(image: &[u8]) -> [Module; 16]
 fn start_supervisors(image: &[u8]) -> [Supervisor; 32]
     ensures { λ r. ⌜ r ≡ startSupervisors (now (image .entry)) ⌝ }
 {
-    let none = no_supervisor();
+    let none = permits::empty_supervisor();
     let mut next = [none; 32];
     let mut i: usize = 0;
     while i < 32 {

@@ -1,7 +1,7 @@
 -- What the code is told of names, in the definitions' terms.
 use mathlib.Core.Path.{_≡_, sym, ap, ap₂, _∙_}
 use mathlib.Core.List.{List}
-use mathlib.Core.Bool.{Bool, true, false, _&&_, _||_, and-comm, and-assoc}
+use mathlib.Core.Bool.{Bool, true, false, _&&_, _||_}
 use Prim.Native.Nat.{ℕ, _+_, _≤_, _<_}
 use native.Mathlib.Numerals.{add-one}
 use native.Mathlib.Omega.{arith}
@@ -13,7 +13,7 @@ use Rattle.records.specs.declared.Record.{Record}
 use Rattle.rules.specs.LookUp.{eventsOf, ownerOf, alphabetOf}
 use Rattle.plan.specs.Plan.{inAlphabet, ownEvent, neighbour}
 use Rattle.messages.specs.declared.Message.{Message}
-use Rattle.permits.specs.Names.{eventNamed, named}
+use Rattle.permits.specs.Names.{named}
 
 -- an event of a module in a supervisor's alphabet
 abbrev pub shares : List Record → ℕ → ℕ → ℕ → Bool
@@ -42,12 +42,6 @@ module _ (rs : List Record) (m v e : ℕ) {n x : ℕ} {a b : Bool} (k : n ≡ ev
 
 pub none-by : (rs : List Record) (m v e : ℕ) {n : ℕ} → n ≡ eventsOf rs → e ≤ n → n ≤ e → noneBelow rs m v e → false ≡ neighbour rs m v
 none-by rs m v e k l h s = sym (ap (someBelow (shares rs m v)) (let q : eventsOf rs ≡ e = omega arith in q) ∙ s)
-
-swapped : (x y z : Bool) → (x && y && z) ≡ (x && z && y)
-swapped x y z = and-assoc x y z ∙ ap (λ (t : Bool). x && t) (and-comm y z) ∙ sym (and-assoc x z y)
-
-pub event-by : (rs : List Record) (m v e : ℕ) {a b : Bool} → a ≡ ownEvent rs m e → b ≡ inAlphabet rs v e → (a && b) ≡ eventNamed rs m v e
-event-by rs m v e f g = ap₂ _&&_ f g ∙ swapped (ltb e (eventsOf rs)) (eqb (ownerOf rs e) m) (inAlphabet rs v e)
 
 -- the arms of `named`
 pub named-arm : (rs : List Record) (g : Message) {h : Message} {t : Bool} → g ≡ h → t ≡ named rs h → t ≡ named rs g

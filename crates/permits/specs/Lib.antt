@@ -1,4 +1,5 @@
 pub mod Names
+pub mod Step
 pub mod Module
 pub mod Supervisor
 pub mod Numbers

@@ -24,7 +24,7 @@ use Rattle.modules.specs.declared.Called.the-variants.{Done, Refused as CallRef
 use Rattle.modules.specs.Procedure.{calledBy, tickOf, respondOf}
 use Rattle.modules.specs.Turn.{turnOf, wish, startOwn, emptyOwn}
 use Rattle.modules.specs.Fits.{ownFits}
-use Rattle.messages.specs.Message.{noEvent, messageBytes, short, written, parse, parsedNumber}
+use Rattle.messages.specs.Message.{noEvent, short, written, parse, parsedNumber}
 use Rattle.messages.specs.declared.Message.{Message}
 use Rattle.messages.specs.declared.Message.the-variants.{Bid, Permit, Release}
 use Rattle.messages.specs.declared.Parsed.{Parsed}
@@ -34,6 +34,7 @@ use Rattle.permits.specs.declared.ModuleCalled.{ModuleCalled}
 use Rattle.permits.specs.declared.Stepped.{Stepped}
 use Rattle.permits.specs.declared.Stepped.the-variants.{Turned as Turns, Bids, Waits, Refused as StepRefused}
 use Rattle.permits.specs.Names.{named}
+use Rattle.permits.specs.Step.{bytesOfMessages, Call}
 
 -- "its lowest neighbour not held", by the masks of the neighbours and of those held
 unfoldable pub missingIn : ℕ → ℕ → Option ℕ
@@ -95,10 +96,6 @@ unfoldable pub releases : List Record → ℕ → Turn → ℕ → List Message
 releases rs m t zero = []
 releases rs m t (suc n) = releases rs m t n ++ cond (bit (neighbours rs m) n) (Release m n (eventFor rs n t) ∷ []) []
 
-unfoldable pub bytesOfMessages : List Message → List ℕ
-bytesOfMessages [] = []
-bytesOfMessages (g ∷ gs) = messageBytes g ++ bytesOfMessages gs
-
 abbrev pub afterBid : Module → Module
 afterBid x = record { own = x .own; held = x .held; received = x .received; bid = true }
 
@@ -123,10 +120,8 @@ stateBy rs m x (bidsTo v) = afterBid x
 stateBy rs m x waits = x
 
 -- a whole call: its answer, the state after it, and the buffer's final contents
-pub record StepCall : Type 0 where
-  pub answer : Stepped
-  pub state : Module
-  pub buffer : List ℕ
+abbrev pub StepCall : Type 0
+StepCall = Call Stepped Module
 
 abbrev pub stepRefused : Module → List ℕ → ℕ → ℕ → StepCall
 stepRefused x b n o = record { answer = StepRefused n o; state = x; buffer = b }

@@ -4,8 +4,8 @@ use mathlib.Core.List.{List}
 use mathlib.Core.Bool.{Bool, _&&_, _||_}
 use lib.Dec.{eqb, ltb}
 use Rattle.records.specs.declared.Record.{Record}
-use Rattle.rules.specs.LookUp.{modulesOf, supervisorsOf, eventsOf, ownerOf}
-use Rattle.plan.specs.Plan.{inAlphabet, neighbour}
+use Rattle.rules.specs.LookUp.{modulesOf, supervisorsOf}
+use Rattle.plan.specs.Plan.{inAlphabet, ownEvent, neighbour}
 use Rattle.messages.specs.Message.{noEvent}
 use Rattle.messages.specs.declared.Message.{Message}
 use Rattle.messages.specs.declared.Message.the-variants.{Bid, Permit, Release}
@@ -16,7 +16,7 @@ neighbours? rs m v = ltb m (modulesOf rs) && ltb v (supervisorsOf rs) && neighbo
 
 -- "an event outside the alphabet or of another module is 11"
 abbrev pub eventNamed : List Record → ℕ → ℕ → ℕ → Bool
-eventNamed rs m v e = ltb e (eventsOf rs) && inAlphabet rs v e && eqb (ownerOf rs e) m
+eventNamed rs m v e = ownEvent rs m e && inAlphabet rs v e
 
 -- 11: "number not in the plan; supervisor not the module's neighbour", judged on what the message itself names
 unfoldable pub named : List Record → Message → Bool

@@ -14,7 +14,7 @@ use Rattle.rules.specs.declared.Verdict.{Verdict}
 use Rattle.rules.specs.declared.Verdict.the-variants.{Accepted, Refused}
 use Rattle.plan.specs.Plan.{supervisorMove, supervisorInitial, shown, stateBy}
 use Rattle.modules.specs.declared.Called.the-variants.{Done, Refused as CallRefused}
-use Rattle.messages.specs.Message.{noEvent, messageBytes, short, written, parse, parsedNumber}
+use Rattle.messages.specs.Message.{noEvent, short, written, parse, parsedNumber}
 use Rattle.messages.specs.declared.Message.{Message}
 use Rattle.messages.specs.declared.Message.the-variants.{Bid, Permit, Release}
 use Rattle.messages.specs.declared.Parsed.{Parsed}
@@ -26,6 +26,7 @@ use Rattle.permits.specs.declared.Holder.the-variants.{Home, Out}
 use Rattle.permits.specs.declared.Served.{Served}
 use Rattle.permits.specs.declared.Served.the-variants.{Sends, Waits, Refused as StepRefused}
 use Rattle.permits.specs.Names.{neighbours?, named}
+use Rattle.permits.specs.Step.{bytesOfMessages, Call}
 
 -- "a supervisor's noted modules and holder are its neighbours, its last-served place is 0 to 15"
 unfoldable pub holderFits : List Record → ℕ → Holder → Bool
@@ -61,10 +62,8 @@ unfoldable pub sentTo : List Record → ℕ → Supervisor → Option ℕ → Li
 sentTo rs v y none = []
 sentTo rs v y (some m) = Permit v m (shown rs v (y .state)) ∷ []
 
--- one message at most
-unfoldable pub sentBytes : List Message → List ℕ
-sentBytes [] = []
-sentBytes (g ∷ gs) = messageBytes g
+abbrev pub stepBytes : List Record → ℕ → Supervisor → Option ℕ → List ℕ
+stepBytes rs v y t = bytesOfMessages (sentTo rs v y t)
 
 unfoldable pub answerBy : List ℕ → Option ℕ → Served
 answerBy bytes none = Waits
@@ -75,18 +74,16 @@ stateAfter y none = y
 stateAfter y (some m) = afterSend y m
 
 -- a whole call: its answer, the state after it, and the buffer's final contents
-pub record ServeCall : Type 0 where
-  pub answer : Served
-  pub state : Supervisor
-  pub buffer : List ℕ
+abbrev pub ServeCall : Type 0
+ServeCall = Call Served Supervisor
 
 abbrev pub stepRefused : Supervisor → List ℕ → ℕ → ℕ → ServeCall
 stepRefused y b n o = record { answer = StepRefused n o; state = y; buffer = b }
 
 unfoldable pub stepIn : List Record → ℕ → Supervisor → List ℕ → Option ℕ → ServeCall
 stepIn rs v y b t =
-    cond (short (sentBytes (sentTo rs v y t)) b) (stepRefused y b 15 0)
-    (record { answer = answerBy (sentBytes (sentTo rs v y t)) t; state = stateAfter y t; buffer = written (sentBytes (sentTo rs v y t)) b })
+    cond (short (stepBytes rs v y t) b) (stepRefused y b 15 0)
+    (record { answer = answerBy (stepBytes rs v y t) t; state = stateAfter y t; buffer = written (stepBytes rs v y t) b })
 
 unfoldable pub stepBy : Verdict → List Record → ℕ → Supervisor → List ℕ → ServeCall
 stepBy Accepted rs v y b =

@@ -4,6 +4,8 @@ ghost use mathlib.Core.Path.{_≡_};
 ghost use Rattle.reader.specs.Walk.{recordsOf};
 ghost use Rattle.plan.specs.Plan.{neighbour};
 ghost use Rattle.permits.specs.Names.{neighbours?, eventNamed, named};
+ghost use Rattle.permits.specs.Module.{emptyModule};
+ghost use Rattle.permits.specs.Supervisor.{emptySupervisor};
 use messages::Message;
 use modules::Called;
 use modules::Own;
@@ -66,6 +68,31 @@ pub struct SupervisorStepped {
 pub struct SupervisorCalled {
     pub answer: Called,
     pub state: Supervisor,
+}
+
+// The states with every number 0, which a refused start gives.
+pub fn empty_module() -> Module
+    ensures { λ r. ⌜ r ≡ emptyModule ⌝ }
+{
+    let own = modules::empty();
+    Module {
+        own,
+        held: 0,
+        received: 0,
+        bid: false,
+    }
+}
+
+pub fn empty_supervisor() -> Supervisor
+    ensures { λ r. ⌜ r ≡ emptySupervisor ⌝ }
+{
+    let holder = Holder::Home;
+    Supervisor {
+        state: 0,
+        noted: 0,
+        holder,
+        last: 0,
+    }
 }
 
 // Whether a supervisor's alphabet has an event of a module.

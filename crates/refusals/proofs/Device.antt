@@ -20,9 +20,10 @@ use Rattle.modules.specs.Procedure.{taken as took, refused as denied, respondOf
 use Rattle.modules.specs.Turn.{emptyOwn}
 use Rattle.modules.specs.declared.Own.{Own}
 use Rattle.modules.specs.declared.Replied.{Replied}
-use Rattle.device.specs.Device.{ownAt, withOwn, deviceFits, deviceNumber, turnRefused, turnIn, turnBy, replyIn, replyBy, startBy}
+use Rattle.device_states.specs.States.{ownAt, withOwn, deviceFits}
+use Rattle.device.specs.Device.{deviceNumber, turnRefused, turnIn, turnBy, replyIn, replyBy, startBy}
 use Rattle.device.specs.Numbers.{turningNumber, turningOffset}
-use Rattle.device.specs.declared.Device.{Device}
+use Rattle.device_states.specs.declared.Device.{Device}
 use Rattle.device.specs.declared.Turning.the-variants.{Refused as TurnRefused}
 use Rattle.refusals.specs.Refusals.{InTable, Placed, CheckAnswer, CallAnswer, OwnCall, DeviceTurn, DeviceCall, OwnPart, OneDevice}
 use Rattle.refusals.proofs.Cases.{either, never, in-table, at-zero, accepts, refuses, taken, same, done, call-refused, turns-down, replied}

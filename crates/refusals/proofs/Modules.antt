@@ -18,7 +18,8 @@ use Rattle.messages.specs.declared.Message.the-variants.{Bid, Permit, Release}
 use Rattle.messages.specs.declared.Parsed.{Parsed}
 use Rattle.messages.specs.declared.Parsed.the-variants.{Whole, Misshapen}
 use Rattle.permits.specs.Names.{named}
-use Rattle.permits.specs.Module.{Choice, takesTurn, waits, bidsTo, choice, moduleFits, sentBy, bytesOfMessages, stepBytes, answerBy, stateBy, stepRefused, stepIn, stepBy, bidWith, takenBy, deliverIn, absent, deliverBy, withOwn, replyBy, startBy}
+use Rattle.permits.specs.Module.{Choice, takesTurn, waits, bidsTo, choice, moduleFits, sentBy, stepBytes, answerBy, stateBy, stepRefused, stepIn, stepBy, bidWith, takenBy, deliverIn, absent, deliverBy, withOwn, replyBy, startBy}
+use Rattle.permits.specs.Step.{bytesOfMessages}
 use Rattle.permits.specs.Numbers.{steppedNumber, steppedOffset}
 use Rattle.permits.specs.declared.Module.{Module}
 use Rattle.permits.specs.declared.ModuleCalled.{ModuleCalled}

@@ -19,7 +19,8 @@ use Rattle.messages.specs.declared.Message.the-variants.{Bid, Permit, Release}
 use Rattle.messages.specs.declared.Parsed.{Parsed}
 use Rattle.messages.specs.declared.Parsed.the-variants.{Whole, Misshapen}
 use Rattle.permits.specs.Names.{named}
-use Rattle.permits.specs.Supervisor.{supervisorFits, served, sentTo, sentBytes, answerBy, stateAfter, stepRefused, stepIn, stepBy, heldBy, takenBy, deliverIn, absent, deliverBy, startBy}
+use Rattle.permits.specs.Supervisor.{supervisorFits, served, sentTo, stepBytes, answerBy, stateAfter, stepRefused, stepIn, stepBy, heldBy, takenBy, deliverIn, absent, deliverBy, startBy}
+use Rattle.permits.specs.Step.{bytesOfMessages}
 use Rattle.permits.specs.Numbers.{servedNumber, servedOffset}
 use Rattle.permits.specs.declared.Supervisor.{Supervisor}
 use Rattle.permits.specs.declared.SupervisorCalled.{SupervisorCalled}
@@ -50,13 +51,13 @@ module _ (rs : List Record) (v : ℕ) (y : Supervisor) where
           buffer = untouched n b;
         }
 
-    step-in : (t : Option ℕ) (q : Bool) → short (sentBytes (sentTo rs v y t)) b ≡ q
-        → SupervisorStep y b (cond q (stepRefused y b 15 0) (record { answer = answerBy (sentBytes (sentTo rs v y t)) t; state = stateAfter y t; buffer = written (sentBytes (sentTo rs v y t)) b }))
-    unfolding answerBy sentTo sentBytes
+    step-in : (t : Option ℕ) (q : Bool) → short (stepBytes rs v y t) b ≡ q
+        → SupervisorStep y b (cond q (stepRefused y b 15 0) (record { answer = answerBy (stepBytes rs v y t) t; state = stateAfter y t; buffer = written (stepBytes rs v y t) b }))
+    unfolding answerBy sentTo bytesOfMessages
     step-in t true e = step-refused 15 0 (in-table 15 refl refl) (at-zero 15)
-    step-in none false e = record { answer = accepted (sentBytes (sentTo rs v y none)) none; state = taken y _; buffer = put 0 (sentBytes (sentTo rs v y none)) b refl (ltb-false _ _ e) }
+    step-in none false e = record { answer = accepted (stepBytes rs v y none) none; state = taken y _; buffer = put 0 (stepBytes rs v y none) b refl (ltb-false _ _ e) }
     step-in (some m) false e =
-        record { answer = accepted (sentBytes (sentTo rs v y (some m))) (some m); state = taken y _; buffer = put _ (sentBytes (sentTo rs v y (some m))) b refl (ltb-false _ _ e) }
+        record { answer = accepted (stepBytes rs v y (some m)) (some m); state = taken y _; buffer = put _ (stepBytes rs v y (some m)) b refl (ltb-false _ _ e) }
 
     step-by : (w : Verdict) → CheckAnswer w → SupervisorStep y b (stepBy w rs v y b)
     unfolding stepBy stepIn

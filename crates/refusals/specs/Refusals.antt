@@ -30,7 +30,7 @@ use Rattle.modules.specs.declared.Reply.the-variants.{Refused as ReplyRefused}
 use Rattle.modules.specs.declared.Replied.{Replied}
 use Rattle.device.specs.Device.{startCall, turnCall, respondCall, tickCall}
 use Rattle.device.specs.Numbers.{turningNumber, turningOffset, turningEvent, turningStray}
-use Rattle.device.specs.declared.Device.{Device}
+use Rattle.device_states.specs.declared.Device.{Device}
 use Rattle.device.specs.declared.Turning.{Turning}
 use Rattle.device.specs.declared.Turning.the-variants.{Refused as TurnRefused}
 use Rattle.device.specs.declared.DeviceTurned.{DeviceTurned}

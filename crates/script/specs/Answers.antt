@@ -7,7 +7,7 @@ use Rattle.modules.specs.declared.Own.{Own}
 use Rattle.modules.specs.declared.Turn.the-variants.{Event, Stray, Nothing}
 use Rattle.modules.specs.declared.Called.{Called}
 use Rattle.modules.specs.declared.Called.the-variants.{Done, Refused as CallRefused}
-use Rattle.device.specs.declared.Device.{Device}
+use Rattle.device_states.specs.declared.Device.{Device}
 use Rattle.device.specs.declared.Turning.{Turning}
 use Rattle.device.specs.declared.Turning.the-variants.{Turned, Refused as TurnRefused}
 use Rattle.script.specs.Ascii.{ascii, decimal}

@@ -3,7 +3,7 @@ use mathlib.Core.Path.{_≡_, refl}
 use Rattle.modules.specs.declared.Called.the-variants.{Done, Refused as CallRefused}
 use Rattle.modules.specs.declared.Turn.the-variants.{Event, Stray, Nothing}
 use Rattle.device.specs.declared.Turning.the-variants.{Turned, Refused as TurnRefused}
-use Rattle.device.specs.Device.{emptyDevice}
+use Rattle.device_states.specs.States.{emptyDevice}
 use Rattle.lines.specs.Number.{numberFrom, begins, upTo, numberUpTo, numberOf, spaceIn}
 use Rattle.script.specs.declared.Line.the-variants.{Turn, Response, Misshapen}
 use Rattle.script.specs.Ascii.{ascii, digits}

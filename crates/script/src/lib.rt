@@ -9,7 +9,7 @@ ghost use Rattle.script.specs.Text.{textOf, pushed, appended, cut};
 ghost use Rattle.script.specs.Answers.{spaced, spacedAll, statesOf, headerLine, planRefusedLine, refusedLine, turnLine, responseLine, statesRow, statesLine};
 ghost use Rattle.script.specs.Said.{hexDigit, hexes, sentLine, deliveredLine, steppedLine, servedLine, tickLine, nothingLine, deviceLine};
 use bits::Maybe;
-use device::Device;
+use device_states::Device;
 use device::Turning;
 use lines::Partial;
 use modules::Called;

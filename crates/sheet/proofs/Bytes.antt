@@ -7,7 +7,7 @@ use native.Mathlib.Omega.{arith}
 use lib.ListN.{length}
 use lib.Dec.{eqb}
 use borrow.Author.Tests.{lt-ltb}
-use Rattle.device.specs.declared.Device.{Device}
+use Rattle.device_states.specs.declared.Device.{Device}
 use Rattle.lines.specs.declared.Partial.{Partial}
 use Rattle.lines.specs.Partial.{begun, withByte, withBytes}
 use Rattle.script.specs.declared.Line.{Line}

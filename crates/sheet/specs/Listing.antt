@@ -9,7 +9,7 @@ use Rattle.reader.specs.Walk.{recordsOf}
 use Rattle.rules.specs.LookUp.{modulesOf, supervisorsOf, eventsOf}
 use Rattle.modules.specs.declared.Called.{Called}
 use Rattle.modules.specs.declared.Called.the-variants.{Done, Refused}
-use Rattle.device.specs.declared.Device.{Device}
+use Rattle.device_states.specs.declared.Device.{Device}
 use Rattle.device.specs.Device.{turnCall, respondCall, startCall}
 use Rattle.lines.specs.declared.Partial.{Partial}
 use Rattle.lines.specs.Partial.{begun, withByte, hasByte}

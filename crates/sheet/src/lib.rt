@@ -1,7 +1,7 @@
 // What a line of the listing's script does to the device, and the line printed of it: specs/Listing.antt.
 ghost use mathlib.Core.Path.{_≡_};
 ghost use Rattle.sheet.specs.Listing.{played};
-use device::Device;
+use device_states::Device;
 use script::Line;
 use script::Text;
 

@@ -36,8 +36,7 @@ use Rattle.permits.specs.declared.Served.{Served}
 use Rattle.permits.specs.declared.Served.the-variants.{Sends, Waits as ServedWaits, Refused as ServedRefused}
 use Rattle.permits.specs.Module.{moduleStep, moduleDeliver, moduleRespond, moduleTick}
 use Rattle.permits.specs.Supervisor.{supervisorStep, supervisorDeliver}
-use Rattle.module_steps.specs.Step as MStep
-use Rattle.supervisor_calls.specs.Step as SStep
+use Rattle.permits.specs.Step.{Gave}
 use Rattle.wire.specs.declared.Wire.{Wire}
 use Rattle.wire.specs.declared.Place.{Place}
 use Rattle.wire.specs.declared.Place.the-variants.{It, Missing}
@@ -97,11 +96,11 @@ module _ (p : Parties) (b : List ℕ) {a : Served} where
 -- ---- steps
 
 pub module-stepped : (image : List ℕ) (p : Parties) (m : ℕ) (b : List ℕ) {x : Module} {s : ModuleStepped} {after : List ℕ} {q r : Parties} → x ≡ moduleAt p m
-    → MStep.Gave (moduleStep image m x b) s after → q ≡ withModule p m (s .state) → r ≡ afterStep image q m (s .answer) after
+    → Gave (moduleStep image m x b) (s .answer) (s .state) after → q ≡ withModule p m (s .state) → r ≡ afterStep image q m (s .answer) after
     → record { answer = ModuleGot m (s .answer); play = r } ≡ moduleStepped image p m b
 unfolding moduleStepped
 module-stepped image p m b {s = s} {after} e g h i =
-    let gave : MStep.Gave (moduleStep image m (moduleAt p m) b) s after = subst (λ (y : Module). MStep.Gave (moduleStep image m y b) s after) e g in
+    let gave : Gave (moduleStep image m (moduleAt p m) b) (s .answer) (s .state) after = subst (λ (y : Module). Gave (moduleStep image m y b) (s .answer) (s .state) after) e g in
     let q : withModule p m (s .state) ≡ withModule p m (moduleStep image m (moduleAt p m) b .state) = ap (withModule p m) (gave .state) in
     (λ j.
     record {
@@ -110,11 +109,11 @@ module-stepped image p m b {s = s} {after} e g h i =
     })
 
 pub supervisor-stepped : (image : List ℕ) (p : Parties) (v : ℕ) (b : List ℕ) {y : Supervisor} {s : SupervisorStepped} {after : List ℕ} {q r : Parties} → y ≡ supervisorAt p v
-    → SStep.Gave (supervisorStep image v y b) s after → q ≡ withSupervisor p v (s .state) → r ≡ afterServing q (s .answer) after
+    → Gave (supervisorStep image v y b) (s .answer) (s .state) after → q ≡ withSupervisor p v (s .state) → r ≡ afterServing q (s .answer) after
     → record { answer = SupervisorGot v (s .answer); play = r } ≡ supervisorStepped image p v b
 unfolding supervisorStepped
 supervisor-stepped image p v b {s = s} {after} e g h i =
-    let gave : SStep.Gave (supervisorStep image v (supervisorAt p v) b) s after = subst (λ (y : Supervisor). SStep.Gave (supervisorStep image v y b) s after) e g in
+    let gave : Gave (supervisorStep image v (supervisorAt p v) b) (s .answer) (s .state) after = subst (λ (y : Supervisor). Gave (supervisorStep image v y b) (s .answer) (s .state) after) e g in
     let q : withSupervisor p v (s .state) ≡ withSupervisor p v (supervisorStep image v (supervisorAt p v) b .state) = ap (withSupervisor p v) (gave .state) in
     (λ j.
     record {

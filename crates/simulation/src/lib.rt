@@ -137,7 +137,7 @@ fn step_supervisor(image: &[u8], p: Parties, v: u8, buffer: &mut [u8]) -> Played
     ensures { λ r. ⌜ r ≡ supervisorStepped (now (image .entry)) p v (now (buffer .entry)) ⌝ }
 {
     let y = parties::supervisor_of(p, v);
-    let s = supervisor_calls::step(image, v, y, &mut *buffer);
+    let s = supervisor_steps::step(image, v, y, &mut *buffer);
     let a = s.answer;
     let after = s.state;
     let next = parties::with_supervisor(p, v, after);

@@ -25,7 +25,7 @@ use Rattle.messages.specs.declared.Message.{Message}
 use Rattle.messages.specs.declared.Message.the-variants.{Bid, Permit, Release}
 use Rattle.messages.specs.declared.Parsed.the-variants.{Whole as WholeMessage}
 use Rattle.device.specs.Device as Dev
-use Rattle.device.specs.declared.Device.{Device}
+use Rattle.device_states.specs.declared.Device.{Device}
 use Rattle.permits.specs.declared.Module.{Module}
 use Rattle.permits.specs.declared.Supervisor.{Supervisor}
 use Rattle.permits.specs.declared.Stepped.{Stepped}

@@ -15,9 +15,10 @@ use Rattle.rules.specs.declared.Verdict.the-variants.{Accepted}
 use Rattle.modules.specs.declared.Replied.{Replied}
 use Rattle.messages.specs.declared.Parsed.{Parsed}
 use Rattle.messages.specs.declared.Parsed.the-variants.{Whole, Misshapen}
+use Rattle.device_states.specs.States as States
 use Rattle.device.specs.Device as Dev
-use Rattle.device.specs.Device.{listFrom}
-use Rattle.device.specs.declared.Device.{Device}
+use Rattle.device_states.specs.States.{listFrom}
+use Rattle.device_states.specs.declared.Device.{Device}
 use Rattle.permits.specs.declared.Module.{Module}
 use Rattle.permits.specs.declared.Supervisor.{Supervisor}
 use Rattle.permits.specs.Module as M
@@ -73,7 +74,7 @@ module _ (rs : List Record) (w : Verdict) (plan : w ≡ Accepted) where
   -- the one device, called for a module that the plan lacks
   pub device-stays : (d : Device) (m : ℕ) (r : Replied) → modulesOf rs ≤ m → Dev.replyBy w rs d m r .device ≡ d
   unfolding Dev.replyBy
-  device-stays d m r l = rw (plan, le-ltb m (modulesOf rs) l) (go (Dev.deviceFits rs d))
+  device-stays d m r l = rw (plan, le-ltb m (modulesOf rs) l) (go (States.deviceFits rs d))
     where
       go : (f : Bool) → Dev.replyIn d m (cond f 11 9) r .device ≡ d
       go true = unfold Dev.replyIn in refl

@@ -11,7 +11,7 @@ use Rattle.rules.specs.LookUp.{modulesOf, supervisorsOf}
 use Rattle.rules.specs.Check.{verdictOf, IsPlan}
 use Rattle.accepted.proofs.Accepted.{every-plan}
 use Rattle.device.specs.Device.{startCall}
-use Rattle.device.specs.declared.Device.{Device}
+use Rattle.device_states.specs.declared.Device.{Device}
 use Rattle.permits.specs.Module as M
 use Rattle.permits.specs.Supervisor as S
 use Rattle.wire.specs.Wire.{under}

@@ -26,6 +26,8 @@ use Rattle.permits.specs.declared.Served.{Served}
 use Rattle.permits.specs.declared.Served.the-variants.{Sends, Waits as ServedWaits, Refused as ServedRefused}
 use Rattle.permits.specs.Module as M
 use Rattle.permits.specs.Supervisor as S
+use Rattle.permits.specs.Step.{bytesOfMessages}
+use Rattle.permits.proofs.Stepping.{bytes-append, bytes-one}
 use Rattle.wire.specs.declared.Sent.{Sent}
 use Rattle.wire.specs.declared.Wire.{Wire}
 use Rattle.wire.specs.declared.Place.{Place}
@@ -66,37 +68,32 @@ wire-grows w l out s h e =
 
 -- ---- what a module step wrote
 
-bytes-append : (l r : List Message) → M.bytesOfMessages (l ++ r) ≡ M.bytesOfMessages l ++ M.bytesOfMessages r
-unfolding M.bytesOfMessages
-bytes-append [] r = refl
-bytes-append (g ∷ l) r = ap (λ (k : List ℕ). messageBytes g ++ k) (bytes-append l r) ∙ sym (append-assoc (messageBytes g) (M.bytesOfMessages l) (M.bytesOfMessages r))
-
 -- releases are read back, four bytes each
 module _ (rs : List Record) (m : ℕ) (t : Turn) where
   abbrev ReadBack : List Message → Type 0
-  ReadBack gs = (rest : List ℕ) → inFours (M.bytesOfMessages gs ++ rest) ≡ map W.sent gs ++ inFours rest
+  ReadBack gs = (rest : List ℕ) → inFours (bytesOfMessages gs ++ rest) ≡ map W.sent gs ++ inFours rest
 
   both-read : (l r : List Message) → ReadBack l → ReadBack r → ReadBack (l ++ r)
   both-read l r e f rest =
-      ap inFours (ap (λ (k : List ℕ). k ++ rest) (bytes-append l r) ∙ append-assoc (M.bytesOfMessages l) (M.bytesOfMessages r) rest)
-      ∙ e (M.bytesOfMessages r ++ rest)
+      ap inFours (ap (λ (k : List ℕ). k ++ rest) (bytes-append l r) ∙ append-assoc (bytesOfMessages l) (bytesOfMessages r) rest)
+      ∙ e (bytesOfMessages r ++ rest)
       ∙ ap (λ (k : List Sent). map W.sent l ++ k) (f rest)
       ∙ sym (append-assoc (map W.sent l) (map W.sent r) (inFours rest))
       ∙ ap (λ (k : List Sent). k ++ inFours rest) (sym (map-append W.sent l r))
 
   one-read : (v e : ℕ) (b : Bool) → ReadBack (cond b (Release m v e ∷ []) [])
-  unfolding M.bytesOfMessages messageBytes inFours readBy parse
+  unfolding bytesOfMessages messageBytes inFours readBy parse
   one-read v e true rest = refl
   one-read v e false rest = refl
 
   releases-read : (n : ℕ) → ReadBack (M.releases rs m t n)
   unfolding M.releases
-  releases-read zero = λ rest. unfold M.bytesOfMessages in refl
+  releases-read zero = λ rest. unfold bytesOfMessages in refl
   releases-read (suc n) = both-read (M.releases rs m t n) _ (releases-read n) (one-read n (M.eventFor rs n t) (bit (neighbours rs m) n))
 
-  pub releases-put : (n : ℕ) → inFours (M.bytesOfMessages (M.releases rs m t n)) ≡ map W.sent (M.releases rs m t n)
+  pub releases-put : (n : ℕ) → inFours (bytesOfMessages (M.releases rs m t n)) ≡ map W.sent (M.releases rs m t n)
   releases-put n =
-      ap inFours (sym (append-nil (M.bytesOfMessages (M.releases rs m t n)))) ∙ releases-read n [] ∙ (unfold inFours in (append-nil (map W.sent (M.releases rs m t n))))
+      ap inFours (sym (append-nil (bytesOfMessages (M.releases rs m t n)))) ∙ releases-read n [] ∙ (unfold inFours in (append-nil (map W.sent (M.releases rs m t n))))
 
 -- what the simulation puts under way
 unfoldable pub putBy : Stepped → List ℕ → List Sent
@@ -116,7 +113,7 @@ module _ (rs : List Record) (m : ℕ) (x : Module) (b : List ℕ) where
       put : (c : M.Choice) → putBy (M.answerBy rs m x c) (written (M.stepBytes rs m x c) b) ≡ map W.sent (M.sentBy rs m x c)
       put M.takesTurn = unfold M.answerBy M.sentBy putBy in (ap inFours (at-start (M.stepBytes rs m x M.takesTurn) b) ∙ releases-put rs m (M.turnTaken rs m x .turn) 32)
       put M.waits = unfold M.answerBy M.sentBy putBy in refl
-      put (M.bidsTo v) = unfold M.answerBy M.sentBy putBy in (ap read (at-start (M.stepBytes rs m x (M.bidsTo v)) b) ∙ (unfold M.bytesOfMessages messageBytes readBy parse in refl))
+      put (M.bidsTo v) = unfold M.answerBy M.sentBy putBy in (ap read (at-start (M.stepBytes rs m x (M.bidsTo v)) b) ∙ (unfold bytesOfMessages messageBytes readBy parse in refl))
 
       few : (c : M.Choice) → length (M.sentBy rs m x c) ≤ 32
       few M.takesTurn = unfold M.sentBy in (releases-most rs m (M.turnTaken rs m x .turn) 32)
@@ -153,7 +150,7 @@ putOut (ServedRefused n o) b = []
 
 module _ (rs : List Record) (v : ℕ) (x : Supervisor) (b : List ℕ) (small : shown rs v (x .state) < 2 ^ 64) where
   abbrev bytesFor : Option ℕ → List ℕ
-  bytesFor t = S.sentBytes (S.sentTo rs v x t)
+  bytesFor t = S.stepBytes rs v x t
 
   permit-put : (t : Option ℕ) → Same (putOut (S.answerBy (bytesFor t) t) (written (bytesFor t) b)) (A.sentOut (S.answerBy (bytesFor t) t) (written (bytesFor t) b))
   permit-put t = record { messages = S.sentTo rs v x t; put = put t; bytes = served-bytes rs v x t b; few = few t }
@@ -161,7 +158,8 @@ module _ (rs : List Record) (v : ℕ) (x : Supervisor) (b : List ℕ) (small : s
       put : (t : Option ℕ) → putOut (S.answerBy (bytesFor t) t) (written (bytesFor t) b) ≡ map W.sent (S.sentTo rs v x t)
       put none = unfold S.answerBy S.sentTo putOut in refl
       put (some m) =
-          unfold S.answerBy S.sentTo S.sentBytes putOut readBy in (ap read (at-start (messageBytes (Permit v m (shown rs v (x .state)))) b) ∙ ap readBy (parse-bytes (Permit v m (shown rs v (x .state))) small))
+          unfold S.answerBy S.sentTo putOut readBy in
+          (ap read (at-start (bytesFor (some m)) b ∙ bytes-one (Permit v m (shown rs v (x .state)))) ∙ ap readBy (parse-bytes (Permit v m (shown rs v (x .state))) small))
 
       few : (t : Option ℕ) → length (S.sentTo rs v x t) ≤ 32
       few none = unfold S.sentTo in (omega arith)

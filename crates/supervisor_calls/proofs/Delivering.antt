@@ -11,12 +11,12 @@ use denote.Floats.{passes as holds, is-true}
 use Rattle.bits.specs.Bit.{bit}
 use Rattle.records.specs.declared.Record.{Record}
 use Rattle.reader.specs.Walk.{recordsOf}
-use Rattle.rules.specs.LookUp.{modulesOf, supervisorsOf, eventsOf, ownerOf}
+use Rattle.rules.specs.LookUp.{modulesOf, supervisorsOf}
 use Rattle.rules.specs.Check.{verdictOf, IsPlan}
 use Rattle.rules.specs.declared.Verdict.{Verdict}
 use Rattle.rules.specs.declared.Verdict.the-variants.{Accepted, Refused}
 use Rattle.accepted.proofs.Accepted.{every-plan}
-use Rattle.plan.specs.Plan.{inAlphabet, neighbour, supervisorAfter}
+use Rattle.plan.specs.Plan.{inAlphabet, ownEvent, neighbour, supervisorAfter}
 use Rattle.modules.specs.declared.Called.the-variants.{Done}
 use Rattle.messages.specs.Message.{noEvent, parse}
 use Rattle.messages.specs.declared.Message.{Message}
@@ -28,7 +28,9 @@ use Rattle.permits.specs.Supervisor.{supervisorFits, callRefused, afterNote, ap
 use Rattle.permits.specs.declared.Supervisor.{Supervisor}
 use Rattle.permits.specs.declared.SupervisorCalled.{SupervisorCalled}
 use Rattle.permits.specs.declared.Holder.{Holder}
-use Rattle.supervisor_calls.proofs.Planned.{plan-by, present, lacking}
+use Rattle.noting.specs.Notes.{putNote}
+use Rattle.noting.proofs.Notes.{put-in}
+use Rattle.noting.proofs.Planned.{plan-by, present, lacking}
 
 -- ---- what the names of a message promise
 
@@ -48,7 +50,12 @@ released-event rs g {m} {w} {e} n f = go (eqb e noEvent) (and-r (neighbours? rs 
   where
     go : (b : Bool) → T (b || eventNamed rs m w e) → (b || inAlphabet rs w e) ≡ true
     go true t = is-true _ t
-    go false t = is-true _ (and-r (ltb e (eventsOf rs)) (inAlphabet rs w e) (and-l (ltb e (eventsOf rs) && inAlphabet rs w e) (eqb (ownerOf rs e) m) t))
+    go false t = is-true _ (and-r (ownEvent rs m e) (inAlphabet rs w e) t)
+
+-- ---- a bid noted
+
+pub after-note : (y : Supervisor) (m : ℕ) {n : ℕ} → m < 16 → n ≡ putNote (y .noted) m true → (record { state = y .state; noted = n; holder = y .holder; last = y .last }) ≡ afterNote y m
+after-note y m l e = ap (λ (n : ℕ). record { state = y .state; noted = n; holder = y .holder; last = y .last }) (put-in (y .noted) m true l e)
 
 -- ---- a release's event applied
 

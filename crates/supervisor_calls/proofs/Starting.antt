@@ -13,7 +13,7 @@ use Rattle.permits.specs.Supervisor.{callRefused, emptySupervisor, startBy, sup
 use Rattle.permits.specs.declared.Supervisor.{Supervisor}
 use Rattle.permits.specs.declared.SupervisorCalled.{SupervisorCalled}
 use Rattle.permits.specs.declared.Holder.the-variants.{Home}
-use Rattle.supervisor_calls.proofs.Planned.{plan-by, present, lacking}
+use Rattle.noting.proofs.Planned.{plan-by, present, lacking}
 
 module _ (image : List ℕ) (v : ℕ) {d : Verdict} (e : d ≡ verdictOf image) where
   pub start-refused : {n o : ℕ} {y : Supervisor} {r : SupervisorCalled} → d ≡ Refused n o → y ≡ emptySupervisor → r ≡ callRefused y n o → r ≡ supervisorStart image v

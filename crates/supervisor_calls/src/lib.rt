@@ -1,29 +1,21 @@
-// The supervisor's calls on many devices: definitions in permits/specs/Supervisor.antt.
+// The supervisor's calls on many devices but for its step: definitions in permits/specs/Supervisor.antt.
 ghost use mathlib.Core.Path.{_≡_};
-ghost use mathlib.Core.Bool.{true, cond, not, _||_};
-ghost use mathlib.Core.Option.{some};
+ghost use mathlib.Core.Bool.{true, cond, _||_};
 ghost use Prim.Native.Nat.{_<_};
 ghost use lib.Dec.{eqb};
-ghost use Rattle.bits.specs.Bit.{bit, allBelow, putBit, least, optionOf};
 ghost use Rattle.reader.specs.Walk.{recordsOf};
 ghost use Rattle.rules.specs.Check.{IsPlan};
 ghost use Rattle.plan.specs.Plan.{inAlphabet};
 ghost use Rattle.messages.specs.Message.{noEvent};
-ghost use Rattle.permits.specs.Names.{neighbours?, named};
-ghost use Rattle.permits.specs.Supervisor.{holderFits, supervisorFits, placeAfter, served, afterSend, afterNote, afterRelease, stepIn, supervisorStep, callRefused, applied, heldBy, takenBy, deliverIn, absent, supervisorDeliver, emptySupervisor, supervisorStart};
-ghost use Rattle.supervisor_calls.specs.Step.{Gave};
-use bits::Maybe;
+ghost use Rattle.permits.specs.Names.{named};
+ghost use Rattle.permits.specs.Supervisor.{afterNote, afterRelease, callRefused, applied, heldBy, takenBy, deliverIn, absent, supervisorDeliver, supervisorStart};
 use messages::Message;
 use messages::Parsed;
 use modules::Called;
 use permits::Holder;
-use permits::Served;
 use permits::Supervisor;
 use permits::SupervisorCalled;
-use permits::SupervisorStepped;
 use rules::Verdict;
-
-// ---- refusals
 
 fn refused(y: Supervisor, n: u8, at: usize) -> SupervisorCalled
     ensures { λ r. ⌜ r ≡ callRefused y n at ⌝ }
@@ -34,27 +26,7 @@ fn refused(y: Supervisor, n: u8, at: usize) -> SupervisorCalled
     }
 }
 
-fn step_refused(y: Supervisor, n: u8, at: usize) -> SupervisorStepped
-    ensures { λ r. ⌜ r ≡ record { answer = Served.Refused n at; state = y } ⌝ }
-{
-    SupervisorStepped {
-        answer: Served::Refused(n, at),
-        state: y,
-    }
-}
-
 // ---- the start
-
-fn empty() -> Supervisor
-    ensures { λ r. ⌜ r ≡ emptySupervisor ⌝ }
-{
-    Supervisor {
-        state: 0,
-        noted: 0,
-        holder: Holder::Home,
-        last: 0,
-    }
-}
 
 // The supervisor's starting state.
 pub fn start(image: &[u8], v: u8) -> SupervisorCalled
@@ -74,162 +46,10 @@ pub fn start(image: &[u8], v: u8) -> SupervisorCalled
                     state,
                 }
             } else {
-                refused(empty(), 11, 0)
+                refused(permits::empty_supervisor(), 11, 0)
             }
         }
-        Verdict::Refused(n, at) => refused(empty(), n, at),
-    }
-}
-
-// ---- a state that fits
-
-// Whether a module, if it is noted, is a neighbour.
-fn note_fits(image: &[u8], v: u8, noted: u16, m: u8) -> bool
-    ensures { λ r. ⌜ r ≡ (not (bit noted m) || neighbours? (recordsOf (now (image .entry))) m v) ⌝ }
-{
-    let mask = noted as u64;
-    if bits::has(mask, m) {
-        permits::are_neighbours(image, m, v)
-    } else {
-        true
-    }
-}
-
-fn noted_fits(image: &[u8], v: u8, noted: u16) -> bool
-    ensures { λ r. ⌜ r ≡ allBelow (λ m. not (bit noted m) || neighbours? (recordsOf (now (image .entry))) m v) 16 ⌝ }
-{
-    let mut m: u8 = 0;
-    while m < 16 {
-        if !note_fits(image, v, noted, m) {
-            return false;
-        }
-        m += 1;
-    }
-    true
-}
-
-fn holder_fits(image: &[u8], v: u8, holder: Holder) -> bool
-    ensures { λ r. ⌜ r ≡ holderFits (recordsOf (now (image .entry))) v holder ⌝ }
-{
-    match holder {
-        Holder::Home => true,
-        Holder::Out(m) => permits::are_neighbours(image, m, v),
-    }
-}
-
-fn fits(image: &[u8], v: u8, y: Supervisor) -> bool
-    ensures { λ r. ⌜ r ≡ supervisorFits (recordsOf (now (image .entry))) v y ⌝ }
-{
-    let holder = y.holder;
-    plan::supervisor_state(image, v, y.state)
-        & noted_fits(image, v, y.noted)
-        & holder_fits(image, v, holder)
-        & (y.last < 16)
-}
-
-// ---- the step
-
-// The noted modules by their places after the last served: bit k is the note of the k-th.
-fn turned(noted: u16, last: u8) -> u64
-    requires { ⌜ last < 16 ⌝ }
-    ensures { λ r. ⌜ least (bit r) 64 ≡ least (λ k. bit noted (placeAfter last k)) 16 ⌝ }
-{
-    let mask = noted as u64;
-    let twice = mask | (mask << 16);
-    (twice >> (last + 1)) & 0xffff
-}
-
-// The module to which the permit goes, if it is home.
-fn served(y: Supervisor) -> Maybe
-    requires { ⌜ y .last < 16 ⌝ }
-    ensures { λ r. ⌜ optionOf r ≡ served y ⌝ }
-{
-    let holder = y.holder;
-    let last = y.last;
-    match holder {
-        Holder::Home => {
-            let Maybe::Just(k) = bits::lowest(turned(y.noted, last)) else {
-                return Maybe::Nothing;
-            };
-            Maybe::Just((last + 1 + k) % 16)
-        }
-        Holder::Out(_) => Maybe::Nothing,
-    }
-}
-
-// The notes with a module's on or off.
-fn put_note(noted: u16, m: u8, on: bool) -> u16
-    requires { ⌜ m < 16 ⌝ }
-    ensures { λ r. ⌜ r ≡ putBit noted m on ⌝ }
-{
-    let mask = noted as u64;
-    bits::put(mask, m, on) as u16
-}
-
-fn after_send(y: Supervisor, m: u8) -> Supervisor
-    requires { ⌜ m < 16 ⌝ }
-    ensures { λ r. ⌜ r ≡ afterSend y m ⌝ }
-{
-    Supervisor {
-        state: y.state,
-        noted: put_note(y.noted, m, false),
-        holder: Holder::Out(m),
-        last: m,
-    }
-}
-
-// The permit, with the mask that the supervisor shows now.
-fn send(image: &[u8], v: u8, y: Supervisor, m: u8, buffer: &mut [u8]) -> SupervisorStepped
-    requires { ⌜ m < 16 ⌝ }
-    ensures { λ r. ⌜ Gave (stepIn (recordsOf (now (image .entry))) v y (now (buffer .entry)) (some m)) r (now (buffer .exit)) ⌝ }
-{
-    let mask = plan::shown(image, v, y.state);
-    let g = Message::Permit {
-        supervisor: v,
-        owner: m,
-        mask,
-    };
-    if messages::write(g, &mut *buffer, 0) {
-        let state = after_send(y, m);
-        SupervisorStepped {
-            answer: Served::Sends(m, messages::length_of(g)),
-            state,
-        }
-    } else {
-        step_refused(y, 15, 0)
-    }
-}
-
-fn serve(image: &[u8], v: u8, y: Supervisor, buffer: &mut [u8]) -> SupervisorStepped
-    requires { ⌜ y .last < 16 ⌝ }
-    ensures { λ r. ⌜ Gave (stepIn (recordsOf (now (image .entry))) v y (now (buffer .entry)) (served y)) r (now (buffer .exit)) ⌝ }
-{
-    let Maybe::Just(m) = served(y) else {
-        return SupervisorStepped {
-            answer: Served::Waits,
-            state: y,
-        };
-    };
-    send(image, v, y, m, buffer)
-}
-
-// A supervisor step: sends its permit, or waits.
-pub fn step(image: &[u8], v: u8, y: Supervisor, buffer: &mut [u8]) -> SupervisorStepped
-    ensures { λ r. ⌜ Gave (supervisorStep (now (image .entry)) v y (now (buffer .entry))) r (now (buffer .exit)) ⌝ }
-{
-    match checker::check(image) {
-        Verdict::Accepted => {
-            if v < plan::supervisors_of(image) {
-                if fits(image, v, y) {
-                    serve(image, v, y, buffer)
-                } else {
-                    step_refused(y, 9, 0)
-                }
-            } else {
-                step_refused(y, 11, 0)
-            }
-        }
-        Verdict::Refused(n, at) => step_refused(y, n, at),
+        Verdict::Refused(n, at) => refused(permits::empty_supervisor(), n, at),
     }
 }
 
@@ -256,7 +76,7 @@ fn after_note(y: Supervisor, m: u8) -> Supervisor
     let holder = y.holder;
     Supervisor {
         state: y.state,
-        noted: put_note(y.noted, m, true),
+        noted: noting::put_note(y.noted, m, true),
         holder,
         last: y.last,
     }
@@ -352,7 +172,7 @@ pub fn deliver(image: &[u8], v: u8, y: Supervisor, bytes: &[u8]) -> SupervisorCa
     match checker::check(image) {
         Verdict::Accepted => {
             if v < plan::supervisors_of(image) {
-                if fits(image, v, y) {
+                if noting::fits(image, v, y) {
                     deliver_in(image, v, y, p)
                 } else {
                     refused(y, 9, 0)

@@ -49,7 +49,7 @@ module _ (rs : List Record) (m : ℕ) (own : Own) where
       fires e q h none g = stray e q h
 
       commands : (e : ℕ) → queueOf own ≡ [] → own .procedure .running ≡ false → Lowest (enabled rs m k (own .state)) 64 e
-          → (o : Option ℕ) → moduleMove rs m (own .state) e ≡ o → P (byCommand rs m own e o)
+          → (o : Option ℕ) → moduleMove rs m (own .state) e ≡ o → P (byCommand rs own e o)
       commands e h r l (some st) g = command e st h r l g
       commands e h r l none g = nothing
 

@@ -61,17 +61,17 @@ module _ (rs : List Record) (m k : ℕ) (own : Own) (h : k < 2 ^ 64) {x : ℕ} (
   chose-none q = ap (byChoice rs m own) (sym (ap optionOf q) ∙ choice)
 
   module _ {e : ℕ} (q : y ≡ Just e) (z : Maybe) (s : optionOf z ≡ moduleMove rs m (own .state) e) where
-    commanded : byCommand rs m own e (optionOf z) ≡ byChoice rs m own (least (enabled rs m k (own .state)) 64)
+    commanded : byCommand rs own e (optionOf z) ≡ byChoice rs m own (least (enabled rs m k (own .state)) 64)
     unfolding byChoice
-    commanded = ap (byCommand rs m own e) s ∙ ap (byChoice rs m own) (sym (ap optionOf q) ∙ choice)
+    commanded = ap (byCommand rs own e) s ∙ ap (byChoice rs m own) (sym (ap optionOf q) ∙ choice)
 
     pub chose-stuck : z ≡ Nothing → did NoTurn own ≡ byChoice rs m own (least (enabled rs m k (own .state)) 64)
     unfolding byCommand
-    chose-stuck g = ap (λ (u : Maybe). byCommand rs m own e (optionOf u)) (sym g) ∙ commanded
+    chose-stuck g = ap (λ (u : Maybe). byCommand rs own e (optionOf u)) (sym g) ∙ commanded
 
     pub chose : {t : ℕ} {p : Procedure} → z ≡ Just t → p ≡ arriveAt rs e 0 → did (Event e) (moved own t p) ≡ byChoice rs m own (least (enabled rs m k (own .state)) 64)
     unfolding byCommand
-    chose {t} g a = ap (λ (p : Procedure). did (Event e) (moved own t p)) a ∙ ap (λ (u : Maybe). byCommand rs m own e (optionOf u)) (sym g) ∙ commanded
+    chose {t} g a = ap (λ (p : Procedure). did (Event e) (moved own t p)) a ∙ ap (λ (u : Maybe). byCommand rs own e (optionOf u)) (sym g) ∙ commanded
 
 -- ---- the queue
 

@@ -9,14 +9,14 @@ check-requires c κs = search needs
 enum-told : tie.Need-enum-told
 enum-told c = search needs
 
-start-device-requires : tie.Need-start-device-requires
-start-device-requires c κs = search needs
+started-requires : tie.Need-started-requires
+started-requires c κs = search needs
 
 enum-known-n : tie.Need-enum-known-n
 enum-known-n c = search needs
 
-empty-device-requires : tie.Need-empty-device-requires
-empty-device-requires c κs = search needs
+empty-requires : tie.Need-empty-requires
+empty-requires c κs = search needs
 
 refused-requires : tie.Need-refused-requires
 refused-requires c κs = search needs
@@ -33,9 +33,9 @@ start-spec =
     (tie.spec
     check-requires
     enum-told
-    start-device-requires
+    started-requires
     enum-known-n
-    empty-device-requires
+    empty-requires
     refused-requires
     returns
     returns-2)

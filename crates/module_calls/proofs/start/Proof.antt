@@ -15,14 +15,8 @@ modules-of-requires c κs = search needs
 started-requires : tie.Need-started-requires
 started-requires c κs = search needs
 
-unbidden-requires : tie.Need-unbidden-requires
-unbidden-requires c κs = search needs
-
-empty-requires : tie.Need-empty-requires
-empty-requires c κs = search needs
-
-unbidden-requires-2 : tie.Need-unbidden-requires-2
-unbidden-requires-2 c κs = search needs
+empty-module-requires : tie.Need-empty-module-requires
+empty-module-requires c κs = search needs
 
 refused-requires : tie.Need-refused-requires
 refused-requires c κs = search needs
@@ -30,11 +24,8 @@ refused-requires c κs = search needs
 enum-known-n : tie.Need-enum-known-n
 enum-known-n c = search needs
 
-empty-requires-2 : tie.Need-empty-requires-2
-empty-requires-2 c κs = search needs
-
-unbidden-requires-3 : tie.Need-unbidden-requires-3
-unbidden-requires-3 c κs = search needs
+empty-module-requires-2 : tie.Need-empty-module-requires-2
+empty-module-requires-2 c κs = search needs
 
 refused-requires-2 : tie.Need-refused-requires-2
 refused-requires-2 c κs = search needs
@@ -56,13 +47,10 @@ start-spec =
     enum-told
     modules-of-requires
     started-requires
-    unbidden-requires
-    empty-requires
-    unbidden-requires-2
+    empty-module-requires
     refused-requires
     enum-known-n
-    empty-requires-2
-    unbidden-requires-3
+    empty-module-requires-2
     refused-requires-2
     returns
     returns-2

@@ -3,7 +3,7 @@ use lib.ListN.{length, List·getD-eq-default}
 use native.Mathlib.Omega.{arith}
 use Rattle.permits.specs.Module.{emptyModule}
 use Rattle.words.proofs.Laws.{mapped}
-use Rattle.device.proofs.Slots.{any-slot}
+use Rattle.device_states.proofs.Slots.{any-slot}
 use borrow.Author.Needs.{needs}
 use Rattle.parties.proofs.module_of.Statement.{statement}
 use Rattle.parties.proofs.module_of.Tie as tie
@@ -17,8 +17,8 @@ mul-result c = search needs
 element-copy-out-result : tie.Need-element-copy-out-result
 element-copy-out-result c = search needs
 
-no-module-requires : tie.Need-no-module-requires
-no-module-requires c κs = search needs
+empty-module-requires : tie.Need-empty-module-requires
+empty-module-requires c κs = search needs
 
 returns : tie.Need-returns
 returns c =
@@ -29,7 +29,7 @@ returns c =
 returns-2 : tie.Need-returns-2
 returns-2 c =
     let h : length (c .before .before .args .t1 .modules) ≡ 16 = search mapped in
-    c .no-module .ensures ∙ sym (List·getD-eq-default (c .before .before .args .t1 .modules) emptyModule {n = (c .before .before .args .m)} (omega (arith, c .before .if1 .left)))
+    c .empty-module .ensures ∙ sym (List·getD-eq-default (c .before .before .args .t1 .modules) emptyModule {n = (c .before .before .args .m)} (omega (arith, c .before .if1 .left)))
 
 pub module-of-spec : {M : Type 1} → statement M
 module-of-spec =
@@ -38,6 +38,6 @@ module-of-spec =
     wide-requires
     mul-result
     element-copy-out-result
-    no-module-requires
+    empty-module-requires
     returns
     returns-2)

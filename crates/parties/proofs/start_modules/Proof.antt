@@ -5,8 +5,8 @@ use borrow.Author.Needs.{needs}
 use lib.ListN.{replicate}
 use Rattle.permits.specs.declared.Module.{Module}
 use Rattle.permits.specs.Module.{emptyModule, moduleStart}
-use Rattle.device.specs.Device.{listFrom}
-use Rattle.device.proofs.Slots.{filled, fill-on, fill-done}
+use Rattle.device_states.specs.States.{listFrom}
+use Rattle.device_states.proofs.Slots.{filled, fill-on, fill-done}
 use Rattle.parties.proofs.start_modules.Statement.{statement}
 use Rattle.parties.proofs.start_modules.Tie as tie
 
@@ -16,12 +16,12 @@ Inv-loop image next₀ i₀ next i = (i ≤ 16) × (next ≡ filled (λ m. modul
 abbrev μ-loop : tie.MeasureT-loop
 μ-loop image next₀ i₀ next i = 16 - i
 
-no-module-requires : tie.Need-no-module-requires Inv-loop μ-loop
-no-module-requires c κs = search needs
+empty-module-requires : tie.Need-empty-module-requires Inv-loop μ-loop
+empty-module-requires c κs = search needs
 
 loop-holds : tie.Need-loop-holds Inv-loop μ-loop
 unfolding listFrom
-loop-holds c = (search needs, ap (λ (x : Module). replicate 16 x) (c .no-module .ensures))
+loop-holds c = (search needs, ap (λ (x : Module). replicate 16 x) (c .empty-module .ensures))
 
 cast-m : tie.Need-cast-m Inv-loop μ-loop
 cast-m c = search needs
@@ -58,7 +58,7 @@ start-modules-spec =
     (tie.spec
     Inv-loop
     μ-loop
-    no-module-requires
+    empty-module-requires
     loop-holds
     cast-m
     module-start-requires

@@ -5,8 +5,8 @@ use borrow.Author.Needs.{needs}
 use lib.ListN.{replicate}
 use Rattle.permits.specs.declared.Supervisor.{Supervisor}
 use Rattle.permits.specs.Supervisor.{emptySupervisor, supervisorStart}
-use Rattle.device.specs.Device.{listFrom}
-use Rattle.device.proofs.Slots.{filled, fill-on, fill-done}
+use Rattle.device_states.specs.States.{listFrom}
+use Rattle.device_states.proofs.Slots.{filled, fill-on, fill-done}
 use Rattle.parties.proofs.start_supervisors.Statement.{statement}
 use Rattle.parties.proofs.start_supervisors.Tie as tie
 
@@ -16,12 +16,12 @@ Inv-loop image next₀ i₀ next i = (i ≤ 32) × (next ≡ filled (λ v. super
 abbrev μ-loop : tie.MeasureT-loop
 μ-loop image next₀ i₀ next i = 32 - i
 
-no-supervisor-requires : tie.Need-no-supervisor-requires Inv-loop μ-loop
-no-supervisor-requires c κs = search needs
+empty-supervisor-requires : tie.Need-empty-supervisor-requires Inv-loop μ-loop
+empty-supervisor-requires c κs = search needs
 
 loop-holds : tie.Need-loop-holds Inv-loop μ-loop
 unfolding listFrom
-loop-holds c = (search needs, ap (λ (x : Supervisor). replicate 32 x) (c .no-supervisor .ensures))
+loop-holds c = (search needs, ap (λ (x : Supervisor). replicate 32 x) (c .empty-supervisor .ensures))
 
 cast-v : tie.Need-cast-v Inv-loop μ-loop
 cast-v c = search needs
@@ -58,7 +58,7 @@ start-supervisors-spec =
     (tie.spec
     Inv-loop
     μ-loop
-    no-supervisor-requires
+    empty-supervisor-requires
     loop-holds
     cast-v
     supervisor-start-requires

@@ -3,7 +3,7 @@ use lib.ListN.{length, List·getD-eq-default}
 use native.Mathlib.Omega.{arith}
 use Rattle.permits.specs.Supervisor.{emptySupervisor}
 use Rattle.words.proofs.Laws.{mapped}
-use Rattle.device.proofs.Slots.{any-slot}
+use Rattle.device_states.proofs.Slots.{any-slot}
 use borrow.Author.Needs.{needs}
 use Rattle.parties.proofs.supervisor_of.Statement.{statement}
 use Rattle.parties.proofs.supervisor_of.Tie as tie
@@ -17,8 +17,8 @@ mul-result c = search needs
 element-copy-out-result : tie.Need-element-copy-out-result
 element-copy-out-result c = search needs
 
-no-supervisor-requires : tie.Need-no-supervisor-requires
-no-supervisor-requires c κs = search needs
+empty-supervisor-requires : tie.Need-empty-supervisor-requires
+empty-supervisor-requires c κs = search needs
 
 returns : tie.Need-returns
 returns c =
@@ -29,7 +29,7 @@ returns c =
 returns-2 : tie.Need-returns-2
 returns-2 c =
     let h : length (c .before .before .args .t1 .supervisors) ≡ 32 = search mapped in
-    c .no-supervisor .ensures ∙ sym (List·getD-eq-default (c .before .before .args .t1 .supervisors) emptySupervisor {n = (c .before .before .args .v)} (omega (arith, c .before .if1 .left)))
+    c .empty-supervisor .ensures ∙ sym (List·getD-eq-default (c .before .before .args .t1 .supervisors) emptySupervisor {n = (c .before .before .args .v)} (omega (arith, c .before .if1 .left)))
 
 pub supervisor-of-spec : {M : Type 1} → statement M
 supervisor-of-spec =
@@ -38,6 +38,6 @@ supervisor-of-spec =
     wide-requires
     mul-result
     element-copy-out-result
-    no-supervisor-requires
+    empty-supervisor-requires
     returns
     returns-2)

@@ -1,4 +1,3 @@
-use Rattle.permits.proofs.Naming.{event-by}
 use borrow.Author.Needs.{needs}
 use Rattle.permits.proofs.event_named.Statement.{statement}
 use Rattle.permits.proofs.event_named.Tie as tie
@@ -10,7 +9,7 @@ in-alphabet-requires : tie.Need-in-alphabet-requires
 in-alphabet-requires c κs = search needs
 
 returns : tie.Need-returns
-returns c = search event-by
+returns c = cc
 
 pub event-named-spec : {M : Type 1} → statement M
 event-named-spec = tie.close (tie.spec own-event-requires in-alphabet-requires returns)

@@ -1,4 +1,4 @@
-use Rattle.supervisor_calls.proofs.Planned.{plan-by}
+use Rattle.noting.proofs.Planned.{plan-by}
 use Rattle.supervisor_calls.proofs.Delivering.{deliver-refused, deliver-absent, deliver-unfit, deliver-fit}
 use borrow.Author.Needs.{needs}
 use Rattle.supervisor_calls.proofs.deliver.Statement.{statement}

@@ -15,8 +15,8 @@ supervisors-of-requires c κs = search needs
 supervisor-initial-requires : tie.Need-supervisor-initial-requires
 supervisor-initial-requires c κs = search needs
 
-empty-requires : tie.Need-empty-requires
-empty-requires c κs = search needs
+empty-supervisor-requires : tie.Need-empty-supervisor-requires
+empty-supervisor-requires c κs = search needs
 
 refused-requires : tie.Need-refused-requires
 refused-requires c κs = search needs
@@ -24,8 +24,8 @@ refused-requires c κs = search needs
 enum-known-n : tie.Need-enum-known-n
 enum-known-n c = search needs
 
-empty-requires-2 : tie.Need-empty-requires-2
-empty-requires-2 c κs = search needs
+empty-supervisor-requires-2 : tie.Need-empty-supervisor-requires-2
+empty-supervisor-requires-2 c κs = search needs
 
 refused-requires-2 : tie.Need-refused-requires-2
 refused-requires-2 c κs = search needs
@@ -47,10 +47,10 @@ start-spec =
     enum-told
     supervisors-of-requires
     supervisor-initial-requires
-    empty-requires
+    empty-supervisor-requires
     refused-requires
     enum-known-n
-    empty-requires-2
+    empty-supervisor-requires-2
     refused-requires-2
     returns
     returns-2

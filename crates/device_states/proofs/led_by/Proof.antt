@@ -1,0 +1,56 @@
+use mathlib.Core.Path.{_≡_, refl, sym, ap, _∙_}
+use mathlib.Core.List.{List}
+use Prim.Native.Nat.{ℕ, _-_, _%_, _≤_}
+use native.Mathlib.Omega.{arith}
+use borrow.Author.Needs.{needs}
+use Rattle.reader.specs.Walk.{recordsOf}
+use Rattle.device_states.specs.States.{listFrom}
+use Rattle.device_states.proofs.Slots.{filled, fill-done, led, led-on}
+use Rattle.device_states.proofs.led_by.Statement.{statement}
+use Rattle.device_states.proofs.led_by.Tie as tie
+
+abbrev Inv-loop : tie.InvT-loop
+Inv-loop image e states next₀ i₀ next i = (i ≤ 32) × (next ≡ filled (led (recordsOf image) states e) 0 32 i)
+
+abbrev μ-loop : tie.MeasureT-loop
+μ-loop image e states next₀ i₀ next i = 32 - i
+
+loop-holds : tie.Need-loop-holds Inv-loop μ-loop
+unfolding listFrom
+loop-holds c = (search needs, refl)
+
+cast-v : tie.Need-cast-v Inv-loop μ-loop
+cast-v c = search needs
+
+array-read-st : tie.Need-array-read-st Inv-loop μ-loop
+array-read-st c = search needs
+
+supervisor-after-requires : tie.Need-supervisor-after-requires Inv-loop μ-loop
+supervisor-after-requires c κs = search needs
+
+array-write-next : tie.Need-array-write-next Inv-loop μ-loop
+array-write-next c = search needs
+
+add-i : tie.Need-add-i Inv-loop μ-loop
+add-i c = search needs
+
+loop-less : tie.Need-loop-less Inv-loop μ-loop
+loop-less c = search needs
+
+loop-again : tie.Need-loop-again Inv-loop μ-loop
+loop-again c =
+    let l = c .before .before .loop in
+    let a = c .before .before .before .before .args in
+    let e : l .i % 256 ≡ l .i = omega (arith, c .before .loop-test .taken) in
+    (search needs, led-on _ (a .t2) (a .e) _ _ e (c .supervisor-after .ensures) (c .before .loop-test .taken) (l .inv .1))
+
+returns : tie.Need-returns Inv-loop μ-loop
+returns c =
+    let l = c .before .loop in
+    let a = c .before .before .before .args in
+    fill-done (led _ (a .t2) (a .e)) 0 32 (l .i) (l .inv .1) (c .loop-test .left) (l .inv .0)
+
+pub led-by-spec : {M : Type 1} → statement M
+led-by-spec =
+    tie.close
+    (tie.spec Inv-loop μ-loop loop-holds cast-v array-read-st supervisor-after-requires array-write-next add-i loop-less loop-again returns)

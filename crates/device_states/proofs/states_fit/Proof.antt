@@ -1,0 +1,42 @@
+use mathlib.Core.Path.{_≡_, refl, sym, subst}
+use mathlib.Core.Bool.{true}
+use Prim.Native.Nat.{ℕ, _-_, _≤_}
+use native.Mathlib.Omega.{arith}
+use borrow.Author.Needs.{needs}
+use Rattle.bits.specs.Bit.{allBelow}
+use Rattle.reader.specs.Walk.{recordsOf}
+use Rattle.device_states.specs.States.{stateSlotFits}
+use Rattle.device_states.proofs.Slots.{state-on, state-fails, all-done}
+use Rattle.device_states.proofs.states_fit.Statement.{statement}
+use Rattle.device_states.proofs.states_fit.Tie as tie
+
+abbrev Inv-loop : tie.InvT-loop
+Inv-loop image states v₀ v = (v ≤ 32) × (allBelow (stateSlotFits (recordsOf image) states) v ≡ true)
+
+abbrev μ-loop : tie.MeasureT-loop
+μ-loop image states v₀ v = 32 - v
+
+loop-holds : tie.Need-loop-holds Inv-loop μ-loop
+unfolding allBelow
+loop-holds c = (search needs, refl)
+
+state-slot-fits-requires : tie.Need-state-slot-fits-requires Inv-loop μ-loop
+state-slot-fits-requires c κs = search needs
+
+add-v : tie.Need-add-v Inv-loop μ-loop
+add-v c = search needs
+
+loop-less : tie.Need-loop-less Inv-loop μ-loop
+loop-less c = search needs
+
+loop-again : tie.Need-loop-again Inv-loop μ-loop
+loop-again c = (search needs, search state-on)
+
+returns : tie.Need-returns Inv-loop μ-loop
+returns c = search state-fails
+
+returns-2 : tie.Need-returns-2 Inv-loop μ-loop
+returns-2 c = search all-done
+
+pub states-fit-spec : {M : Type 1} → statement M
+states-fit-spec = tie.close (tie.spec Inv-loop μ-loop loop-holds state-slot-fits-requires add-v loop-less loop-again returns returns-2)

@@ -1,0 +1,4 @@
+pub mod Fitting
+pub mod Notes
+pub mod Planned
+pub mod Serving

@@ -1,0 +1,89 @@
+// The supervisor's step on many devices: definitions in permits/specs/Supervisor.antt.
+ghost use mathlib.Core.Path.{_≡_};
+ghost use mathlib.Core.Option.{some};
+ghost use Prim.Native.Nat.{_<_};
+ghost use Rattle.reader.specs.Walk.{recordsOf};
+ghost use Rattle.permits.specs.Supervisor.{served, afterSend, stepIn, supervisorStep};
+ghost use Rattle.permits.specs.Step.{Gave};
+use bits::Maybe;
+use messages::Message;
+use permits::Holder;
+use permits::Served;
+use permits::Supervisor;
+use permits::SupervisorStepped;
+use rules::Verdict;
+
+fn step_refused(y: Supervisor, n: u8, at: usize) -> SupervisorStepped
+    ensures { λ r. ⌜ r ≡ record { answer = Served.Refused n at; state = y } ⌝ }
+{
+    SupervisorStepped {
+        answer: Served::Refused(n, at),
+        state: y,
+    }
+}
+
+fn after_send(y: Supervisor, m: u8) -> Supervisor
+    requires { ⌜ m < 16 ⌝ }
+    ensures { λ r. ⌜ r ≡ afterSend y m ⌝ }
+{
+    Supervisor {
+        state: y.state,
+        noted: noting::put_note(y.noted, m, false),
+        holder: Holder::Out(m),
+        last: m,
+    }
+}
+
+// The permit, with the mask that the supervisor shows now.
+fn send(image: &[u8], v: u8, y: Supervisor, m: u8, buffer: &mut [u8]) -> SupervisorStepped
+    requires { ⌜ m < 16 ⌝ }
+    ensures { λ r. ⌜ Gave (stepIn (recordsOf (now (image .entry))) v y (now (buffer .entry)) (some m)) (r .answer) (r .state) (now (buffer .exit)) ⌝ }
+{
+    let mask = plan::shown(image, v, y.state);
+    let g = Message::Permit {
+        supervisor: v,
+        owner: m,
+        mask,
+    };
+    if messages::write(g, &mut *buffer, 0) {
+        let state = after_send(y, m);
+        SupervisorStepped {
+            answer: Served::Sends(m, messages::length_of(g)),
+            state,
+        }
+    } else {
+        step_refused(y, 15, 0)
+    }
+}
+
+fn serve(image: &[u8], v: u8, y: Supervisor, buffer: &mut [u8]) -> SupervisorStepped
+    ensures { λ r. ⌜ Gave (stepIn (recordsOf (now (image .entry))) v y (now (buffer .entry)) (served y)) (r .answer) (r .state) (now (buffer .exit)) ⌝ }
+{
+    let Maybe::Just(m) = noting::served(y) else {
+        return SupervisorStepped {
+            answer: Served::Waits,
+            state: y,
+        };
+    };
+    send(image, v, y, m, buffer)
+}
+
+// A supervisor step: sends its permit, or waits.
+pub fn step(image: &[u8], v: u8, y: Supervisor, buffer: &mut [u8]) -> SupervisorStepped
+    ensures { λ r. ⌜ Gave (supervisorStep (now (image .entry)) v y (now (buffer .entry))) (r .answer) (r .state) (now (buffer .exit)) ⌝ }
+{
+    match checker::check(image) {
+        Verdict::Accepted => {
+            if v < plan::supervisors_of(image) {
+                if noting::fits(image, v, y) {
+                    serve(image, v, y, buffer)
+                } else {
+                    step_refused(y, 9, 0)
+                }
+            } else {
+                step_refused(y, 11, 0)
+            }
+        }
+        Verdict::Refused(n, at) => step_refused(y, n, at),
+    }
+}
