@@ -108,21 +108,18 @@ unfoldable pub contextOf : List Record → Context
 contextOf [] = start
 contextOf (r ∷ rs) = withRecord (contextOf rs) r
 
--- an entry of a table, and 0 past its n entries
-abbrev pub entry : ℕ → List ℕ → ℕ → ℕ
-entry n t i = cond (ltb i n) (getD t i 0) 0
-
+-- an entry of a table, and 0 past its end
 abbrev pub ownerAt : Events → ℕ → ℕ
-ownerAt ev e = entry 64 (ev .owner) e
+ownerAt ev e = getD (ev .owner) e 0
 
 abbrev pub stepsAt : Events → ℕ → ℕ
-stepsAt ev e = entry 64 (ev .steps) e
+stepsAt ev e = getD (ev .steps) e 0
 
 abbrev pub moduleStatesAt : Modules → ℕ → ℕ
-moduleStatesAt ms m = entry 16 (ms .states) m
+moduleStatesAt ms m = getD (ms .states) m 0
 
 abbrev pub supervisorStatesAt : Supervisors → ℕ → ℕ
-supervisorStatesAt vs v = entry 32 (vs .states) v
+supervisorStatesAt vs v = getD (vs .states) v 0
 
 abbrev pub alphabetAt : Supervisors → ℕ → ℕ
-alphabetAt vs v = entry 32 (vs .alphabet) v
+alphabetAt vs v = getD (vs .alphabet) v 0

@@ -210,48 +210,32 @@ pub fn with_record(c: Context, r: Record) -> Context
 pub fn owner_of(ev: Events, event: u8) -> u8
     ensures { λ r. ⌜ r ≡ ownerAt ev event ⌝ }
 {
-    if event < 64 {
-        let i = words::wide(event);
-        ev.owner[i]
-    } else {
-        0
-    }
+    let owners = ev.owner;
+    words::byte_at(&owners, words::wide(event))
 }
 
 // How many steps an event has so far, and 0 for a number that no event can have.
 pub fn steps_of(ev: Events, event: u8) -> u8
     ensures { λ r. ⌜ r ≡ stepsAt ev event ⌝ }
 {
-    if event < 64 {
-        let i = words::wide(event);
-        ev.steps[i]
-    } else {
-        0
-    }
+    let steps = ev.steps;
+    words::byte_at(&steps, words::wide(event))
 }
 
 // How many states a module has, and 0 for a number that no module can have.
 pub fn module_states(ms: Modules, m: u8) -> u8
     ensures { λ r. ⌜ r ≡ moduleStatesAt ms m ⌝ }
 {
-    if m < 16 {
-        let i = words::wide(m);
-        ms.states[i]
-    } else {
-        0
-    }
+    let states = ms.states;
+    words::byte_at(&states, words::wide(m))
 }
 
 // How many states a supervisor has, and 0 for a number that no supervisor can have.
 pub fn supervisor_states(vs: Supervisors, v: u8) -> u8
     ensures { λ r. ⌜ r ≡ supervisorStatesAt vs v ⌝ }
 {
-    if v < 32 {
-        let i = words::wide(v);
-        vs.states[i]
-    } else {
-        0
-    }
+    let states = vs.states;
+    words::byte_at(&states, words::wide(v))
 }
 
 // The alphabet of a supervisor, and 0 for a number that no supervisor can have.

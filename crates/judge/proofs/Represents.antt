@@ -6,7 +6,7 @@ use Prim.Native.Nat.{ℕ, suc, _+_, _%_, _≤_, _<_}
 use native.Mathlib.Nat.{mod-eq-of-lt}
 use native.Mathlib.Numerals.{add-one}
 use native.Mathlib.Omega.{arith}
-use lib.ListN.{getD, getD-replicate}
+use lib.ListN.{getD, getD-replicate, List·getD-eq-default}
 use lib.Dec.{eqb, leb, ltb, lit≤}
 use borrow.Author.Tests.{ltb-true, ltb-false, lt-ltb, le-ltb, leb-true, eqb-true}
 use Rattle.bits.specs.Bit.{bit, allBelow, everyEvent}
@@ -23,7 +23,7 @@ use Rattle.rules.specs.Check.{faultOf}
 use Rattle.rules.specs.Valid.{Valid, Passes}
 use Rattle.rules.proofs.Valid.{passes, declared-below, index-is, first-head, head-kept, headed, counted}
 use Rattle.context.specs.declared.Context.{Context}
-use Rattle.context.specs.Context.{eventsAfter, contextOf, entry, ownerAt, alphabetAt}
+use Rattle.context.specs.Context.{eventsAfter, contextOf, ownerAt, alphabetAt}
 use Rattle.context.proofs.Tables.{with-entry-at}
 use Rattle.judge.specs.Judge.{eventKnown, operandKnown, moduleKnown, supervisorKnown, moduleStateBy, supervisorStateBy, indexBy, orderBy, namesBy, respondBy, rulesBy, allBy, judgeBy}
 use Rattle.judge.specs.Represents.{JudgesAsRules}
@@ -153,12 +153,12 @@ module _ (rs : List Record) (valid : Valid rs) where
   index-same (Disabling v st m) = refl
   index-same (Step e i o x) = ap (eqb i) (go (ltb e 64) refl)
     where
-      go : (b : Bool) → ltb e 64 ≡ b → cond b (getD (c .events .steps) e 0) 0 ≡ stepsOf rs e
+      go : (b : Bool) → ltb e 64 ≡ b → getD (c .events .steps) e 0 ≡ stepsOf rs e
       go true q = steps-told rs valid e (ltb-true e 64 q)
       go false q =
           let l : 64 ≤ e = ltb-false e 64 q in
           let k : eventsOf rs ≤ 64 = most rs valid .events in
-          sym (bounded rs valid .steps e (omega arith))
+          List·getD-eq-default (c .events .steps) 0 (omega (arith, steps-length rs)) ∙ sym (bounded rs valid .steps e (omega arith))
   index-same End = refl
 
   -- a number below its count, with its record
@@ -210,15 +210,11 @@ module _ (rs : List Record) (valid : Valid rs) where
       let k : supervisorsOf rs ≤ 32 = most rs valid .supervisors in
       omega arith
 
-  -- an entry of a table of k, at a number below k
-  entry-same : (k : ℕ) (t : List ℕ) (i : ℕ) {x : ℕ} → i < k → getD t i 0 ≡ x → entry k t i ≡ x
-  entry-same k t i l h = ap (λ (b : Bool). cond b (getD t i 0) 0) (lt-ltb i k l) ∙ h
-
   module-state-same : (m st : ℕ) → moduleDeclared rs m ≡ true → moduleStateBy c m st ≡ moduleState rs m st
-  module-state-same m st h = ap (ltb st) (entry-same 16 (c .modules .states) m (module-small m h) (module-told rs m (module-small m h) .states))
+  module-state-same m st h = ap (ltb st) (module-told rs m (module-small m h) .states)
 
   supervisor-state-same : (v st : ℕ) → supervisorDeclared rs v ≡ true → supervisorStateBy c v st ≡ supervisorState rs v st
-  supervisor-state-same v st h = ap (ltb st) (entry-same 32 (c .supervisors .states) v (supervisor-small v h) (supervisor-told rs v (supervisor-small v h) .states))
+  supervisor-state-same v st h = ap (ltb st) (supervisor-told rs v (supervisor-small v h) .states)
 
   -- below 64 an event has a record where it is declared
   recorded-same : (e : ℕ) → e < 64 → bit (c .events .known) e ≡ eventDeclared rs e
@@ -259,10 +255,10 @@ module _ (rs : List Record) (valid : Valid rs) where
   names-same End = refl
 
   owner-same : (e : ℕ) → e < 64 → ownerAt (c .events) e ≡ ownerOf rs e
-  owner-same e l = entry-same 64 (c .events .owner) e l (event-told rs e l .owner)
+  owner-same e l = event-told rs e l .owner
 
   alphabet-same : (v : ℕ) → v < 32 → alphabetAt (c .supervisors) v ≡ alphabetOf rs v
-  alphabet-same v l = entry-same 32 (c .supervisors .alphabet) v l (supervisor-told rs v l .alphabet)
+  alphabet-same v l = supervisor-told rs v l .alphabet
 
   respond-same : (e x : ℕ) → e < 64 → x < 64 → respondBy c e x ≡ (not (controllable rs x) && eqb (ownerOf rs x) (ownerOf rs e))
   respond-same e x l k =

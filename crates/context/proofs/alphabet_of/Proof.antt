@@ -1,4 +1,6 @@
-use borrow.Author.Tests.{lt-ltb, le-ltb}
+use mathlib.Core.Path.{_≡_, sym}
+use lib.ListN.{length, List·getD-eq-default}
+use native.Mathlib.Omega.{arith}
 use borrow.Author.Needs.{needs}
 use Rattle.context.proofs.alphabet_of.Statement.{statement}
 use Rattle.context.proofs.alphabet_of.Tie as tie
@@ -13,10 +15,12 @@ element-copy-out-result : tie.Need-element-copy-out-result
 element-copy-out-result c = search needs
 
 returns : tie.Need-returns
-returns c = simp (lt-ltb _ _ (c .before .before .if1 .taken), c .before .wide .ensures)
+returns c = simp (c .before .wide .ensures)
 
 returns-2 : tie.Need-returns-2
-returns-2 c = simp (le-ltb _ _ (c .if1 .left))
+returns-2 c =
+    let h : length (c .before .args .t1 .alphabet) ≡ 32 = search needs in
+    sym (List·getD-eq-default (c .before .args .t1 .alphabet) 0 {n = (c .before .args .supervisor)} (omega (arith, c .if1 .left)))
 
 pub alphabet-of-spec : {M : Type 1} → statement M
 alphabet-of-spec =
