@@ -1,12 +1,14 @@
-// The permits that a module holds and those that it lacks, by the mask of its neighbours, and whether its state fits:
+// The permits that a module holds and those that it lacks, by the mask of its neighbours, whether its state fits, and a call that is refused:
 // permits/specs/Module.antt.
 ghost use mathlib.Core.Path.{_≡_};
 ghost use Rattle.bits.specs.Bit.{optionOf};
 ghost use Rattle.reader.specs.Walk.{recordsOf};
-ghost use Rattle.permits.specs.Module.{missingIn, heldIn, fitsIn};
+ghost use Rattle.permits.specs.Module.{missingIn, heldIn, fitsIn, callRefused};
 ghost use Rattle.holding.specs.Lacking.{Lacking};
 use bits::Maybe;
+use modules::Called;
 use permits::Module;
+use permits::ModuleCalled;
 
 // The lowest neighbour whose permit is not held.
 pub fn missing(near: u32, held: u32) -> Maybe
@@ -57,5 +59,15 @@ pub fn fits(image: &[u8], m: u8, near: u32, x: Module) -> bool
         ((held != 0) | (received == 0)) & (!bid | lacks(near, held)) & fitting::fits(image, m, own)
     } else {
         false
+    }
+}
+
+// The number and the offset of a call without a buffer, and the state as it came.
+pub fn refused(x: Module, n: u8, at: usize) -> ModuleCalled
+    ensures { λ r. ⌜ r ≡ callRefused x n at ⌝ }
+{
+    ModuleCalled {
+        answer: Called::Refused(n, at),
+        state: x,
     }
 }

@@ -651,7 +651,7 @@ fn run_module(image: &[u8], bytes: &[u8], x: Module, s: &[u8]) -> Module {
     let m = byte_in(s, 1);
     match words::byte_at(s, 1) {
         b'o' => module_called(module_calls::start(image, m)),
-        b'd' => module_called(module_calls::deliver(image, m, x, bytes)),
+        b'd' => module_called(module_deliveries::deliver(image, m, x, bytes)),
         b'r' => module_called(module_calls::respond(image, m, x, byte_in(s, 2))),
         b't' => module_called(module_calls::tick(image, m, x, flow_at(s, word_after(s, 2)))),
         b'e' => {

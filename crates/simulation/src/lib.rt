@@ -177,7 +177,7 @@ fn to_module(image: &[u8], p: Parties, k: usize, m: u8, g: Message, bytes: &[u8]
     ensures { λ r. ⌜ r ≡ toModule (now (image .entry)) p k m g ⌝ }
 {
     let x = parties::module_of(p, m);
-    let c = module_calls::deliver(image, m, x, bytes);
+    let c = module_deliveries::deliver(image, m, x, bytes);
     let a = c.answer;
     let after = c.state;
     let w = p.wire;

@@ -1,7 +1,7 @@
-use Rattle.module_calls.proofs.Calls.{hear-misshapen, hear-named, hear-unnamed}
+use Rattle.module_deliveries.proofs.Delivering.{hear-misshapen, hear-named, hear-unnamed}
 use borrow.Author.Needs.{needs}
-use Rattle.module_calls.proofs.hear.Statement.{statement}
-use Rattle.module_calls.proofs.hear.Tie as tie
+use Rattle.module_deliveries.proofs.hear.Statement.{statement}
+use Rattle.module_deliveries.proofs.hear.Tie as tie
 
 enum-known-p : tie.Need-enum-known-p
 enum-known-p c = search needs

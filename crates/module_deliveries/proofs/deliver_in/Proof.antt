@@ -1,7 +1,7 @@
-use Rattle.module_calls.proofs.Calls.{deliver-absent, deliver-unfit, deliver-fit}
+use Rattle.module_deliveries.proofs.Delivering.{deliver-absent, deliver-unfit, deliver-fit}
 use borrow.Author.Needs.{needs}
-use Rattle.module_calls.proofs.deliver_in.Statement.{statement}
-use Rattle.module_calls.proofs.deliver_in.Tie as tie
+use Rattle.module_deliveries.proofs.deliver_in.Statement.{statement}
+use Rattle.module_deliveries.proofs.deliver_in.Tie as tie
 
 modules-of-requires : tie.Need-modules-of-requires
 modules-of-requires c κs = search needs

@@ -3,8 +3,8 @@ use borrow.Author.Tests.{lt-ltb}
 use Rattle.bits.specs.Bit.{putBit}
 use Rattle.bits.proofs.Laws.{shl-one}
 use borrow.Author.Needs.{needs}
-use Rattle.module_calls.proofs.hold.Statement.{statement}
-use Rattle.module_calls.proofs.hold.Tie as tie
+use Rattle.module_deliveries.proofs.hold.Statement.{statement}
+use Rattle.module_deliveries.proofs.hold.Tie as tie
 
 shl-result : tie.Need-shl-result
 shl-result c = search needs

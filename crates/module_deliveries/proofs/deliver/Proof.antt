@@ -1,7 +1,7 @@
-use Rattle.module_calls.proofs.Calls.{deliver-accepted, deliver-refused}
+use Rattle.module_deliveries.proofs.Delivering.{deliver-accepted, deliver-refused}
 use borrow.Author.Needs.{needs}
-use Rattle.module_calls.proofs.deliver.Statement.{statement}
-use Rattle.module_calls.proofs.deliver.Tie as tie
+use Rattle.module_deliveries.proofs.deliver.Statement.{statement}
+use Rattle.module_deliveries.proofs.deliver.Tie as tie
 
 check-requires : tie.Need-check-requires
 check-requires c κs = search needs

@@ -1,7 +1,7 @@
-use Rattle.module_calls.proofs.Calls.{take-bid, take-permit, take-release}
+use Rattle.module_deliveries.proofs.Delivering.{take-bid, take-permit, take-release}
 use borrow.Author.Needs.{needs}
-use Rattle.module_calls.proofs.take.Statement.{statement}
-use Rattle.module_calls.proofs.take.Tie as tie
+use Rattle.module_deliveries.proofs.take.Statement.{statement}
+use Rattle.module_deliveries.proofs.take.Tie as tie
 
 enum-told : tie.Need-enum-told
 enum-told c = search needs

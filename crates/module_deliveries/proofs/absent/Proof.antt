@@ -1,7 +1,7 @@
-use Rattle.module_calls.proofs.Calls.{absent-misshapen, absent-whole}
+use Rattle.module_deliveries.proofs.Delivering.{absent-misshapen, absent-whole}
 use borrow.Author.Needs.{needs}
-use Rattle.module_calls.proofs.absent.Statement.{statement}
-use Rattle.module_calls.proofs.absent.Tie as tie
+use Rattle.module_deliveries.proofs.absent.Statement.{statement}
+use Rattle.module_deliveries.proofs.absent.Tie as tie
 
 enum-told : tie.Need-enum-told
 enum-told c = search needs

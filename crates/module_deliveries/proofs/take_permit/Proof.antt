@@ -1,7 +1,7 @@
-use Rattle.module_calls.proofs.Calls.{permit-none, permit-small, permit-taken, permit-other}
+use Rattle.module_deliveries.proofs.Delivering.{permit-none, permit-small, permit-taken, permit-other}
 use borrow.Author.Needs.{needs}
-use Rattle.module_calls.proofs.take_permit.Statement.{statement}
-use Rattle.module_calls.proofs.take_permit.Tie as tie
+use Rattle.module_deliveries.proofs.take_permit.Statement.{statement}
+use Rattle.module_deliveries.proofs.take_permit.Tie as tie
 
 missing-requires : tie.Need-missing-requires
 missing-requires c κs = search needs
