@@ -7,7 +7,7 @@ ghost use lib.Dec.{ltb};
 ghost use Rattle.bits.specs.Bit.{maskOf};
 ghost use Rattle.reader.specs.Walk.{recordsOf};
 ghost use Rattle.rules.specs.LookUp.{supervisorsOf};
-ghost use Rattle.plan.specs.Plan.{commands, ownEvent, neighbour, neighbours, neighbourCount};
+ghost use Rattle.plan.specs.Plan.{commands, ownEvent, neighbour, neighbours};
 ghost use Rattle.masks.specs.Seen.{putIf, seenBy, seenIn, noneSeen};
 use reader::Read;
 use records::Record;
@@ -124,11 +124,4 @@ pub fn neighbours(image: &[u8], m: u8) -> u32
         mask = with_bit(mask, v, near(image, own, v));
     }
     mask
-}
-
-pub fn neighbour_count(image: &[u8], m: u8) -> u32
-    ensures { λ r. ⌜ r ≡ neighbourCount (recordsOf (now (image .entry))) m ⌝ }
-{
-    let mask = neighbours(image, m);
-    u32::count_ones(mask)
 }

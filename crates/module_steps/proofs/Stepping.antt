@@ -1,9 +1,10 @@
 -- The step, from what the code is told.
 use mathlib.Core.Path.{_≡_, refl, sym, ap, ap₂, _∙_, subst}
 use mathlib.Core.List.{List}
-use mathlib.Core.Bool.{Bool, true, false, not}
+use mathlib.Core.Bool.{Bool, true, false, cond, not}
 use Prim.Native.Nat.{ℕ, _*_, _≤_, _<_}
 use native.Mathlib.Omega.{arith}
+use lib.Count.{ones}
 use lib.ListN.{length}
 use borrow.Author.Tests.{lt-ltb, le-ltb, not-true, not-false}
 use Rattle.records.specs.declared.Record.{Record}
@@ -12,7 +13,7 @@ use Rattle.rules.specs.LookUp.{modulesOf}
 use Rattle.rules.specs.Check.{verdictOf}
 use Rattle.rules.specs.declared.Verdict.{Verdict}
 use Rattle.rules.specs.declared.Verdict.the-variants.{Accepted, Refused}
-use Rattle.plan.specs.Plan.{neighbours, neighbourCount}
+use Rattle.plan.specs.Plan.{neighbours}
 use Rattle.modules.specs.declared.Turn.{Turn}
 use Rattle.modules.specs.declared.Turned.{Turned}
 use Rattle.modules.specs.Turn.{turnOf}
@@ -20,7 +21,7 @@ use Rattle.messages.specs.Message.{messageBytes, short, written}
 use Rattle.messages.specs.Write.{Wrote}
 use Rattle.messages.specs.declared.Message.the-variants.{Bid}
 use Rattle.messages.proofs.Writing.{start-fits, put-start, put-short}
-use Rattle.permits.specs.Module.{fitsIn, takesTurn, bidsTo, choice, turnTaken, afterTurn, releases, sentBy, answerBy, stateBy, StepCall, stepRefused, stepIn, stepBy, moduleStep}
+use Rattle.permits.specs.Module.{fitsIn, takesTurn, bidsTo, choice, turnTaken, afterTurn, sentBy, answerBy, stateBy, StepCall, stepRefused, stepIn, stepBy, moduleStep}
 use Rattle.permits.specs.Step.{bytesOfMessages, Gave}
 use Rattle.permits.specs.declared.Module.{Module}
 use Rattle.permits.specs.declared.ModuleStepped.{ModuleStepped}
@@ -30,39 +31,47 @@ use Rattle.permits.proofs.Stepping.{gives}
 use Rattle.module_steps.specs.Choice.{choiceOf}
 use Rattle.module_steps.specs.declared.Chosen.{Chosen}
 use Rattle.module_steps.specs.declared.Chosen.the-variants.{Turn as ChosenTurn, Bid as ChosenBid, Wait}
-use Rattle.module_steps.proofs.Releasing.{sent, sent-count}
+use Rattle.releasing.specs.Released.{releaseBytes, Released}
+use Rattle.releasing.proofs.Releasing.{sent-count}
 use Rattle.holding.proofs.Judged.{lacking, unfit, fit}
 
 refuses : (x : Module) (b : List ℕ) (n o : ℕ) {r : ModuleStepped} → r ≡ (record { answer = StepRefused n o; state = x }) → Gave (stepRefused x b n o) (r .answer) (r .state) b
 refuses x b n o e = record { answer = ap (λ (z : ModuleStepped). z .answer) e; state = ap (λ (z : ModuleStepped). z .state) e; buffer = refl }
 
--- ---- a turn: k counts the neighbours
+turned-round : (s t : Bool) → t ≡ not s → s ≡ not t
+turned-round true t e = ap not (sym e)
+turned-round false t e = ap not (sym e)
 
-module _ (rs : List Record) (m : ℕ) (x : Module) (b : List ℕ) {k : ℕ} (e : k ≡ neighbourCount rs m) where
-  -- the releases of any turn are of 4 bytes for each neighbour
-  long : (t : Turn) → length (sent rs m t 32) ≡ 4 * k
-  long t = sent-count rs m t ∙ ap (λ (n : ℕ). 4 * n) (sym e)
+-- ---- a turn: f is whether its releases were written
 
-  pub turn-room : (t : Turn) → 4 * k ≤ length b → length (sent rs m t 32) ≤ length b
-  turn-room t h = omega (arith, long t)
+module _ (rs : List Record) (m : ℕ) (x : Module) (b : List ℕ) {t : Turned} {f : Bool} {after : List ℕ} (e : t ≡ turnOf rs m (x .received) (x .own)) (w : Released rs m (t .turn) b f after) where
+  did : t .turn ≡ turnTaken rs m x .turn
+  did = ap (λ (y : Turned). y .turn) e
 
-  pub turn-short : {r : ModuleStepped} → length b < 4 * k → r ≡ (record { answer = StepRefused 15 0; state = x }) → Gave (stepIn rs m x b takesTurn) (r .answer) (r .state) b
+  wrote : Released rs m (turnTaken rs m x .turn) b f after
+  wrote = subst (λ (d : Turn). Released rs m d b f after) did w
+
+  abbrev released : List ℕ
+  released = releaseBytes rs m (turnTaken rs m x .turn)
+
+  room : short released b ≡ not f
+  room = turned-round (short released b) f (wrote .answer)
+
+  pub turn-short : {r : ModuleStepped} → f ≡ false → r ≡ (record { answer = StepRefused 15 0; state = x }) → Gave (stepIn rs m x b takesTurn) (r .answer) (r .state) after
   unfolding stepIn sentBy
-  turn-short h f =
-      let t : Turn = turnTaken rs m x .turn in
-      simp (lt-ltb (length b) (length (sent rs m t 32)) (omega (arith, long t))) (refuses x b 15 0 f)
+  turn-short {r} h g =
+      simp (room ∙ ap not h)
+      (subst (Gave (stepRefused x b 15 0) (r .answer) (r .state)) (sym (wrote .buffer ∙ ap (λ (y : Bool). cond y (written released b) b) h)) (refuses x b 15 0 g))
 
-  pub turn-taken : {t : Turned} {after : List ℕ} → 4 * k ≤ length b → t ≡ turnOf rs m (x .received) (x .own) → after ≡ written (bytesOfMessages (releases rs m (t .turn) 32)) b
-      → Gave (stepIn rs m x b takesTurn) (Turns (t .turn) (4 * k)) (record { own = t .own; held = 0; received = 0; bid = x .bid }) after
+  pub turn-taken : {near n : ℕ} → f ≡ true → near ≡ neighbours rs m → n ≡ 4 * ones near
+      → Gave (stepIn rs m x b takesTurn) (Turns (t .turn) n) (record { own = t .own; held = 0; received = 0; bid = x .bid }) after
   unfolding stepIn sentBy answerBy stateBy
-  turn-taken {t} h f g =
-      let d : Turn = turnTaken rs m x .turn in
-      let q : t .turn ≡ d = ap (λ (y : Turned). y .turn) f in
-      simp (le-ltb (length b) (length (sent rs m d 32)) (omega (arith, long d)))
+  turn-taken h q g =
+      simp (room ∙ ap not h)
       (record {
-        answer = ap₂ (λ (y : Turn) (n : ℕ). Turns y n) q (sym (long d));
-        state = ap (λ (y : Turned). afterTurn x (y .own)) f;
-        buffer = g ∙ ap (λ (y : Turn). written (sent rs m y 32) b) q;
+        answer = ap₂ (λ (y : Turn) (k : ℕ). Turns y k) did (g ∙ ap (λ (k : ℕ). 4 * ones k) q ∙ sym (sent-count rs m (turnTaken rs m x .turn)));
+        state = ap (λ (y : Turned). afterTurn x (y .own)) e;
+        buffer = wrote .buffer ∙ ap (λ (y : Bool). cond y (written released b) b) h;
       })
 
 -- ---- a bid: t is what the writer of messages answered

@@ -2,19 +2,14 @@
 ghost use mathlib.Core.Path.{_≡_};
 ghost use mathlib.Core.List.{List};
 ghost use mathlib.Core.Bool.{true};
-ghost use Prim.Native.Nat.{_≤_};
-ghost use lib.ListN.{length};
 ghost use Rattle.records.specs.declared.Record.{Record};
 ghost use Rattle.reader.specs.Walk.{recordsOf};
 ghost use Rattle.plan.specs.Plan.{neighbours};
-ghost use Rattle.messages.specs.Message.{messageBytes, written, putAt};
-ghost use Rattle.messages.specs.declared.Message.the-variants.{Release};
-ghost use Rattle.permits.specs.Module.{heldFits, choice, takesTurn, bidsTo, eventFor, releases, stepIn, moduleStep};
-ghost use Rattle.permits.specs.Step.{bytesOfMessages, Gave};
+ghost use Rattle.permits.specs.Module.{heldFits, choice, takesTurn, bidsTo, stepIn, moduleStep};
+ghost use Rattle.permits.specs.Step.{Gave};
 ghost use Rattle.module_steps.specs.Choice.{choiceOf};
 use bits::Maybe;
 use messages::Message;
-use modules::Turn;
 use permits::Module;
 use permits::ModuleStepped;
 use permits::Stepped;
@@ -62,72 +57,27 @@ fn choose(image: &[u8], m: u8, near: u32, x: Module) -> Chosen
     }
 }
 
-// The event that a release to a supervisor carries, or 255.
-fn event_for(image: &[u8], v: u8, t: Turn) -> u8
-    ensures { λ r. ⌜ r ≡ eventFor (recordsOf (now (image .entry))) v t ⌝ }
-{
-    let Turn::Event(e) = t else {
-        return 255;
-    };
-    if plan::in_alphabet(image, v, e) {
-        e
-    } else {
-        255
-    }
-}
-
-// The release to a supervisor at an offset of the buffer.
-fn release_to(image: &[u8], m: u8, v: u8, t: Turn, buffer: &mut [u8], at: usize)
-    ensures { λ r. ⌜ now (buffer .exit) ≡ putAt (messageBytes (Release m v (eventFor (recordsOf (now (image .entry))) v t))) at (now (buffer .entry)) ⌝ }
-{
-    let event = event_for(image, v, t);
-    let g = Message::Release {
-        owner: m,
-        supervisor: v,
-        event,
-    };
-    messages::write(g, &mut *buffer, at);
-}
-
-// The releases to all neighbours, in ascending order.
-fn release(image: &[u8], m: u8, near: u32, t: Turn, buffer: &mut [u8])
-    requires { ⌜ near ≡ neighbours (recordsOf (now image)) m ⌝ }
-    requires { ⌜ length (bytesOfMessages (releases (recordsOf (now image)) m t 32)) ≤ length (now buffer) ⌝ }
-    ensures { λ r. ⌜ now (buffer .exit) ≡ written (bytesOfMessages (releases (recordsOf (now (image .entry))) m t 32)) (now (buffer .entry)) ⌝ }
-{
-    let mask = near as u64;
-    let mut at: usize = 0;
-    let mut v: u8 = 0;
-    while v < 32 {
-        if bits::has(mask, v) {
-            release_to(image, m, v, t, &mut *buffer, at);
-            at += 4;
-        }
-        v += 1;
-    }
-}
-
 // A turn over the masks received, which releases every permit.
 fn take_turn(image: &[u8], m: u8, near: u32, x: Module, buffer: &mut [u8]) -> ModuleStepped
     requires { ⌜ near ≡ neighbours (recordsOf (now image)) m ⌝ }
     ensures { λ r. ⌜ Gave (stepIn (recordsOf (now (image .entry))) m x (now (buffer .entry)) takesTurn) (r .answer) (r .state) (now (buffer .exit)) ⌝ }
 {
-    let n = 4 * masks::neighbour_count(image, m) as usize;
-    if buffer.len() < n {
-        return step_refused(x, 15, 0);
-    }
     let own = x.own;
     let t = turns::turn(image, m, x.received, own);
     let did = t.turn;
-    release(image, m, near, did, &mut *buffer);
-    let after = t.own;
-    let mut state = x;
-    state.own = after;
-    state.held = 0;
-    state.received = 0;
-    ModuleStepped {
-        answer: Stepped::Turned(did, n),
-        state,
+    if releasing::release(image, m, did, &mut *buffer) {
+        let n = releasing::length_of(near);
+        let after = t.own;
+        let mut state = x;
+        state.own = after;
+        state.held = 0;
+        state.received = 0;
+        ModuleStepped {
+            answer: Stepped::Turned(did, n),
+            state,
+        }
+    } else {
+        step_refused(x, 15, 0)
     }
 }
 

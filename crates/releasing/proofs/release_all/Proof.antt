@@ -3,9 +3,9 @@ use Prim.Native.Nat.{_-_}
 use native.Mathlib.Omega.{arith}
 use borrow.Author.Needs.{needs}
 use Rattle.reader.specs.Walk.{recordsOf}
-use Rattle.module_steps.proofs.Releasing.{Going, begins, long-by, done-by, room-by, on-by, off-by}
-use Rattle.module_steps.proofs.release.Statement.{statement}
-use Rattle.module_steps.proofs.release.Tie as tie
+use Rattle.releasing.proofs.Releasing.{Going, begins, long-by, done-by, room-by, on-by, off-by}
+use Rattle.releasing.proofs.release_all.Statement.{statement}
+use Rattle.releasing.proofs.release_all.Tie as tie
 
 abbrev Inv-loop : tie.InvT-loop
 Inv-loop image m near t buffer₀ mask at₀ v₀ buffer at v = Going (recordsOf image) m t buffer₀ buffer at v
@@ -43,5 +43,5 @@ same-length c = search long-by
 returns : tie.Need-returns Inv-loop μ-loop
 returns c = search done-by
 
-pub release-spec : {M : Type 1} → statement M
-release-spec = tie.close (tie.spec Inv-loop μ-loop loop-holds has-requires release-to-requires add-at add-v loop-less loop-again same-length returns)
+pub release-all-spec : {M : Type 1} → statement M
+release-all-spec = tie.close (tie.spec Inv-loop μ-loop loop-holds has-requires release-to-requires add-at add-v loop-less loop-again same-length returns)

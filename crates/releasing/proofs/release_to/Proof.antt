@@ -1,7 +1,7 @@
-use Rattle.module_steps.proofs.Releasing.{released-by}
+use Rattle.releasing.proofs.Releasing.{released-by}
 use borrow.Author.Needs.{needs}
-use Rattle.module_steps.proofs.release_to.Statement.{statement}
-use Rattle.module_steps.proofs.release_to.Tie as tie
+use Rattle.releasing.proofs.release_to.Statement.{statement}
+use Rattle.releasing.proofs.release_to.Tie as tie
 
 event-for-requires : tie.Need-event-for-requires
 event-for-requires c κs = search needs

@@ -1,7 +1,7 @@
-use Rattle.module_steps.proofs.Releasing.{event-none, event-in, event-out}
+use Rattle.releasing.proofs.Releasing.{event-none, event-in, event-out}
 use borrow.Author.Needs.{needs}
-use Rattle.module_steps.proofs.event_for.Statement.{statement}
-use Rattle.module_steps.proofs.event_for.Tie as tie
+use Rattle.releasing.proofs.event_for.Statement.{statement}
+use Rattle.releasing.proofs.event_for.Tie as tie
 
 enum-known-t : tie.Need-enum-known-t
 enum-known-t c = search needs

@@ -1,15 +1,16 @@
 -- The releases of a turn: their bytes, one after another.
 use mathlib.Core.Path.{_≡_, refl, sym, ap, ap₂, _∙_}
-use mathlib.Core.List.{List, [], _∷_, _++_, append-assoc, append-nil}
-use mathlib.Core.Bool.{Bool, true, false, cond}
+use mathlib.Core.List.{List, [], _∷_, _++_, append-nil}
+use mathlib.Core.Bool.{Bool, true, false, cond, not}
 use Prim.Native.Nat.{ℕ, zero, suc, _+_, _*_, _≤_, _<_}
 use native.Mathlib.Decide.{le-ind}
 use native.Mathlib.Numerals.{add-one}
 use native.Mathlib.Omega.{arith}
-use lib.Count.{onesIn}
+use lib.Count.{ones, onesIn}
 use lib.Dec.{lit≤}
 use lib.ListN.{length, drop, length-append, length-drop}
 use lib.Seq.{take-append-seam, drop-append-add, drop-drop}
+use borrow.Author.Tests.{lt-ltb, le-ltb}
 use types.Run.{OneOf, miss}
 use denote.Enum.Declared.{tagOf}
 use Rattle.bits.specs.Bit.{bit}
@@ -29,6 +30,7 @@ use Rattle.permits.specs.Module.{eventFor, releases}
 use Rattle.permits.specs.Step.{bytesOfMessages}
 use Rattle.permits.proofs.Stepping.{bytes-append}
 use Rattle.holding.proofs.Held.{ones-top}
+use Rattle.releasing.specs.Released.{Released}
 
 -- ---- the event that a release carries
 
@@ -162,3 +164,17 @@ module _ (rs : List Record) (m : ℕ) (t : Turn) where
             place = q ∙ g .place ∙ ap length (sym n);
             bytes = p ∙ g .bytes ∙ ap (λ (l : List ℕ). written l b₀) (sym n);
           }
+
+-- the room for all releases: n is 4 bytes for each neighbour
+module _ (rs : List Record) (m : ℕ) (t : Turn) (b : List ℕ) {near n : ℕ} (e : near ≡ neighbours rs m) (f : n ≡ 4 * ones near) where
+  long : length (sent rs m t 32) ≡ n
+  long = sent-count rs m t ∙ ap (λ (k : ℕ). 4 * ones k) (sym e) ∙ sym f
+
+  pub room-all : n ≤ length b → length (sent rs m t 32) ≤ length b
+  room-all h = omega (arith, long)
+
+  pub released-none : length b < n → Released rs m t b false b
+  released-none h = record { answer = sym (ap not (lt-ltb (length b) (length (sent rs m t 32)) (omega (arith, long)))); buffer = refl }
+
+  pub released-all : {after : List ℕ} → n ≤ length b → after ≡ written (sent rs m t 32) b → Released rs m t b true after
+  released-all h g = record { answer = sym (ap not (le-ltb (length b) (length (sent rs m t 32)) (omega (arith, long)))); buffer = g }

@@ -1,0 +1,79 @@
+// The releases of a turn: permits/specs/Module.antt.
+ghost use mathlib.Core.Path.{_≡_};
+ghost use Prim.Native.Nat.{_*_, _≤_};
+ghost use lib.Count.{ones};
+ghost use lib.ListN.{length};
+ghost use Rattle.reader.specs.Walk.{recordsOf};
+ghost use Rattle.plan.specs.Plan.{neighbours};
+ghost use Rattle.messages.specs.Message.{messageBytes, written, putAt};
+ghost use Rattle.messages.specs.declared.Message.the-variants.{Release};
+ghost use Rattle.permits.specs.Module.{eventFor, releases};
+ghost use Rattle.permits.specs.Step.{bytesOfMessages};
+ghost use Rattle.releasing.specs.Released.{Released};
+use messages::Message;
+use modules::Turn;
+
+// The event that a release to a supervisor carries, or 255.
+fn event_for(image: &[u8], v: u8, t: Turn) -> u8
+    ensures { λ r. ⌜ r ≡ eventFor (recordsOf (now (image .entry))) v t ⌝ }
+{
+    let Turn::Event(e) = t else {
+        return 255;
+    };
+    if plan::in_alphabet(image, v, e) {
+        e
+    } else {
+        255
+    }
+}
+
+// The release to a supervisor at an offset of the buffer.
+fn release_to(image: &[u8], m: u8, v: u8, t: Turn, buffer: &mut [u8], at: usize)
+    ensures { λ r. ⌜ now (buffer .exit) ≡ putAt (messageBytes (Release m v (eventFor (recordsOf (now (image .entry))) v t))) at (now (buffer .entry)) ⌝ }
+{
+    let event = event_for(image, v, t);
+    let g = Message::Release {
+        owner: m,
+        supervisor: v,
+        event,
+    };
+    messages::write(g, &mut *buffer, at);
+}
+
+// The releases to all neighbours, in ascending order.
+fn release_all(image: &[u8], m: u8, near: u32, t: Turn, buffer: &mut [u8])
+    requires { ⌜ near ≡ neighbours (recordsOf (now image)) m ⌝ }
+    requires { ⌜ length (bytesOfMessages (releases (recordsOf (now image)) m t 32)) ≤ length (now buffer) ⌝ }
+    ensures { λ r. ⌜ now (buffer .exit) ≡ written (bytesOfMessages (releases (recordsOf (now (image .entry))) m t 32)) (now (buffer .entry)) ⌝ }
+{
+    let mask = near as u64;
+    let mut at: usize = 0;
+    let mut v: u8 = 0;
+    while v < 32 {
+        if bits::has(mask, v) {
+            release_to(image, m, v, t, &mut *buffer, at);
+            at += 4;
+        }
+        v += 1;
+    }
+}
+
+// The bytes of the releases to these neighbours, 4 of each.
+pub fn length_of(near: u32) -> usize
+    ensures { λ r. ⌜ r ≡ 4 * ones near ⌝ }
+{
+    4 * u32::count_ones(near) as usize
+}
+
+// The releases of a module's turn into the buffer, if there is room for them.
+pub fn release(image: &[u8], m: u8, t: Turn, buffer: &mut [u8]) -> bool
+    ensures { λ r. ⌜ Released (recordsOf (now (image .entry))) m t (now (buffer .entry)) r (now (buffer .exit)) ⌝ }
+{
+    let near = masks::neighbours(image, m);
+    let n = length_of(near);
+    if buffer.len() < n {
+        return false;
+    }
+    release_all(image, m, near, t, &mut *buffer);
+    true
+}
