@@ -188,8 +188,10 @@ module _ (ds : List ℕ) (i rest : ℕ) {x : List ℕ} (f : hexDigits i rest ++ 
     where
       next : (j : ℕ) → hexDigits (suc j) rest ++ drop (suc j) ds ≡ x → hexDigits j (rest / 16) ++ (hexDigit (rest % 16) ∷ drop (suc j) ds) ≡ x
       next j f = rw append-assoc at f
+
       more : (j : ℕ) → i ≡ suc j → hexDigits j (rest / 16) ++ (hexDigit (rest % 16) ∷ drop (suc j) ds) ≡ x
       more j k = next j (rw k at f)
+
       go : (j : ℕ) → i ≡ suc j → hexDigits j (rest / 16) ++ drop j (set ds j g) ≡ x
       go j k =
           let o : j < length ds = omega arith in

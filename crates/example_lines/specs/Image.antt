@@ -49,8 +49,8 @@ unfoldable pub withDigit : ℕ → Part → ℕ → Part
 withDigit room p d =
     cond (eqb (p .sign) 0)
     (cond (ltb 15 (p .high))
-      (record { bytes = p .bytes; start = p .start; sign = p .sign; copies = p .copies; high = d })
-      (record { bytes = grown room (p .bytes) ((p .high * 16 + d % 16) ∷ []); start = p .start; sign = p .sign; copies = p .copies; high = 16 }))
+    (record { bytes = p .bytes; start = p .start; sign = p .sign; copies = p .copies; high = d })
+    (record { bytes = grown room (p .bytes) ((p .high * 16 + d % 16) ∷ []); start = p .start; sign = p .sign; copies = p .copies; high = 16 }))
     (record { bytes = p .bytes; start = p .start; sign = p .sign; copies = longer 10 (p .copies) d; high = p .high })
 
 unfoldable pub withByte : ℕ → Part → ℕ → Part

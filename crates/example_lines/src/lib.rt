@@ -1,7 +1,7 @@
 // The lines of the stored examples, read and printed: specs/Words.antt says what a line is, specs/Image.antt what an image in it is.
 ghost use mathlib.Core.Path.{_≡_};
 ghost use mathlib.Core.List.{[], _∷_, _++_};
-ghost use Prim.Native.Nat.{_+_, _*_, _-_, _≤_, _<_};
+ghost use Prim.Native.Nat.{_+_, _*_, _-_, _%_, _≤_, _<_};
 ghost use lib.ListN.{length, take, drop};
 ghost use lib.Seq.{paste};
 ghost use Rattle.example_lines.specs.Words as Words;
@@ -116,6 +116,13 @@ pub fn number_in(s: &[u8], k: usize) -> u64
 {
     let at = word_at(s, k);
     number_of(&s[at..], 10)
+}
+
+// Its lowest byte.
+pub fn byte_in(s: &[u8], k: usize) -> u8
+    ensures { λ r. ⌜ r ≡ numberIn k (now (s .entry)) % 256 ⌝ }
+{
+    (number_in(s, k) % 256) as u8
 }
 
 // The hexadecimal number that stands behind k spaces.

@@ -1,24 +1,24 @@
-use native.Mathlib.Omega.{arith}
-use mathlib.Core.Path.{sym}
-use lib.Seq.{length-take-le}
 use borrow.Author.Needs.{needs}
+use mathlib.Core.Path.{sym}
+use native.Mathlib.Omega.{arith}
+use lib.Seq.{length-take-le}
 use Rattle.device_vectors.proofs.run_line.Statement.{statement}
 use Rattle.device_vectors.proofs.run_line.Tie as tie
 
 byte-at-requires : tie.Need-byte-at-requires
 byte-at-requires c κs = search needs
 
-say-requires : tie.Need-say-requires
-say-requires c κs = search needs
+print-requires : tie.Need-print-requires
+print-requires c κs = search needs
 
-slice-aggregate-say : tie.Need-slice-aggregate-say
-slice-aggregate-say c = search needs
+slice-aggregate-print : tie.Need-slice-aggregate-print
+slice-aggregate-print c = search needs
 
-say-requires-2 : tie.Need-say-requires-2
-say-requires-2 c κs = search needs
+print-requires-2 : tie.Need-print-requires-2
+print-requires-2 c κs = search needs
 
-image-at-requires : tie.Need-image-at-requires
-image-at-requires c κs = search needs
+image-in-requires : tie.Need-image-in-requires
+image-in-requires c κs = search needs
 
 slice-reshare-prefix-start : tie.Need-slice-reshare-prefix-start
 slice-reshare-prefix-start c = search needs
@@ -32,8 +32,8 @@ start-requires c κs = search needs
 called-requires : tie.Need-called-requires
 called-requires c κs = search needs
 
-image-at-requires-2 : tie.Need-image-at-requires-2
-image-at-requires-2 c κs = search needs
+image-in-requires-2 : tie.Need-image-in-requires-2
+image-in-requires-2 c κs = search needs
 
 slice-reshare-prefix-run-call : tie.Need-slice-reshare-prefix-run-call
 slice-reshare-prefix-run-call c = search needs
@@ -68,32 +68,26 @@ same-length-3 c = search needs
 returns-4 : tie.Need-returns-4
 returns-4 c = search needs
 
-same-length-4 : tie.Need-same-length-4
-same-length-4 c = search needs
-
 returns-5 : tie.Need-returns-5
 returns-5 c = search needs
 
 returns-6 : tie.Need-returns-6
 returns-6 c = search needs
 
-returns-7 : tie.Need-returns-7
-returns-7 c = search needs
-
 pub run-line-spec : {M : Type 1} → statement M
 run-line-spec =
     tie.close
     (tie.spec
     byte-at-requires
-    say-requires
-    slice-aggregate-say
-    say-requires-2
-    image-at-requires
+    print-requires
+    slice-aggregate-print
+    print-requires-2
+    image-in-requires
     slice-reshare-prefix-start
     slice-aggregate-start
     start-requires
     called-requires
-    image-at-requires-2
+    image-in-requires-2
     slice-reshare-prefix-run-call
     slice-aggregate-run-call
     run-call-requires
@@ -105,7 +99,5 @@ run-line-spec =
     returns-3
     same-length-3
     returns-4
-    same-length-4
     returns-5
-    returns-6
-    returns-7)
+    returns-6)

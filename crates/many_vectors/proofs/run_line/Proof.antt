@@ -1,24 +1,24 @@
-use native.Mathlib.Omega.{arith}
-use mathlib.Core.Path.{sym}
-use lib.Seq.{length-take-le}
 use borrow.Author.Needs.{needs}
+use mathlib.Core.Path.{sym}
+use native.Mathlib.Omega.{arith}
+use lib.Seq.{length-take-le}
 use Rattle.many_vectors.proofs.run_line.Statement.{statement}
 use Rattle.many_vectors.proofs.run_line.Tie as tie
 
 byte-at-requires : tie.Need-byte-at-requires
 byte-at-requires c κs = search needs
 
-say-requires : tie.Need-say-requires
-say-requires c κs = search needs
+print-requires : tie.Need-print-requires
+print-requires c κs = search needs
 
-slice-aggregate-say : tie.Need-slice-aggregate-say
-slice-aggregate-say c = search needs
+slice-aggregate-print : tie.Need-slice-aggregate-print
+slice-aggregate-print c = search needs
 
-say-requires-2 : tie.Need-say-requires-2
-say-requires-2 c κs = search needs
+print-requires-2 : tie.Need-print-requires-2
+print-requires-2 c κs = search needs
 
-image-at-requires : tie.Need-image-at-requires
-image-at-requires c κs = search needs
+image-in-requires : tie.Need-image-in-requires
+image-in-requires c κs = search needs
 
 slice-reshare-prefix-run-bytes : tie.Need-slice-reshare-prefix-run-bytes
 slice-reshare-prefix-run-bytes c = search needs
@@ -52,10 +52,10 @@ run-line-spec =
     tie.close
     (tie.spec
     byte-at-requires
-    say-requires
-    slice-aggregate-say
-    say-requires-2
-    image-at-requires
+    print-requires
+    slice-aggregate-print
+    print-requires-2
+    image-in-requires
     slice-reshare-prefix-run-bytes
     slice-aggregate-run-bytes
     run-bytes-requires

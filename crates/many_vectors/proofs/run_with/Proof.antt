@@ -1,15 +1,15 @@
-use native.Mathlib.Omega.{arith}
-use mathlib.Core.Path.{sym}
-use lib.Seq.{length-take-le}
 use borrow.Author.Needs.{needs}
+use mathlib.Core.Path.{sym}
+use native.Mathlib.Omega.{arith}
+use lib.Seq.{length-take-le}
 use Rattle.many_vectors.proofs.run_with.Statement.{statement}
 use Rattle.many_vectors.proofs.run_with.Tie as tie
 
-message-at-requires : tie.Need-message-at-requires
-message-at-requires c κs = search needs
+message-place-requires : tie.Need-message-place-requires
+message-place-requires c κs = search needs
 
-image-at-requires : tie.Need-image-at-requires
-image-at-requires c κs = search needs
+image-in-requires : tie.Need-image-in-requires
+image-in-requires c κs = search needs
 
 slice-reshare-prefix-run-call : tie.Need-slice-reshare-prefix-run-call
 slice-reshare-prefix-run-call c = search needs
@@ -26,22 +26,14 @@ same-length c = search needs
 returns : tie.Need-returns
 returns c = search needs
 
-same-length-2 : tie.Need-same-length-2
-same-length-2 c = search needs
-
-returns-2 : tie.Need-returns-2
-returns-2 c = search needs
-
 pub run-with-spec : {M : Type 1} → statement M
 run-with-spec =
     tie.close
     (tie.spec
-    message-at-requires
-    image-at-requires
+    message-place-requires
+    image-in-requires
     slice-reshare-prefix-run-call
     slice-aggregate-run-call
     run-call-requires
     same-length
-    returns
-    same-length-2
-    returns-2)
+    returns)

@@ -1,18 +1,15 @@
-use native.Mathlib.Omega.{arith}
-use mathlib.Core.Path.{sym}
-use lib.Seq.{length-take-le}
 use borrow.Author.Needs.{needs}
+use mathlib.Core.Path.{sym}
+use native.Mathlib.Omega.{arith}
+use lib.Seq.{length-take-le}
 use Rattle.vectors.proofs.run_copy.Statement.{statement}
 use Rattle.vectors.proofs.run_copy.Tie as tie
 
-image-at-requires : tie.Need-image-at-requires
-image-at-requires c κs = search needs
+image-in-requires : tie.Need-image-in-requires
+image-in-requires c κs = search needs
 
-spaces-requires : tie.Need-spaces-requires
-spaces-requires c κs = search needs
-
-number-in-requires : tie.Need-number-in-requires
-number-in-requires c κs = search needs
+length-in-requires : tie.Need-length-in-requires
+length-in-requires c κs = search needs
 
 slice-aggregate-buf : tie.Need-slice-aggregate-buf
 slice-aggregate-buf c = search needs
@@ -41,19 +38,12 @@ same-length-2 c = search needs
 returns-2 : tie.Need-returns-2
 returns-2 c = search needs
 
-same-length-3 : tie.Need-same-length-3
-same-length-3 c = search needs
-
-returns-3 : tie.Need-returns-3
-returns-3 c = search needs
-
 pub run-copy-spec : {M : Type 1} → statement M
 run-copy-spec =
     tie.close
     (tie.spec
-    image-at-requires
-    spaces-requires
-    number-in-requires
+    image-in-requires
+    length-in-requires
     slice-aggregate-buf
     slice-reshare-prefix-copy-into
     slice-aggregate-copy-into
@@ -62,6 +52,4 @@ run-copy-spec =
     same-length
     returns
     same-length-2
-    returns-2
-    same-length-3
-    returns-3)
+    returns-2)

@@ -1,12 +1,12 @@
-use native.Mathlib.Omega.{arith}
-use mathlib.Core.Path.{sym}
-use lib.Seq.{length-take-le}
 use borrow.Author.Needs.{needs}
+use mathlib.Core.Path.{sym}
+use native.Mathlib.Omega.{arith}
+use lib.Seq.{length-take-le}
 use Rattle.vectors.proofs.run_read.Statement.{statement}
 use Rattle.vectors.proofs.run_read.Tie as tie
 
-image-at-requires : tie.Need-image-at-requires
-image-at-requires c κs = search needs
+image-in-requires : tie.Need-image-in-requires
+image-in-requires c κs = search needs
 
 number-in-requires : tie.Need-number-in-requires
 number-in-requires c κs = search needs
@@ -20,8 +20,8 @@ slice-aggregate-read-at c = sym (length-take-le _ _ (omega arith))
 read-at-requires : tie.Need-read-at-requires
 read-at-requires c κs = search needs
 
-say-read-requires : tie.Need-say-read-requires
-say-read-requires c κs = search needs
+print-read-requires : tie.Need-print-read-requires
+print-read-requires c κs = search needs
 
 same-length : tie.Need-same-length
 same-length c = search needs
@@ -29,23 +29,15 @@ same-length c = search needs
 returns : tie.Need-returns
 returns c = search needs
 
-same-length-2 : tie.Need-same-length-2
-same-length-2 c = search needs
-
-returns-2 : tie.Need-returns-2
-returns-2 c = search needs
-
 pub run-read-spec : {M : Type 1} → statement M
 run-read-spec =
     tie.close
     (tie.spec
-    image-at-requires
+    image-in-requires
     number-in-requires
     slice-reshare-prefix-read-at
     slice-aggregate-read-at
     read-at-requires
-    say-read-requires
+    print-read-requires
     same-length
-    returns
-    same-length-2
-    returns-2)
+    returns)
