@@ -9,7 +9,7 @@ use script::Text;
 // One byte more than a plan may have, so that a longer file is seen to be one.
 const ROOM: usize = 49153;
 
-fn say(t: Text) {
+fn print(t: Text) {
     let bytes = t.bytes;
     let n = t.length;
     if n <= 208 {
@@ -18,86 +18,81 @@ fn say(t: Text) {
 }
 
 // Plays a line, prints what it got, and gives the device after it.
-fn answer(image: &[u8], d: Device, line: Partial) -> Device {
+fn play_line(image: &[u8], d: Device, line: Partial) -> Device {
     let got = sheet::play(image, d, script::parsed(line));
     let text = got.line;
-    say(text);
+    print(text);
     got.device
 }
 
-// How far the script has come: the device, and the line that is still coming.
-struct Course {
+// How far the script has come: the device, the line that is still coming, and whether there may be more.
+struct Progress {
     device: Device,
     line: Partial,
+    more: bool,
 }
 
 // The bytes of a part of the script, one after the other.
-fn take(image: &[u8], c: Course, s: &[u8]) -> Course {
-    let mut d = c.device;
-    let mut line = c.line;
+fn play_bytes(image: &[u8], p: Progress, s: &[u8]) -> Progress {
+    let mut d = p.device;
+    let mut line = p.line;
     let mut i: usize = 0;
     while i < s.len() {
         if s[i] == b'\n' {
-            d = answer(image, d, line);
+            d = play_line(image, d, line);
             line = lines::begun();
         } else {
             line = lines::with_byte(line, s[i]);
         }
         i += 1;
     }
-    Course { device: d, line }
+    Progress {
+        device: d,
+        line,
+        more: true,
+    }
 }
 
 // The last line may lack its line feed; nothing behind a line feed is no line.
-fn end(image: &[u8], c: Course) -> Device {
-    let d = c.device;
-    let line = c.line;
+fn play_last(image: &[u8], p: Progress) -> Device {
+    let d = p.device;
+    let line = p.line;
     if lines::has_byte(line) {
-        answer(image, d, line)
+        play_line(image, d, line)
     } else {
         d
     }
 }
 
-// What one read brought, and whether there may be more.
-struct Heard {
-    course: Course,
-    more: bool,
-}
-
-fn hear(image: &[u8], c: Course) -> Heard {
+// The bytes that one read brings.
+fn read_part(image: &[u8], p: Progress) -> Progress {
     let mut buf = io::large_buffer();
     let got = libc::read(0, &mut buf);
     if got <= 0 {
-        return Heard {
-            course: c,
-            more: false,
-        };
+        let mut last = p;
+        last.more = false;
+        return last;
     }
     let n = io::count(got, &buf);
-    let next = take(image, c, &buf[..n]);
-    Heard {
-        course: next,
-        more: true,
-    }
+    play_bytes(image, p, &buf[..n])
 }
 
 // A proved loop has to end, and nothing says that the input does: so it counts its turns down from a number that no run uses up.
-fn listen(image: &[u8], d: Device) -> Device {
-    let mut c = Course {
-        device: d,
+fn play_script(image: &[u8], device: Device) -> Device {
+    let mut p = Progress {
+        device,
         line: lines::begun(),
+        more: true,
     };
     let mut turns = u64::MAX;
     while turns > 0 {
-        let h = hear(image, c);
-        c = h.course;
-        if !h.more {
-            return end(image, c);
+        p = read_part(image, p);
+        if !p.more {
+            return play_last(image, p);
         }
         turns -= 1;
     }
-    end(image, c)
+    play_last(image, p)
 }
 
 fn run(image: &[u8]) {
@@ -109,11 +104,11 @@ fn run(image: &[u8]) {
             let modules = plan::modules_of(image);
             let supervisors = plan::supervisors_of(image);
             let events = plan::events_of(image);
-            say(script::header_line(modules, supervisors, events));
-            let d = listen(image, first);
-            say(script::states_line(d, modules, supervisors));
+            print(script::header_line(modules, supervisors, events));
+            let d = play_script(image, first);
+            print(script::states_line(d, modules, supervisors));
         }
-        Called::Refused(n, at) => say(script::plan_refused_line(n, at)),
+        Called::Refused(n, at) => print(script::plan_refused_line(n, at)),
     }
 }
 

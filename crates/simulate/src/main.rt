@@ -15,13 +15,13 @@ use wire::Wire;
 const ROOM: usize = 49153;
 
 // The parties, and the rows of events fired and of commands that are still to be printed.
-struct Trial {
+struct State {
     parties: Parties,
     fired: Row,
     commands: Row,
 }
 
-fn say(t: Text) {
+fn print(t: Text) {
     let bytes = t.bytes;
     let n = t.length;
     if n <= 208 {
@@ -29,13 +29,13 @@ fn say(t: Text) {
     }
 }
 
-fn say_row(word: &[u8], r: Row) {
+fn print_row(word: &[u8], r: Row) {
     io::write_all(1, word);
     let mut i: usize = 0;
     while i < 1024 {
         if i < r.count {
             let one = [r.numbers[i]];
-            say(script::numbers(&one));
+            print(script::numbers(&one));
         }
         i += 1;
     }
@@ -48,7 +48,7 @@ fn gathered(word: &[u8], r: Row, event: Maybe) -> Row {
         return r;
     };
     if answers::is_full(r) {
-        say_row(word, r);
+        print_row(word, r);
         answers::with_number(answers::no_row(), e)
     } else {
         answers::with_number(r, e)
@@ -56,19 +56,19 @@ fn gathered(word: &[u8], r: Row, event: Maybe) -> Row {
 }
 
 // The messages from a place on.
-fn say_sent(w: Wire, from: usize) {
+fn print_sent(w: Wire, from: usize) {
     let mut k = from;
     while k < w.count {
         let Place::It(g) = wire::message_at(w, k) else {
             return;
         };
-        say(answers::sent_line(g));
+        print(answers::sent_line(g));
         k += 1;
     }
 }
 
 // The rows with the event that fired and the command, if there are any.
-fn recorded(image: &[u8], t: Trial, a: Answer) -> Trial {
+fn recorded(image: &[u8], t: State, a: Answer) -> State {
     let fired = t.fired;
     let commands = t.commands;
     let mut next = t;
@@ -78,7 +78,7 @@ fn recorded(image: &[u8], t: Trial, a: Answer) -> Trial {
 }
 
 // Plays a line, and prints what it got and the messages sent, which stand behind those that were under way.
-fn answer(image: &[u8], t: Trial, line: Partial) -> Trial {
+fn play_line(image: &[u8], t: State, line: Partial) -> State {
     let before = t.parties;
     let sent = before.wire;
     let from = sent.count;
@@ -86,8 +86,8 @@ fn answer(image: &[u8], t: Trial, line: Partial) -> Trial {
     let a = got.answer;
     let parties = got.play;
     let w = parties.wire;
-    say(answers::answer_line(a));
-    say_sent(w, from);
+    print(answers::answer_line(a));
+    print_sent(w, from);
     let mut next = t;
     next.parties = parties;
     recorded(image, next, a)
@@ -95,109 +95,104 @@ fn answer(image: &[u8], t: Trial, line: Partial) -> Trial {
 
 // ---- the script
 
-// How far the script has come: the trial, and the line that is still coming.
-struct Course {
-    trial: Trial,
+// How far the script has come: the state, the line that is still coming, and whether there may be more.
+struct Progress {
+    state: State,
     line: Partial,
+    more: bool,
 }
 
 // The bytes of a part of the script, one after the other.
-fn take(image: &[u8], c: Course, s: &[u8]) -> Course {
-    let mut t = c.trial;
-    let mut line = c.line;
+fn play_bytes(image: &[u8], p: Progress, s: &[u8]) -> Progress {
+    let mut t = p.state;
+    let mut line = p.line;
     let mut i: usize = 0;
     while i < s.len() {
         if s[i] == b'\n' {
-            t = answer(image, t, line);
+            t = play_line(image, t, line);
             line = lines::begun();
         } else {
             line = lines::with_byte(line, s[i]);
         }
         i += 1;
     }
-    Course { trial: t, line }
+    Progress {
+        state: t,
+        line,
+        more: true,
+    }
 }
 
 // The last line may lack its line feed; nothing behind a line feed is no line.
-fn end(image: &[u8], c: Course) -> Trial {
-    let t = c.trial;
-    let line = c.line;
+fn play_last(image: &[u8], p: Progress) -> State {
+    let t = p.state;
+    let line = p.line;
     if lines::has_byte(line) {
-        answer(image, t, line)
+        play_line(image, t, line)
     } else {
         t
     }
 }
 
-// What one read brought, and whether there may be more.
-struct Heard {
-    course: Course,
-    more: bool,
-}
-
-fn hear(image: &[u8], c: Course) -> Heard {
+// The bytes that one read brings.
+fn read_part(image: &[u8], p: Progress) -> Progress {
     let mut buf = io::large_buffer();
     let got = libc::read(0, &mut buf);
     if got <= 0 {
-        return Heard {
-            course: c,
-            more: false,
-        };
+        let mut last = p;
+        last.more = false;
+        return last;
     }
     let n = io::count(got, &buf);
-    let next = take(image, c, &buf[..n]);
-    Heard {
-        course: next,
-        more: true,
-    }
+    play_bytes(image, p, &buf[..n])
 }
 
 // A proved loop has to end, and nothing says that the input does: so it counts its turns down from a number that no run uses up.
-fn listen(image: &[u8], t: Trial) -> Trial {
-    let mut c = Course {
-        trial: t,
+fn play_script(image: &[u8], state: State) -> State {
+    let mut p = Progress {
+        state,
         line: lines::begun(),
+        more: true,
     };
     let mut turns = u64::MAX;
     while turns > 0 {
-        let h = hear(image, c);
-        c = h.course;
-        if !h.more {
-            return end(image, c);
+        p = read_part(image, p);
+        if !p.more {
+            return play_last(image, p);
         }
         turns -= 1;
     }
-    end(image, c)
+    play_last(image, p)
 }
 
 // ---- the start and the end
 
 // The rows of the end: events fired, commands, the parties' states and the one device's.
-fn say_end(t: Trial, modules: u8, supervisors: u8) {
+fn print_end(t: State, modules: u8, supervisors: u8) {
     let parties = t.parties;
     let device = parties.device;
     let fired = t.fired;
     let commands = t.commands;
-    say_row(b"record", fired);
-    say_row(b"commands", commands);
-    say(script::states_line(parties::seen(parties), modules, supervisors));
-    say(script::device_line(device, modules, supervisors));
+    print_row(b"record", fired);
+    print_row(b"commands", commands);
+    print(script::states_line(parties::seen(parties), modules, supervisors));
+    print(script::device_line(device, modules, supervisors));
 }
 
 fn run_on(image: &[u8]) {
     let modules = plan::modules_of(image);
     let supervisors = plan::supervisors_of(image);
     let events = plan::events_of(image);
-    say(script::header_line(modules, supervisors, events));
+    print(script::header_line(modules, supervisors, events));
     let parties = parties::start(image);
     let fired = answers::no_row();
     let commands = answers::no_row();
-    let t = Trial {
+    let t = State {
         parties,
         fired,
         commands,
     };
-    say_end(listen(image, t), modules, supervisors);
+    print_end(play_script(image, t), modules, supervisors);
 }
 
 fn run(image: &[u8]) {
@@ -205,7 +200,7 @@ fn run(image: &[u8]) {
     let a = s.answer;
     match a {
         Called::Done => run_on(image),
-        Called::Refused(n, at) => say(script::plan_refused_line(n, at)),
+        Called::Refused(n, at) => print(script::plan_refused_line(n, at)),
     }
 }
 

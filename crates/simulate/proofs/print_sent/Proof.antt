@@ -1,7 +1,7 @@
 use Prim.Native.Nat.{_-_}
 use borrow.Author.Needs.{needs}
-use Rattle.simulate.proofs.say_sent.Statement.{statement}
-use Rattle.simulate.proofs.say_sent.Tie as tie
+use Rattle.simulate.proofs.print_sent.Statement.{statement}
+use Rattle.simulate.proofs.print_sent.Tie as tie
 
 abbrev Inv-loop : tie.InvT-loop
 Inv-loop w from k₀ k = Unit {0}
@@ -27,8 +27,8 @@ returns c = search needs
 sent-line-requires : tie.Need-sent-line-requires Inv-loop μ-loop
 sent-line-requires c κs = search needs
 
-say-requires : tie.Need-say-requires Inv-loop μ-loop
-say-requires c κs = search needs
+print-requires : tie.Need-print-requires Inv-loop μ-loop
+print-requires c κs = search needs
 
 add-k : tie.Need-add-k Inv-loop μ-loop
 add-k c = search needs
@@ -42,8 +42,8 @@ loop-again c = search needs
 returns-2 : tie.Need-returns-2 Inv-loop μ-loop
 returns-2 c = search needs
 
-pub say-sent-spec : {M : Type 1} → statement M
-say-sent-spec =
+pub print-sent-spec : {M : Type 1} → statement M
+print-sent-spec =
     tie.close
     (tie.spec
     Inv-loop
@@ -54,7 +54,7 @@ say-sent-spec =
     enum-told
     returns
     sent-line-requires
-    say-requires
+    print-requires
     add-k
     loop-less
     loop-again

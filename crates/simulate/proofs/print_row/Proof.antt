@@ -1,7 +1,7 @@
 use Prim.Native.Nat.{_-_}
 use borrow.Author.Needs.{needs}
-use Rattle.simulate.proofs.say_row.Statement.{statement}
-use Rattle.simulate.proofs.say_row.Tie as tie
+use Rattle.simulate.proofs.print_row.Statement.{statement}
+use Rattle.simulate.proofs.print_row.Tie as tie
 
 abbrev Inv-loop : tie.InvT-loop
 Inv-loop word r i₀ t6 i = Unit {0}
@@ -24,8 +24,8 @@ slice-aggregate-numbers c = search needs
 numbers-requires : tie.Need-numbers-requires Inv-loop μ-loop
 numbers-requires c κs = search needs
 
-say-requires : tie.Need-say-requires Inv-loop μ-loop
-say-requires c κs = search needs
+print-requires : tie.Need-print-requires Inv-loop μ-loop
+print-requires c κs = search needs
 
 add-i : tie.Need-add-i Inv-loop μ-loop
 add-i c = search needs
@@ -45,8 +45,8 @@ write-all-requires-2 c κs = search needs
 returns : tie.Need-returns Inv-loop μ-loop
 returns c = search needs
 
-pub say-row-spec : {M : Type 1} → statement M
-say-row-spec =
+pub print-row-spec : {M : Type 1} → statement M
+print-row-spec =
     tie.close
     (tie.spec
     Inv-loop
@@ -56,7 +56,7 @@ say-row-spec =
     element-copy-out-t12
     slice-aggregate-numbers
     numbers-requires
-    say-requires
+    print-requires
     add-i
     loop-less
     loop-again
