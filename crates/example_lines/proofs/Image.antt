@@ -3,16 +3,16 @@ use mathlib.Core.Path.{_≡_, refl, sym, ap, _∙_, subst}
 use mathlib.Core.List.{List, [], _∷_, _++_, append-assoc}
 use mathlib.Core.Bool.{Bool, true, false, cond, _||_}
 use Prim.Native.Nat.{ℕ, zero, suc, _+_, _-_, _*_, _%_, _^_, _≤_, _<_}
-use native.Mathlib.Nat.{le-refl, sub-zero, suc-sub-suc}
+use native.Mathlib.Nat.{le-refl, sub-zero}
 use native.Mathlib.Numerals.{add-one}
 use native.Mathlib.Omega.{arith}
 use lib.ListN.{length, getD, take, drop, set, drop-of-length-le, length-append, length-take, length-drop, length-set, take-append-drop, List·getD-append}
-use lib.Seq.{drop-cons, paste, paste-zero, paste-suc, drop-paste, take-at, drop-at, drop-nil, take-nil, drop-drop, set-out, set-split, set-append-left, drop-set-add, take-set-le, getD-drop, getD-take, length-take-le}
-use lib.Dec.{eqb, ltb, leb}
+use lib.Seq.{drop-cons, paste, paste-zero, paste-suc, drop-paste, take-at, drop-at, take-nil, drop-drop, set-out, set-split, set-append-left, drop-set-add, take-set-le, getD-drop, getD-take, length-take-le}
+use lib.Dec.{eqb, leb}
 use borrow.Author.Tests.{le-leb, lt-leb, eq-eqb, ne-eqb, lt-ltb, le-ltb}
 use Rattle.lines.specs.Number.{spaceIn}
 use Rattle.example_lines.specs.Words.{wordFrom, digitOf, longer}
-use Rattle.example_lines.specs.Image.{Part, grown, copyOf, repeated, closed, piece, signed, withDigit, withByte, imageFrom, Put, partOf, Stands, Kept}
+use Rattle.example_lines.specs.Image.{Part, grown, copyOf, repeated, closed, piece, withDigit, withByte, imageFrom, Put, partOf, Stands, Kept}
 use Rattle.example_lines.specs.declared.Piece.{Piece}
 use Rattle.example_lines.proofs.Words.{lent}
 
