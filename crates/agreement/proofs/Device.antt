@@ -30,7 +30,7 @@ use Rattle.modules.specs.Turn.{turnOf, emptyOwn}
 use Rattle.modules.specs.Fits.{ownFits, ownEmpty}
 use Rattle.device_states.specs.declared.Device.{Device}
 use Rattle.device.specs.declared.Turning.the-variants.{Turned as DeviceTurned}
-use Rattle.device_states.specs.States.{ownAt, stateAt, listFrom, ownSlotFits, stateSlotFits, deviceFits, shownBy, ledBy, withOwn}
+use Rattle.device_states.specs.States.{ownAt, stateAt, listFrom, ownSlotFits, stateSlotFits, deviceFits, shownBy, stateAfterTurn, withOwn}
 use Rattle.device.specs.Device.{turned, afterTurn, deviceNumber, turnIn, turnBy, replyIn, replyBy}
 use Rattle.protocol.specs.Generic.{update}
 use Rattle.protocol.specs.Rules as R
@@ -91,8 +91,8 @@ module _ (rs : List Record) (few-modules : modulesOf rs ≤ 16) (few : superviso
   shown-same d O S (suc n) h = ap₂ bitOr (shown-same d O S n (omega arith)) (ap (shown rs n) (S .states n (omega arith)))
 
   -- where firing leads a supervisor
-  led-same : (v x : ℕ) (t : Turn) → ledBy rs v x t ≡ R.stateAfter (planOf rs) v x t
-  unfolding ledBy supervisorAfter R.stateAfter planOf stateBy
+  led-same : (v x : ℕ) (t : Turn) → stateAfterTurn rs v x t ≡ R.stateAfter (planOf rs) v x t
+  unfolding stateAfterTurn supervisorAfter R.stateAfter planOf stateBy
   led-same v x (Event e) = ap (λ (y : ℕ). cond (inAlphabet rs v e) y x) (go (supervisorMove rs v x e))
     where
       go : (o : Option ℕ) → stateBy o x ≡ Option·getD o x
@@ -102,8 +102,8 @@ module _ (rs : List Record) (few-modules : modulesOf rs ≤ 16) (few : superviso
   led-same v x Nothing = refl
 
   -- a state stays fit
-  led-fits : (v x : ℕ) (t : Turn) → supervisorState rs v x ≡ true → supervisorState rs v (ledBy rs v x t) ≡ true
-  unfolding ledBy supervisorAfter stateBy
+  led-fits : (v x : ℕ) (t : Turn) → supervisorState rs v x ≡ true → supervisorState rs v (stateAfterTurn rs v x t) ≡ true
+  unfolding stateAfterTurn supervisorAfter stateBy
   led-fits v x (Event e) h = go (inAlphabet rs v e) (supervisorMove rs v x e) refl
     where
       go : (b : Bool) (o : Option ℕ) → supervisorMove rs v x e ≡ o → supervisorState rs v (cond b (stateBy o x) x) ≡ true
@@ -114,8 +114,8 @@ module _ (rs : List Record) (few-modules : modulesOf rs ≤ 16) (few : superviso
   led-fits v x Nothing h = h
 
   -- a supervisor that the plan lacks stays
-  led-stays : (v x : ℕ) (t : Turn) → supervisorsOf rs ≤ v → ledBy rs v x t ≡ x
-  unfolding ledBy supervisorAfter
+  led-stays : (v x : ℕ) (t : Turn) → supervisorsOf rs ≤ v → stateAfterTurn rs v x t ≡ x
+  unfolding stateAfterTurn supervisorAfter
   led-stays v x (Event e) h = go (inAlphabet rs v e) refl
     where
       go : (b : Bool) → inAlphabet rs v e ≡ b → cond b (stateBy (supervisorMove rs v x e) x) x ≡ x
@@ -155,15 +155,15 @@ module _ (rs : List Record) (few-modules : modulesOf rs ≤ 16) (few : superviso
     fits = fits-of rs (withOwn d m own) (slot-after d O m own (d .supervisors) S l f) (state-slot rs d (S .fits));
   }
 
-  state-after : (d : Device) (t : Turn) (v : ℕ) → v < 32 → getD (listFrom (λ w. ledBy rs w (stateAt d w) t) 0 32) v 0 ≡ ledBy rs v (stateAt d v) t
-  state-after d t v l = from-at (λ w. ledBy rs w (stateAt d w) t) 0 32 v 0 l ∙ ap (λ (w : ℕ). ledBy rs w (stateAt d w) t) (let e : 0 + v ≡ v = omega arith in e)
+  state-after : (d : Device) (t : Turn) (v : ℕ) → v < 32 → getD (listFrom (λ w. stateAfterTurn rs w (stateAt d w) t) 0 32) v 0 ≡ stateAfterTurn rs v (stateAt d v) t
+  state-after d t v l = from-at (λ w. stateAfterTurn rs w (stateAt d w) t) 0 32 v 0 l ∙ ap (λ (w : ℕ). stateAfterTurn rs w (stateAt d w) t) (let e : 0 + v ≡ v = omega arith in e)
 
   states-fit : (d : Device) (t : Turn) (ms : List Own) → deviceFits rs d ≡ true → (v : ℕ) → v < 32
-      → StateSlot rs (record { modules = ms; supervisors = listFrom (λ w. ledBy rs w (stateAt d w) t) 0 32 }) v ≡ true
+      → StateSlot rs (record { modules = ms; supervisors = listFrom (λ w. stateAfterTurn rs w (stateAt d w) t) 0 32 }) v ≡ true
   states-fit d t ms h v l = ap (λ (x : ℕ). cond (ltb v (supervisorsOf rs)) (supervisorState rs v x) (eqb x 0)) (state-after d t v l) ∙ go (ltb v (supervisorsOf rs)) refl (state-slot rs d h v l)
     where
       go : (b : Bool) → ltb v (supervisorsOf rs) ≡ b → cond b (supervisorState rs v (stateAt d v)) (eqb (stateAt d v) 0) ≡ true
-          → cond b (supervisorState rs v (ledBy rs v (stateAt d v) t)) (eqb (ledBy rs v (stateAt d v) t) 0) ≡ true
+          → cond b (supervisorState rs v (stateAfterTurn rs v (stateAt d v) t)) (eqb (stateAfterTurn rs v (stateAt d v) t) 0) ≡ true
       go true q k = led-fits v (stateAt d v) t k
       go false q k = ap (λ (x : ℕ). eqb x 0) (led-stays v (stateAt d v) t (ltb-false v (supervisorsOf rs) q)) ∙ k
 
@@ -179,7 +179,7 @@ module _ (rs : List Record) (few-modules : modulesOf rs ≤ 16) (few : superviso
     owns = own-after d O m (t .own) S l;
     states = λ v k. state-after d (t .turn) v (omega arith) ∙ led-same v (stateAt d v) (t .turn) ∙ ap (λ (x : ℕ). R.stateAfter (planOf rs) v x (t .turn)) (S .states v k);
     slots = length-set (d .modules) m (t .own) ∙ S .slots;
-    fits = fits-of rs _ (slot-after d O m (t .own) (listFrom (λ w. ledBy rs w (stateAt d w) (t .turn)) 0 32) S l f) (states-fit d (t .turn) (set (d .modules) m (t .own)) (S .fits));
+    fits = fits-of rs _ (slot-after d O m (t .own) (listFrom (λ w. stateAfterTurn rs w (stateAt d w) (t .turn)) 0 32) S l f) (states-fit d (t .turn) (set (d .modules) m (t .own)) (S .fits));
   }
 
   -- the calls on a state that fits

@@ -1,10 +1,10 @@
-// What the simulation prints of what a line of its script got, and the rows of events: specs/Said.antt.
+// What the simulation prints of what a line of its script got, and the rows of events: specs/AnswerLines.antt.
 ghost use mathlib.Core.Path.{_≡_};
 ghost use Rattle.reader.specs.Walk.{recordsOf};
 ghost use Rattle.messages.specs.Message.{messageBytes};
 ghost use Rattle.script.specs.Text.{textOf};
-ghost use Rattle.script.specs.Said.{sentLine, deliveredLine};
-ghost use Rattle.answers.specs.Said.{deliveryLine, answerLine, fired, command, noRow, rowFull, withNumber};
+ghost use Rattle.script.specs.SimulationLines.{sentLine, deliveredLine};
+ghost use Rattle.answers.specs.AnswerLines.{deliveryLine, answerLine, fired, command, noRow, rowFull, withNumber};
 use bits::Maybe;
 use messages::Message;
 use modules::Called;

@@ -22,7 +22,7 @@ use Rattle.device_states.specs.declared.Device.{Device}
 use Rattle.device.specs.declared.DeviceTurned.{DeviceTurned}
 use Rattle.device.specs.declared.DeviceCalled.{DeviceCalled}
 use Rattle.device.specs.declared.Turning.the-variants.{Turned as Turns, Refused as TurnRefused}
-use Rattle.device_states.specs.States.{stateOf, listFrom, ledBy, withOwn, statesAfter, emptyDevice, startDevice}
+use Rattle.device_states.specs.States.{stateOf, listFrom, stateAfterTurn, withOwn, statesAfter, emptyDevice, startDevice}
 use Rattle.device.specs.Device.{turned, afterTurn, deviceNumber, turnRefused, turnIn, turnBy, turnCall, callRefused, replyIn, replyBy, startBy, startCall}
 use Rattle.device_states.proofs.Slots.{same-slots}
 
@@ -36,7 +36,7 @@ module _ (rs : List Record) (d : Device) (m : ℕ) (t : Turned) {w : Device} whe
 
   -- without a firing the supervisors stay
   pub after-none : w ≡ withOwn d m (t .own) → OneOf (1 ∷ 2 ∷ []) (tagOf the-type (t .turn)) → length (d .supervisors) ≡ 32 → w ≡ afterTurn rs d m t
-  unfolding afterTurn ledBy
+  unfolding afterTurn stateAfterTurn
   after-none a o h = a ∙ ap (λ (l : List ℕ). record { modules = withOwn d m (t .own) .modules; supervisors = l }) (sym (stays (t .turn) o))
     where
       same : listFrom (stateOf (d .supervisors)) 0 32 ≡ d .supervisors

@@ -40,8 +40,8 @@ fn after_turn(image: &[u8], d: Device, m: u8, t: Turned) -> Device
     let Turn::Event(e) = did else {
         return next;
     };
-    let led = device_states::led_by(image, states, e);
-    next.supervisors = led;
+    let moved = device_states::states_after(image, states, e);
+    next.supervisors = moved;
     next
 }
 

@@ -15,7 +15,7 @@ use Rattle.plan.specs.Plan.{shown, supervisorAfter}
 use Rattle.modules.specs.declared.Turn.{Turn}
 use Rattle.modules.specs.declared.Turn.the-variants.{Event}
 use Rattle.device_states.specs.declared.Device.{Device}
-use Rattle.device_states.specs.States.{stateOf, listFrom, ownSlotFits, stateSlotFits, shownBy, ledBy, statesAfter}
+use Rattle.device_states.specs.States.{stateOf, listFrom, ownSlotFits, stateSlotFits, shownBy, stateAfterTurn, statesAfter}
 
 -- ---- every slot below i passes
 
@@ -117,8 +117,8 @@ module _ (rs : List Record) (states : List ℕ) where
       ap₂ bitOr h (g ∙ ap (shown rs v) e) ∙ sym (ap (shownBy rs (stateOf states)) (add-one v) ∙ (unfold shownBy in refl))
 
   -- where the event e leads a supervisor
-  abbrev pub led : ℕ → ℕ → ℕ
-  led e v = ledBy rs v (stateOf states v) (Event e)
+  abbrev pub moved : ℕ → ℕ → ℕ
+  moved e v = stateAfterTurn rs v (stateOf states v) (Event e)
 
-  pub led-on : (e i v : ℕ) {x : ℕ} {l : List ℕ} → v ≡ i → x ≡ supervisorAfter rs v (stateOf states i) e → i < 32 → l ≡ filled (led e) 0 32 i → set l i x ≡ filled (led e) 0 32 (i + 1)
-  led-on e i v {x} w g h k = fill-on (led e) 0 32 i k (g ∙ ap (λ (j : ℕ). supervisorAfter rs j (stateOf states i) e) w ∙ (unfold ledBy in refl)) h
+  pub moved-on : (e i v : ℕ) {x : ℕ} {l : List ℕ} → v ≡ i → x ≡ supervisorAfter rs v (stateOf states i) e → i < 32 → l ≡ filled (moved e) 0 32 i → set l i x ≡ filled (moved e) 0 32 (i + 1)
+  moved-on e i v {x} w g h k = fill-on (moved e) 0 32 i k (g ∙ ap (λ (j : ℕ). supervisorAfter rs j (stateOf states i) e) w ∙ (unfold stateAfterTurn in refl)) h

@@ -46,13 +46,13 @@ shownBy rs st zero = 0
 shownBy rs st (suc n) = bitOr (shownBy rs st n) (shown rs n (st n))
 
 -- "Firing moves the module and every supervisor with the event in its alphabet; a supervisor without a listed move stays."
-unfoldable pub ledBy : List Record → ℕ → ℕ → Turn → ℕ
-ledBy rs v st (Event e) = supervisorAfter rs v st e
-ledBy rs v st (Stray e) = st
-ledBy rs v st Nothing = st
+unfoldable pub stateAfterTurn : List Record → ℕ → ℕ → Turn → ℕ
+stateAfterTurn rs v st (Event e) = supervisorAfter rs v st e
+stateAfterTurn rs v st (Stray e) = st
+stateAfterTurn rs v st Nothing = st
 
 abbrev pub statesAfter : List Record → List ℕ → Turn → List ℕ
-statesAfter rs states t = listFrom (λ v. ledBy rs v (stateOf states v) t) 0 32
+statesAfter rs states t = listFrom (λ v. stateAfterTurn rs v (stateOf states v) t) 0 32
 
 abbrev pub withOwn : Device → ℕ → Own → Device
 withOwn d m own = record { modules = set (d .modules) m own; supervisors = d .supervisors }

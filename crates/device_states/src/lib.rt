@@ -133,7 +133,7 @@ pub fn shown_by(image: &[u8], states: [u8; 32], n: u8) -> u64
 }
 
 // The states after an event fired.
-pub fn led_by(image: &[u8], states: [u8; 32], e: u8) -> [u8; 32]
+pub fn states_after(image: &[u8], states: [u8; 32], e: u8) -> [u8; 32]
     ensures { λ r. ⌜ r ≡ statesAfter (recordsOf (now (image .entry))) states (Event e) ⌝ }
 {
     let mut next = [0u8; 32];

@@ -1,8 +1,8 @@
 // Runs the calls of the one-device controller on the lines of standard input, and prints what each gives.
 // tests/reference/one_device.py says which lines there are, and prints the same; crate example_lines reads them.
-use device_states::Device;
 use device::DeviceCalled;
 use device::Turning;
+use device_states::Device;
 use modules::Called;
 use modules::Own;
 use modules::Procedure;

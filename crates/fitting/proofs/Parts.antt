@@ -12,8 +12,8 @@ use Rattle.plan.specs.Plan.{ownEvent, ownUncontrollable}
 use Rattle.water.specs.Water.{waterZero, running}
 use Rattle.modules.specs.declared.Own.{Own}
 use Rattle.modules.specs.declared.Procedure.{Procedure}
-use Rattle.modules.specs.declared.Work.{Work}
-use Rattle.modules.specs.Work.{workOf}
+use Rattle.modules.specs.declared.StepFields.{StepFields}
+use Rattle.modules.specs.StepFields.{stepFieldsOf}
 use Rattle.modules.specs.Fits.{every, queueFits, idleFits, stepFits, procedureFits, ownFits, ownEmpty}
 
 module _ (rs : List Record) (m : ℕ) where
@@ -30,13 +30,13 @@ module _ (rs : List Record) (m : ℕ) where
         ap (λ (l : Bool). l && every (ownUncontrollable rs m) (take n (own .queue)) && every (λ x. eqb x 0) (drop n (own .queue))) (sym (lt-leb n 8 h))
         ∙ ap (λ (k : ℕ). leb k 8 && every (ownUncontrollable rs m) (take k (own .queue)) && every (λ x. eqb x 0) (drop k (own .queue))) e
 
-  pub step-by : (p : Procedure) {w : Work} {a b c : Bool} → w ≡ workOf rs (p .event) (p .index) → a ≡ ownEvent rs m (p .event)
+  pub step-by : (p : Procedure) {w : StepFields} {a b c : Bool} → w ≡ stepFieldsOf rs (p .event) (p .index) → a ≡ ownEvent rs m (p .event)
       → b ≡ cond (eqb (w .operation) 3) (ltb (p .count) (w .operand)) (eqb (p .count) 0) → c ≡ cond (eqb (w .operation) 4) (running (w .operand) (p .water)) (waterZero (p .water))
-      → (w .there && a && b && c) ≡ stepFits rs m p
+      → (w .present && a && b && c) ≡ stepFits rs m p
   unfolding stepFits
   step-by p {w} e x y z =
       rw (x, y, z)
-      (ap (λ (u : Work). u .there && ownEvent rs m (p .event) && cond (eqb (u .operation) 3) (ltb (p .count) (u .operand)) (eqb (p .count) 0) && cond (eqb (u .operation) 4) (running (u .operand) (p .water)) (waterZero (p .water))) e)
+      (ap (λ (u : StepFields). u .present && ownEvent rs m (p .event) && cond (eqb (u .operation) 3) (ltb (p .count) (u .operand)) (eqb (p .count) 0) && cond (eqb (u .operation) 4) (running (u .operand) (p .water)) (waterZero (p .water))) e)
 
   pub fits-by : (own : Own) {a b c : Bool} → a ≡ moduleState rs m (own .state) → b ≡ queueFits rs m own → c ≡ procedureFits rs m (own .procedure) → (a && b && c) ≡ ownFits rs m own
   unfolding ownFits

@@ -78,11 +78,11 @@ fn water_fits(o: u8, x: u64, w: Water) -> bool
 fn step_fits(image: &[u8], m: u8, p: Procedure) -> bool
     ensures { λ r. ⌜ r ≡ stepFits (recordsOf (now (image .entry))) m p ⌝ }
 {
-    let s = modules::work_of(image, p.event, p.index);
+    let s = modules::step_fields(image, p.event, p.index);
     let owned = plan::own_event(image, m, p.event);
     let counted = count_fits(s.operation, s.operand, p.count);
     let w = p.water;
-    s.there & owned & counted & water_fits(s.operation, s.operand, w)
+    s.present & owned & counted & water_fits(s.operation, s.operand, w)
 }
 
 fn idle_fits(p: Procedure) -> bool

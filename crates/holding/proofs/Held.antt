@@ -38,8 +38,8 @@ missing-by n h r p q e =
     x : ℕ
     x = bitAnd n (2 ^ 64 - 1 - h)
 
-pub missing-is : (near held : ℕ) (rs : List Record) (m : ℕ) → near ≡ neighbours rs m → missingIn near held ≡ missing rs m held
-missing-is near held rs m e = ap (λ (n : ℕ). missingIn n held) e
+pub missing-is : (adjacent held : ℕ) (rs : List Record) (m : ℕ) → adjacent ≡ neighbours rs m → missingIn adjacent held ≡ missing rs m held
+missing-is adjacent held rs m e = ap (λ (n : ℕ). missingIn n held) e
 
 -- ---- counts: those held are neighbours, so that none is missing where there are as many
 
@@ -97,66 +97,66 @@ other true false = refl
 other false b = refl
 
 -- the loop of `held_fits`, from what it is told at v
-module _ (near held v : ℕ) {next have whole : Bool} (e : next ≡ bit near v) (f : have ≡ bit held v) (g : whole ≡ allBelow (keptAt near held) v) where
-  tested : fitsAt near held v ≡ not (have && not (next && whole))
+module _ (adjacent held v : ℕ) {next have whole : Bool} (e : next ≡ bit adjacent v) (f : have ≡ bit held v) (g : whole ≡ allBelow (keptAt adjacent held) v) where
+  tested : fitsAt adjacent held v ≡ not (have && not (next && whole))
   tested = sym (ap₂ (λ (a b : Bool). not a || b) f (ap₂ _&&_ e g)) ∙ other have (next && whole)
 
-  pub held-out : v < 32 → (have && not (next && whole)) ≡ true → false ≡ heldIn near held
+  pub held-out : v < 32 → (have && not (next && whole)) ≡ true → false ≡ heldIn adjacent held
   unfolding heldIn
   held-out h t =
-      same-test false (allBelow (fitsAt near held) 32) (λ x. absurd x)
-      (λ x. holds false (sym (tested ∙ ap not t) ∙ is-true _ (all-at (fitsAt near held) 32 x v h)))
+      same-test false (allBelow (fitsAt adjacent held) 32) (λ x. absurd x)
+      (λ x. holds false (sym (tested ∙ ap not t) ∙ is-true _ (all-at (fitsAt adjacent held) 32 x v h)))
 
-  pub held-more : (have && not (next && whole)) ≡ false → allBelow (fitsAt near held) v ≡ true → allBelow (fitsAt near held) (v + 1) ≡ true
-  held-more t s = ap (allBelow (fitsAt near held)) (add-one v) ∙ (unfold allBelow in ap₂ _&&_ (tested ∙ ap not t) s)
+  pub held-more : (have && not (next && whole)) ≡ false → allBelow (fitsAt adjacent held) v ≡ true → allBelow (fitsAt adjacent held) (v + 1) ≡ true
+  held-more t s = ap (allBelow (fitsAt adjacent held)) (add-one v) ∙ (unfold allBelow in ap₂ _&&_ (tested ∙ ap not t) s)
 
-  pub whole-more : ((not next || have) && whole) ≡ allBelow (keptAt near held) (v + 1)
-  whole-more = ap₂ _&&_ (ap₂ (λ (a b : Bool). not a || b) e f) g ∙ sym (ap (allBelow (keptAt near held)) (add-one v) ∙ (unfold allBelow in refl))
+  pub whole-more : ((not next || have) && whole) ≡ allBelow (keptAt adjacent held) (v + 1)
+  whole-more = ap₂ _&&_ (ap₂ (λ (a b : Bool). not a || b) e f) g ∙ sym (ap (allBelow (keptAt adjacent held)) (add-one v) ∙ (unfold allBelow in refl))
 
-pub held-in : (near held v : ℕ) → v ≤ 32 → 32 ≤ v → allBelow (fitsAt near held) v ≡ true → true ≡ heldIn near held
+pub held-in : (adjacent held v : ℕ) → v ≤ 32 → 32 ≤ v → allBelow (fitsAt adjacent held) v ≡ true → true ≡ heldIn adjacent held
 unfolding heldIn
-held-in near held v l h s = sym s ∙ ap (allBelow (fitsAt near held)) (let w : v ≡ 32 = omega arith in w)
+held-in adjacent held v l h s = sym s ∙ ap (allBelow (fitsAt adjacent held)) (let w : v ≡ 32 = omega arith in w)
 
 -- ---- from what the code is told
 
-module _ (near held : ℕ) (p : near < 2 ^ 32) (q : held < 2 ^ 32) where
+module _ (adjacent held : ℕ) (p : adjacent < 2 ^ 32) (q : held < 2 ^ 32) where
   -- what fits is of neighbours only
-  within : heldIn near held ≡ true → (v : ℕ) → v < 32 → bit held v ≡ true → bit near v ≡ true
+  within : heldIn adjacent held ≡ true → (v : ℕ) → v < 32 → bit held v ≡ true → bit adjacent v ≡ true
   unfolding heldIn
   within f v l t =
-      let a : T (fitsAt near held v) = all-at (fitsAt near held) 32 (holds _ f) v l in
-      is-true (bit near v) (and-l (bit near v) (allBelow (keptAt near held) v) (subst (λ (b : Bool). T (not b || (bit near v && allBelow (keptAt near held) v))) t a))
+      let a : T (fitsAt adjacent held v) = all-at (fitsAt adjacent held) 32 (holds _ f) v l in
+      is-true (bit adjacent v) (and-l (bit adjacent v) (allBelow (keptAt adjacent held) v) (subst (λ (b : Bool). T (not b || (bit adjacent v && allBelow (keptAt adjacent held) v))) t a))
 
-  pub lacks-by : Lacking near held (not (eqb (ones held) (ones near)))
+  pub lacks-by : Lacking adjacent held (not (eqb (ones held) (ones adjacent)))
   unfolding missingIn
   lacks-by =
       record {
         counted = refl;
         is =
             λ f.
-            ap₂ (λ (x y : ℕ). not (eqb x y)) (sym (ones-in 32 held q)) (sym (ones-in 32 near p))
-            ∙ counted-is (someBelow (lackAt near held) 32) (onesIn 32 held) (onesIn 32 near) (counted near held 32 (within f))
-            ∙ some-least (lackAt near held) 32;
+            ap₂ (λ (x y : ℕ). not (eqb x y)) (sym (ones-in 32 held q)) (sym (ones-in 32 adjacent p))
+            ∙ counted-is (someBelow (lackAt adjacent held) 32) (onesIn 32 held) (onesIn 32 adjacent) (counted adjacent held 32 (within f))
+            ∙ some-least (lackAt adjacent held) 32;
       }
 
 -- ---- the fit
 
-module _ (rs : List Record) (m near : ℕ) (x : Module) {a : Bool} (e : a ≡ heldIn near (x .held)) where
-  pub fits-in : {l o : Bool} → a ≡ true → Lacking near (x .held) l → o ≡ ownFits rs m (x .own)
-      → ((not (eqb (x .held) 0) || eqb (x .received) 0) && (not (x .bid) || l) && o) ≡ fitsIn rs m near x
+module _ (rs : List Record) (m adjacent : ℕ) (x : Module) {a : Bool} (e : a ≡ heldIn adjacent (x .held)) where
+  pub fits-in : {l o : Bool} → a ≡ true → Lacking adjacent (x .held) l → o ≡ ownFits rs m (x .own)
+      → ((not (eqb (x .held) 0) || eqb (x .received) 0) && (not (x .bid) || l) && o) ≡ fitsIn rs m adjacent x
   unfolding fitsIn
-  fits-in t f g = let h : heldIn near (x .held) ≡ true = sym e ∙ t in simp (h, f .is h, g)
+  fits-in t f g = let h : heldIn adjacent (x .held) ≡ true = sym e ∙ t in simp (h, f .is h, g)
 
-  pub fits-out : a ≡ false → false ≡ fitsIn rs m near x
+  pub fits-out : a ≡ false → false ≡ fitsIn rs m adjacent x
   unfolding fitsIn
-  fits-out t = let h : heldIn near (x .held) ≡ false = sym e ∙ t in simp h
+  fits-out t = let h : heldIn adjacent (x .held) ≡ false = sym e ∙ t in simp h
 
 -- a state that fits has its permits right
-pub fits-held : (rs : List Record) (m near : ℕ) (x : Module) {t : Bool} → near ≡ neighbours rs m → t ≡ fitsIn rs m near x → t ≡ true → heldFits rs m (x .held) ≡ true
+pub fits-held : (rs : List Record) (m adjacent : ℕ) (x : Module) {t : Bool} → adjacent ≡ neighbours rs m → t ≡ fitsIn rs m adjacent x → t ≡ true → heldFits rs m (x .held) ≡ true
 unfolding fitsIn
-fits-held rs m near x n e f =
-    let h : Bool = heldIn near (x .held) in
+fits-held rs m adjacent x n e f =
+    let h : Bool = heldIn adjacent (x .held) in
     let u : Bool = not (eqb (x .held) 0) || eqb (x .received) 0 in
-    let w : Bool = not (x .bid) || isSome (missingIn near (x .held)) in
+    let w : Bool = not (x .bid) || isSome (missingIn adjacent (x .held)) in
     ap (λ (k : ℕ). heldIn k (x .held)) (sym n)
     ∙ is-true h (and-l h u (and-l (h && u) w (and-l (h && u && w) (ownFits rs m (x .own)) (holds _ (sym e ∙ f)))))

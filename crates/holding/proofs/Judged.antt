@@ -20,7 +20,7 @@ module _ {A : Type 0} (rs : List Record) (m : ℕ) (x : Module) (a b c : A) {k :
   pub lacking : k ≤ m → c ≡ judged
   lacking l = let n : modulesOf rs ≤ m = omega arith in simp (le-ltb m (modulesOf rs) n)
 
-  module _ {t : Bool} {near : ℕ} (l : m < k) (n : near ≡ neighbours rs m) (f : t ≡ fitsIn rs m near x) where
+  module _ {t : Bool} {adjacent : ℕ} (l : m < k) (n : adjacent ≡ neighbours rs m) (f : t ≡ fitsIn rs m adjacent x) where
     told : moduleFits rs m x ≡ t
     told = ap (λ (j : ℕ). fitsIn rs m j x) (sym n) ∙ sym f
 

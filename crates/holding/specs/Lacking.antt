@@ -8,6 +8,6 @@ use Rattle.bits.specs.Bit.{isSome}
 use Rattle.permits.specs.Module.{missingIn, heldIn}
 
 -- r tells whether the counts of the permits held and of the neighbours differ, and where those held fit that is whether one is missing
-pub record Lacking (near held : ℕ) (r : Bool) : Type 0 where
-  pub counted : r ≡ not (eqb (ones held) (ones near))
-  pub is : heldIn near held ≡ true → r ≡ isSome (missingIn near held)
+pub record Lacking (adjacent held : ℕ) (r : Bool) : Type 0 where
+  pub counted : r ≡ not (eqb (ones held) (ones adjacent))
+  pub is : heldIn adjacent held ≡ true → r ≡ isSome (missingIn adjacent held)

@@ -11,52 +11,54 @@ use permits::Module;
 use permits::ModuleCalled;
 
 // The lowest neighbour whose permit is not held.
-pub fn missing(near: u32, held: u32) -> Maybe
-    ensures { λ r. ⌜ optionOf r ≡ missingIn near held ⌝ }
+pub fn missing(adjacent: u32, held: u32) -> Maybe
+    ensures { λ r. ⌜ optionOf r ≡ missingIn adjacent held ⌝ }
 {
-    let theirs = near as u64;
-    let ours = held as u64;
-    bits::lowest(theirs & !ours)
+    let neighbour_bits = adjacent as u64;
+    let held_bits = held as u64;
+    bits::lowest(neighbour_bits & !held_bits)
 }
 
 // Whether the permits held are those of the lowest neighbours.
-pub fn held_fits(near: u32, held: u32) -> bool
-    ensures { λ r. ⌜ r ≡ heldIn near held ⌝ }
+pub fn held_fits(adjacent: u32, held: u32) -> bool
+    ensures { λ r. ⌜ r ≡ heldIn adjacent held ⌝ }
 {
-    let theirs = near as u64;
-    let ours = held as u64;
+    let neighbour_bits = adjacent as u64;
+    let held_bits = held as u64;
     // Whether the permits of all neighbours below v are held.
     let mut whole = true;
     let mut v: u8 = 0;
     while v < 32 {
-        let near_v = bits::has(theirs, v);
-        let held_v = bits::has(ours, v);
-        if held_v & !(near_v & whole) {
+        let neighbour_v = bits::has(neighbour_bits, v);
+        let held_v = bits::has(held_bits, v);
+        if held_v & !(neighbour_v & whole) {
             return false;
         }
-        whole = (!near_v | held_v) & whole;
+        whole = (!neighbour_v | held_v) & whole;
         v += 1;
     }
     true
 }
 
 // Whether a permit is missing. Those held are neighbours, so that none is where there are as many.
-pub fn lacks(near: u32, held: u32) -> bool
-    ensures { λ r. ⌜ Lacking near held r ⌝ }
+pub fn lacks(adjacent: u32, held: u32) -> bool
+    ensures { λ r. ⌜ Lacking adjacent held r ⌝ }
 {
-    u32::count_ones(held) != u32::count_ones(near)
+    u32::count_ones(held) != u32::count_ones(adjacent)
 }
 
 // Whether the state fits the plan.
-pub fn fits(image: &[u8], m: u8, near: u32, x: Module) -> bool
-    ensures { λ r. ⌜ r ≡ fitsIn (recordsOf (now (image .entry))) m near x ⌝ }
+pub fn fits(image: &[u8], m: u8, adjacent: u32, x: Module) -> bool
+    ensures { λ r. ⌜ r ≡ fitsIn (recordsOf (now (image .entry))) m adjacent x ⌝ }
 {
     let own = x.own;
     let held = x.held;
     let received = x.received;
     let bid = x.bid;
-    if held_fits(near, held) {
-        ((held != 0) | (received == 0)) & (!bid | lacks(near, held)) & fitting::fits(image, m, own)
+    if held_fits(adjacent, held) {
+        ((held != 0) | (received == 0))
+            & (!bid | lacks(adjacent, held))
+            & fitting::fits(image, m, own)
     } else {
         false
     }

@@ -32,12 +32,12 @@ module _ (rs : List Record) (m : ℕ) (x : Module) {k : ℕ} {c : ModuleCalled} 
   unfolding replyBy
   reply-absent r l h = h ∙ lacking rs m x (replied x r) (callRefused x 9 0) (callRefused x 11 0) e l
 
-  module _ {t : Bool} {near : ℕ} (l : m < k) (n : near ≡ neighbours rs m) (f : t ≡ fitsIn rs m near x) where
+  module _ {t : Bool} {adjacent : ℕ} (l : m < k) (n : adjacent ≡ neighbours rs m) (f : t ≡ fitsIn rs m adjacent x) where
     pub reply-unfit : (r : Replied) → t ≡ false → c ≡ callRefused x 9 0 → c ≡ replyBy Accepted rs m x r
     unfolding replyBy
     reply-unfit r q h = h ∙ unfit rs m x (replied x r) (callRefused x 9 0) (callRefused x 11 0) e l n f q
 
-pub reply-fit : (rs : List Record) (m : ℕ) (x : Module) (r : Replied) {k near : ℕ} {a : Called} {t : Bool} → k ≡ modulesOf rs → m < k → near ≡ neighbours rs m → t ≡ fitsIn rs m near x → t ≡ true → a ≡ calledBy (r .reply)
+pub reply-fit : (rs : List Record) (m : ℕ) (x : Module) (r : Replied) {k adjacent : ℕ} {a : Called} {t : Bool} → k ≡ modulesOf rs → m < k → adjacent ≡ neighbours rs m → t ≡ fitsIn rs m adjacent x → t ≡ true → a ≡ calledBy (r .reply)
     → (record { answer = a; state = record { own = r .own; held = x .held; received = x .received; bid = x .bid } }) ≡ replyBy Accepted rs m x r
 unfolding replyBy
 reply-fit rs m x r e l n f q h =

@@ -17,8 +17,8 @@ fn replied(image: &[u8], m: u8, x: Module, r: Replied) -> ModuleCalled
     ensures { λ c. ⌜ c ≡ replyBy Accepted (recordsOf (now (image .entry))) m x r ⌝ }
 {
     if m < plan::modules_of(image) {
-        let near = masks::neighbours(image, m);
-        if holding::fits(image, m, near, x) {
+        let adjacent = masks::neighbours(image, m);
+        if holding::fits(image, m, adjacent, x) {
             let own = r.own;
             let reply = r.reply;
             let mut state = x;

@@ -40,11 +40,11 @@ and-both true false c e = absurd (true≢false (sym e))
 and-both false b c e = absurd (true≢false (sym e))
 
 -- the supervisor that a bid is with is one of 32
-pub permit-small : (n m v : ℕ) (b : Bool) (near held : ℕ) {r : Maybe} {w : ℕ} → optionOf r ≡ missingIn near held → r ≡ Just w → (eqb n m && (b && eqb w v)) ≡ true → v < 32
+pub permit-small : (n m v : ℕ) (b : Bool) (adjacent held : ℕ) {r : Maybe} {w : ℕ} → optionOf r ≡ missingIn adjacent held → r ≡ Just w → (eqb n m && (b && eqb w v)) ≡ true → v < 32
 unfolding missingIn
-permit-small n m v b near held {w = w} e f t =
+permit-small n m v b adjacent held {w = w} e f t =
     let s : w ≡ v = eqb-true w v (and-both (eqb n m) b (eqb w v) t) in
-    omega (arith, least-some (λ u. bit near u && not (bit held u)) 32 w (sym (ap optionOf (sym f) ∙ e)) .below)
+    omega (arith, least-some (λ u. bit adjacent u && not (bit held u)) 32 w (sym (ap optionOf (sym f) ∙ e)) .below)
 
 -- no bid is with the supervisor where none is missing
 no-bid : (a b : Bool) → (a && (b && false)) ≡ false
@@ -52,18 +52,18 @@ no-bid true true = refl
 no-bid true false = refl
 no-bid false b = refl
 
-module _ (near m : ℕ) (x : Module) (v n k : ℕ) (r : Maybe) (e : optionOf r ≡ missingIn near (x .held)) where
+module _ (adjacent m : ℕ) (x : Module) (v n k : ℕ) (r : Maybe) (e : optionOf r ≡ missingIn adjacent (x .held)) where
   -- the test of the bid by what the code found
-  tested : (rs : List Record) → near ≡ neighbours rs m → (eqb n m && bidWith rs m x v) ≡ (eqb n m && (x .bid && isFor (optionOf r) v))
+  tested : (rs : List Record) → adjacent ≡ neighbours rs m → (eqb n m && bidWith rs m x v) ≡ (eqb n m && (x .bid && isFor (optionOf r) v))
   unfolding bidWith
-  tested rs q = ap (λ (o : Option ℕ). eqb n m && (x .bid && isFor o v)) (sym (e ∙ missing-is near (x .held) rs m q))
+  tested rs q = ap (λ (o : Option ℕ). eqb n m && (x .bid && isFor o v)) (sym (e ∙ missing-is adjacent (x .held) rs m q))
 
-  taken : (rs : List Record) → near ≡ neighbours rs m → (t : Bool) → (eqb n m && (x .bid && isFor (optionOf r) v)) ≡ t
+  taken : (rs : List Record) → adjacent ≡ neighbours rs m → (t : Bool) → (eqb n m && (x .bid && isFor (optionOf r) v)) ≡ t
       → cond t (record { answer = Done; state = record { own = x .own; held = putBit (x .held) v true; received = bitOr (x .received) k; bid = false } }) (callRefused x 12 0) ≡ takenBy rs m x (Permit v n k)
   unfolding takenBy
   taken rs q t f = sym (simp (tested rs q ∙ f))
 
-  pub permit-none : {c : ModuleCalled} → r ≡ Nothing → c ≡ callRefused x 12 0 → (rs : List Record) → near ≡ neighbours rs m → c ≡ takenBy rs m x (Permit v n k)
+  pub permit-none : {c : ModuleCalled} → r ≡ Nothing → c ≡ callRefused x 12 0 → (rs : List Record) → adjacent ≡ neighbours rs m → c ≡ takenBy rs m x (Permit v n k)
   unfolding isFor
   permit-none f g rs q = g ∙ taken rs q false (ap (λ (y : Maybe). eqb n m && (x .bid && isFor (optionOf y) v)) f ∙ no-bid (eqb n m) (x .bid))
 
@@ -72,44 +72,44 @@ module _ (near m : ℕ) (x : Module) (v n k : ℕ) (r : Maybe) (e : optionOf r �
     unfolding isFor
     found t q = ap (λ (y : Maybe). eqb n m && (x .bid && isFor (optionOf y) v)) f ∙ q
 
-    pub permit-taken : {h : ℕ} → (eqb n m && (x .bid && eqb w v)) ≡ true → h ≡ putBit (x .held) v true → (rs : List Record) → near ≡ neighbours rs m
+    pub permit-taken : {h : ℕ} → (eqb n m && (x .bid && eqb w v)) ≡ true → h ≡ putBit (x .held) v true → (rs : List Record) → adjacent ≡ neighbours rs m
         → (record { answer = Done; state = record { own = x .own; held = h; received = bitOr (x .received) k; bid = false } }) ≡ takenBy rs m x (Permit v n k)
     permit-taken t g rs q =
         ap (λ (y : ℕ). record { answer = Done; state = record { own = x .own; held = y; received = bitOr (x .received) k; bid = false } }) g ∙ taken rs q true (found true t)
 
-    pub permit-other : {c : ModuleCalled} → (eqb n m && (x .bid && eqb w v)) ≡ false → c ≡ callRefused x 12 0 → (rs : List Record) → near ≡ neighbours rs m → c ≡ takenBy rs m x (Permit v n k)
+    pub permit-other : {c : ModuleCalled} → (eqb n m && (x .bid && eqb w v)) ≡ false → c ≡ callRefused x 12 0 → (rs : List Record) → adjacent ≡ neighbours rs m → c ≡ takenBy rs m x (Permit v n k)
     permit-other t g rs q = g ∙ taken rs q false (found false t)
 
 -- ---- a message
 
-module _ (near m : ℕ) (x : Module) {g : Message} {c : ModuleCalled} where
-  pub take-bid : {n v : ℕ} → g ≡ Bid n v → c ≡ callRefused x 12 0 → (rs : List Record) → near ≡ neighbours rs m → c ≡ takenBy rs m x g
+module _ (adjacent m : ℕ) (x : Module) {g : Message} {c : ModuleCalled} where
+  pub take-bid : {n v : ℕ} → g ≡ Bid n v → c ≡ callRefused x 12 0 → (rs : List Record) → adjacent ≡ neighbours rs m → c ≡ takenBy rs m x g
   unfolding takenBy
   take-bid e f rs q = f ∙ ap (takenBy rs m x) (sym e)
 
-  pub take-release : {n v o : ℕ} → g ≡ Release n v o → c ≡ callRefused x 12 0 → (rs : List Record) → near ≡ neighbours rs m → c ≡ takenBy rs m x g
+  pub take-release : {n v o : ℕ} → g ≡ Release n v o → c ≡ callRefused x 12 0 → (rs : List Record) → adjacent ≡ neighbours rs m → c ≡ takenBy rs m x g
   unfolding takenBy
   take-release e f rs q = f ∙ ap (takenBy rs m x) (sym e)
 
-  pub take-permit : {v n k : ℕ} → g ≡ Permit v n k → ((rs : List Record) → near ≡ neighbours rs m → c ≡ takenBy rs m x (Permit v n k)) → (rs : List Record) → near ≡ neighbours rs m
+  pub take-permit : {v n k : ℕ} → g ≡ Permit v n k → ((rs : List Record) → adjacent ≡ neighbours rs m → c ≡ takenBy rs m x (Permit v n k)) → (rs : List Record) → adjacent ≡ neighbours rs m
       → c ≡ takenBy rs m x g
   take-permit e f rs q = f rs q ∙ ap (takenBy rs m x) (sym e)
 
-module _ (rs : List Record) (m near : ℕ) (x : Module) {p : Parsed} where
-  pub hear-misshapen : {c : ModuleCalled} → p ≡ Misshapen → c ≡ callRefused x 10 0 → c ≡ deliverIn rs m x p
+module _ (rs : List Record) (m adjacent : ℕ) (x : Module) {p : Parsed} where
+  pub deliver-fitting-misshapen : {c : ModuleCalled} → p ≡ Misshapen → c ≡ callRefused x 10 0 → c ≡ deliverIn rs m x p
   unfolding deliverIn
-  hear-misshapen e f = f ∙ ap (deliverIn rs m x) (sym e)
+  deliver-fitting-misshapen e f = f ∙ ap (deliverIn rs m x) (sym e)
 
   module _ {g : Message} {t : Bool} (e : p ≡ Whole g) (f : t ≡ named rs g) where
     hears : cond t (takenBy rs m x g) (callRefused x 11 0) ≡ deliverIn rs m x p
     unfolding deliverIn
     hears = ap (λ (b : Bool). cond b (takenBy rs m x g) (callRefused x 11 0)) f ∙ ap (deliverIn rs m x) (sym e)
 
-    pub hear-named : {c : ModuleCalled} → near ≡ neighbours rs m → t ≡ true → ((rs : List Record) → near ≡ neighbours rs m → c ≡ takenBy rs m x g) → c ≡ deliverIn rs m x p
-    hear-named q h u = u rs q ∙ ap (λ (b : Bool). cond b (takenBy rs m x g) (callRefused x 11 0)) (sym h) ∙ hears
+    pub deliver-fitting-named : {c : ModuleCalled} → adjacent ≡ neighbours rs m → t ≡ true → ((rs : List Record) → adjacent ≡ neighbours rs m → c ≡ takenBy rs m x g) → c ≡ deliverIn rs m x p
+    deliver-fitting-named q h u = u rs q ∙ ap (λ (b : Bool). cond b (takenBy rs m x g) (callRefused x 11 0)) (sym h) ∙ hears
 
-    pub hear-unnamed : {c : ModuleCalled} → t ≡ false → c ≡ callRefused x 11 0 → c ≡ deliverIn rs m x p
-    hear-unnamed h u = u ∙ ap (λ (b : Bool). cond b (takenBy rs m x g) (callRefused x 11 0)) (sym h) ∙ hears
+    pub deliver-fitting-unnamed : {c : ModuleCalled} → t ≡ false → c ≡ callRefused x 11 0 → c ≡ deliverIn rs m x p
+    deliver-fitting-unnamed h u = u ∙ ap (λ (b : Bool). cond b (takenBy rs m x g) (callRefused x 11 0)) (sym h) ∙ hears
 
 pub absent-misshapen : (x : Module) {p : Parsed} {c : ModuleCalled} → p ≡ Misshapen → c ≡ callRefused x 10 0 → c ≡ absent x p
 unfolding absent
@@ -126,7 +126,7 @@ module _ (rs : List Record) (m : ℕ) (x : Module) {k : ℕ} {c : ModuleCalled} 
   unfolding deliverBy
   deliver-absent p l h = h ∙ lacking rs m x (deliverIn rs m x p) (callRefused x 9 0) (absent x p) e l
 
-  module _ {t : Bool} {near : ℕ} (l : m < k) (n : near ≡ neighbours rs m) (f : t ≡ fitsIn rs m near x) where
+  module _ {t : Bool} {adjacent : ℕ} (l : m < k) (n : adjacent ≡ neighbours rs m) (f : t ≡ fitsIn rs m adjacent x) where
     pub deliver-unfit : (p : Parsed) → t ≡ false → c ≡ callRefused x 9 0 → c ≡ deliverBy Accepted rs m x p
     unfolding deliverBy
     deliver-unfit p q h = h ∙ unfit rs m x (deliverIn rs m x p) (callRefused x 9 0) (absent x p) e l n f q

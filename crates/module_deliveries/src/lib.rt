@@ -27,10 +27,10 @@ fn hold(held: u32, v: u8) -> u32
 }
 
 // A permit of supervisor v for module n, with the mask k.
-fn take_permit(m: u8, near: u32, x: Module, v: u8, n: u8, k: u64) -> ModuleCalled
-    ensures { λ r. ⌜ ((rs : List Record) → near ≡ neighbours rs m → r ≡ takenBy rs m x (Permit v n k)) ⌝ }
+fn take_permit(m: u8, adjacent: u32, x: Module, v: u8, n: u8, k: u64) -> ModuleCalled
+    ensures { λ r. ⌜ ((rs : List Record) → adjacent ≡ neighbours rs m → r ≡ takenBy rs m x (Permit v n k)) ⌝ }
 {
-    let Maybe::Just(w) = holding::missing(near, x.held) else {
+    let Maybe::Just(w) = holding::missing(adjacent, x.held) else {
         return holding::refused(x, 12, 0);
     };
     if (n == m) & (x.bid & (w == v)) {
@@ -51,8 +51,8 @@ fn take_permit(m: u8, near: u32, x: Module, v: u8, n: u8, k: u64) -> ModuleCalle
 }
 
 // A message that names what the plan has.
-fn take(m: u8, near: u32, x: Module, g: Message) -> ModuleCalled
-    ensures { λ r. ⌜ ((rs : List Record) → near ≡ neighbours rs m → r ≡ takenBy rs m x g) ⌝ }
+fn take(m: u8, adjacent: u32, x: Module, g: Message) -> ModuleCalled
+    ensures { λ r. ⌜ ((rs : List Record) → adjacent ≡ neighbours rs m → r ≡ takenBy rs m x g) ⌝ }
 {
     match g {
         Message::Bid { .. } => holding::refused(x, 12, 0),
@@ -60,20 +60,20 @@ fn take(m: u8, near: u32, x: Module, g: Message) -> ModuleCalled
             supervisor,
             owner,
             mask,
-        } => take_permit(m, near, x, supervisor, owner, mask),
+        } => take_permit(m, adjacent, x, supervisor, owner, mask),
         Message::Release { .. } => holding::refused(x, 12, 0),
     }
 }
 
-fn hear(image: &[u8], m: u8, near: u32, x: Module, p: Parsed) -> ModuleCalled
-    requires { ⌜ near ≡ neighbours (recordsOf (now image)) m ⌝ }
+fn deliver_fitting(image: &[u8], m: u8, adjacent: u32, x: Module, p: Parsed) -> ModuleCalled
+    requires { ⌜ adjacent ≡ neighbours (recordsOf (now image)) m ⌝ }
     ensures { λ r. ⌜ r ≡ deliverIn (recordsOf (now (image .entry))) m x p ⌝ }
 {
     let Parsed::Whole(g) = p else {
         return holding::refused(x, 10, 0);
     };
     if permits::named(image, g) {
-        take(m, near, x, g)
+        take(m, adjacent, x, g)
     } else {
         holding::refused(x, 11, 0)
     }
@@ -93,9 +93,9 @@ fn deliver_in(image: &[u8], m: u8, x: Module, p: Parsed) -> ModuleCalled
     ensures { λ r. ⌜ r ≡ deliverBy Accepted (recordsOf (now (image .entry))) m x p ⌝ }
 {
     if m < plan::modules_of(image) {
-        let near = masks::neighbours(image, m);
-        if holding::fits(image, m, near, x) {
-            hear(image, m, near, x, p)
+        let adjacent = masks::neighbours(image, m);
+        if holding::fits(image, m, adjacent, x) {
+            deliver_fitting(image, m, adjacent, x, p)
         } else {
             holding::refused(x, 9, 0)
         }

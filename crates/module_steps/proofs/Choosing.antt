@@ -1,4 +1,4 @@
--- The choice of a step, from what the code is told: near are the neighbours, l says whether a permit is missing, w
+-- The choice of a step, from what the code is told: adjacent are the neighbours, l says whether a permit is missing, w
 -- whether the module has a wish.
 use mathlib.Core.Path.{_≡_, refl, sym, ap, ap₂, _∙_}
 use mathlib.Core.List.{List}
@@ -48,37 +48,37 @@ bids v n w false true q = refl
 bids v n true false false q = refl
 bids v n false false false q = absurd (true≢false q)
 
-module _ (rs : List Record) (m near : ℕ) (x : Module) {w : Bool} (e : near ≡ neighbours rs m) (g : w ≡ wish rs m (x .own)) where
+module _ (rs : List Record) (m adjacent : ℕ) (x : Module) {w : Bool} (e : adjacent ≡ neighbours rs m) (g : w ≡ wish rs m (x .own)) where
   abbrev lowest : Option ℕ
   lowest = missing rs m (x .held)
 
   -- the choice by the code's numbers
   abbrev by : Option ℕ → Choice
-  by o = choiceOn o (not (eqb near 0)) w (x .bid) (not (eqb (x .held) 0))
+  by o = choiceOn o (not (eqb adjacent 0)) w (x .bid) (not (eqb (x .held) 0))
 
   by-is : by lowest ≡ choice rs m x
   unfolding choice
   by-is = ap₂ (λ (n : ℕ) (b : Bool). choiceOn lowest (not (eqb n 0)) b (x .bid) (not (eqb (x .held) 0))) e g
 
-  pub bid-by : {r : Maybe} {v : ℕ} → optionOf r ≡ missingIn near (x .held) → r ≡ Just v → (x .bid || not (not (eqb (x .held) 0) || w)) ≡ false → bidsTo v ≡ choice rs m x
+  pub bid-by : {r : Maybe} {v : ℕ} → optionOf r ≡ missingIn adjacent (x .held) → r ≡ Just v → (x .bid || not (not (eqb (x .held) 0) || w)) ≡ false → bidsTo v ≡ choice rs m x
   bid-by {v = v} h t q =
-      bids v (not (eqb near 0)) w (x .bid) (not (eqb (x .held) 0)) q ∙ ap by (ap optionOf (sym t) ∙ h ∙ missing-is near (x .held) rs m e) ∙ by-is
+      bids v (not (eqb adjacent 0)) w (x .bid) (not (eqb (x .held) 0)) q ∙ ap by (ap optionOf (sym t) ∙ h ∙ missing-is adjacent (x .held) rs m e) ∙ by-is
 
   module _ {l : Bool} (u : heldFits rs m (x .held) ≡ true)
-      (f : Lacking near (x .held) l) where
+      (f : Lacking adjacent (x .held) l) where
     is : isSome lowest ≡ l
-    is = sym (f .is (ap (λ (n : ℕ). heldIn n (x .held)) e ∙ u) ∙ ap isSome (missing-is near (x .held) rs m e))
+    is = sym (f .is (ap (λ (n : ℕ). heldIn n (x .held)) e ∙ u) ∙ ap isSome (missing-is adjacent (x .held) rs m e))
 
-    pub turn-by : l ≡ false → (not (eqb near 0) || w) ≡ true → takesTurn ≡ choice rs m x
-    turn-by p q = turns lowest (not (eqb near 0)) w (x .bid) (not (eqb (x .held) 0)) (is ∙ p) q ∙ by-is
+    pub turn-by : l ≡ false → (not (eqb adjacent 0) || w) ≡ true → takesTurn ≡ choice rs m x
+    turn-by p q = turns lowest (not (eqb adjacent 0)) w (x .bid) (not (eqb (x .held) 0)) (is ∙ p) q ∙ by-is
 
-    pub rest-by : l ≡ false → (not (eqb near 0) || w) ≡ false → waits ≡ choice rs m x
-    rest-by p q = rests lowest (not (eqb near 0)) w (x .bid) (not (eqb (x .held) 0)) (is ∙ p) q ∙ by-is
+    pub rest-by : l ≡ false → (not (eqb adjacent 0) || w) ≡ false → waits ≡ choice rs m x
+    rest-by p q = rests lowest (not (eqb adjacent 0)) w (x .bid) (not (eqb (x .held) 0)) (is ∙ p) q ∙ by-is
 
     pub stand-by : l ≡ true → (x .bid || not (not (eqb (x .held) 0) || w)) ≡ true → waits ≡ choice rs m x
-    stand-by p q = stands lowest (not (eqb near 0)) w (x .bid) (not (eqb (x .held) 0)) (is ∙ p) q ∙ by-is
+    stand-by p q = stands lowest (not (eqb adjacent 0)) w (x .bid) (not (eqb (x .held) 0)) (is ∙ p) q ∙ by-is
 
     -- where a permit is missing there is a lowest
-    pub none-by : {r : Maybe} → l ≡ true → optionOf r ≡ missingIn near (x .held) → r ≡ Nothing → waits ≡ choice rs m x
+    pub none-by : {r : Maybe} → l ≡ true → optionOf r ≡ missingIn adjacent (x .held) → r ≡ Nothing → waits ≡ choice rs m x
     none-by p h t =
-        absurd (true≢false (sym p ∙ sym is ∙ ap isSome (sym (h ∙ missing-is near (x .held) rs m e)) ∙ ap (λ (y : Maybe). isSome (optionOf y)) t))
+        absurd (true≢false (sym p ∙ sym is ∙ ap isSome (sym (h ∙ missing-is adjacent (x .held) rs m e)) ∙ ap (λ (y : Maybe). isSome (optionOf y)) t))

@@ -63,7 +63,7 @@ module _ (rs : List Record) (m : ℕ) (x : Module) (b : List ℕ) {t : Turned} {
       simp (room ∙ ap not h)
       (subst (Gave (stepRefused x b 15 0) (r .answer) (r .state)) (sym (wrote .buffer ∙ ap (λ (y : Bool). cond y (written released b) b) h)) (refuses x b 15 0 g))
 
-  pub turn-taken : {near n : ℕ} → f ≡ true → near ≡ neighbours rs m → n ≡ 4 * ones near
+  pub turn-taken : {adjacent n : ℕ} → f ≡ true → adjacent ≡ neighbours rs m → n ≡ 4 * ones adjacent
       → Gave (stepIn rs m x b takesTurn) (Turns (t .turn) n) (record { own = t .own; held = 0; received = 0; bid = x .bid }) after
   unfolding stepIn sentBy answerBy stateBy
   turn-taken h q g =
@@ -133,7 +133,7 @@ module _ (image : List ℕ) (m : ℕ) (x : Module) (b : List ℕ) {d : Verdict} 
     unfolding stepBy
     step-absent l h = gives (lacking rs m x acted (stepRefused x b 9 0) (stepRefused x b 11 0) c l ∙ by f) (refuses x b 11 0 h)
 
-    module _ {t : Bool} {near : ℕ} (l : m < k) (n : near ≡ neighbours (recordsOf image) m) (g : t ≡ fitsIn (recordsOf image) m near x) where
+    module _ {t : Bool} {adjacent : ℕ} (l : m < k) (n : adjacent ≡ neighbours (recordsOf image) m) (g : t ≡ fitsIn (recordsOf image) m adjacent x) where
       pub step-unfit : {r : ModuleStepped} → t ≡ false → r ≡ (record { answer = StepRefused 9 0; state = x }) → Gave (moduleStep image m x b) (r .answer) (r .state) b
       unfolding stepBy
       step-unfit q h = gives (unfit rs m x acted (stepRefused x b 9 0) (stepRefused x b 11 0) c l n g q ∙ by f) (refuses x b 9 0 h)

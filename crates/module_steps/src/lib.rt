@@ -31,8 +31,8 @@ fn step_refused(x: Module, n: u8, at: usize) -> ModuleStepped
     }
 }
 
-fn choose(image: &[u8], m: u8, near: u32, x: Module) -> Chosen
-    requires { ⌜ near ≡ neighbours (recordsOf (now image)) m ⌝ }
+fn choose(image: &[u8], m: u8, adjacent: u32, x: Module) -> Chosen
+    requires { ⌜ adjacent ≡ neighbours (recordsOf (now image)) m ⌝ }
     requires { ⌜ heldFits (recordsOf (now image)) m (x .held) ≡ true ⌝ }
     ensures { λ r. ⌜ choiceOf r ≡ choice (recordsOf (now (image .entry))) m x ⌝ }
 {
@@ -40,16 +40,16 @@ fn choose(image: &[u8], m: u8, near: u32, x: Module) -> Chosen
     let held = x.held;
     let bid = x.bid;
     let wish = turns::wish(image, m, own);
-    if holding::lacks(near, held) {
+    if holding::lacks(adjacent, held) {
         if bid | !((held != 0) | wish) {
             return Chosen::Wait;
         }
-        let Maybe::Just(v) = holding::missing(near, held) else {
+        let Maybe::Just(v) = holding::missing(adjacent, held) else {
             return Chosen::Wait;
         };
         Chosen::Bid(v)
     } else {
-        if (near != 0) | wish {
+        if (adjacent != 0) | wish {
             Chosen::Turn
         } else {
             Chosen::Wait
@@ -58,15 +58,15 @@ fn choose(image: &[u8], m: u8, near: u32, x: Module) -> Chosen
 }
 
 // A turn over the masks received, which releases every permit.
-fn take_turn(image: &[u8], m: u8, near: u32, x: Module, buffer: &mut [u8]) -> ModuleStepped
-    requires { ⌜ near ≡ neighbours (recordsOf (now image)) m ⌝ }
+fn take_turn(image: &[u8], m: u8, adjacent: u32, x: Module, buffer: &mut [u8]) -> ModuleStepped
+    requires { ⌜ adjacent ≡ neighbours (recordsOf (now image)) m ⌝ }
     ensures { λ r. ⌜ Gave (stepIn (recordsOf (now (image .entry))) m x (now (buffer .entry)) takesTurn) (r .answer) (r .state) (now (buffer .exit)) ⌝ }
 {
     let own = x.own;
     let t = turns::turn(image, m, x.received, own);
     let did = t.turn;
     if releasing::release(image, m, did, &mut *buffer) {
-        let n = releasing::length_of(near);
+        let n = releasing::length_of(adjacent);
         let after = t.own;
         let mut state = x;
         state.own = after;
@@ -101,13 +101,13 @@ fn bid(m: u8, v: u8, x: Module, buffer: &mut [u8]) -> ModuleStepped
     }
 }
 
-fn act(image: &[u8], m: u8, near: u32, x: Module, buffer: &mut [u8]) -> ModuleStepped
-    requires { ⌜ near ≡ neighbours (recordsOf (now image)) m ⌝ }
+fn act(image: &[u8], m: u8, adjacent: u32, x: Module, buffer: &mut [u8]) -> ModuleStepped
+    requires { ⌜ adjacent ≡ neighbours (recordsOf (now image)) m ⌝ }
     requires { ⌜ heldFits (recordsOf (now image)) m (x .held) ≡ true ⌝ }
     ensures { λ r. ⌜ Gave (stepIn (recordsOf (now (image .entry))) m x (now (buffer .entry)) (choice (recordsOf (now (image .entry))) m x)) (r .answer) (r .state) (now (buffer .exit)) ⌝ }
 {
-    match choose(image, m, near, x) {
-        Chosen::Turn => take_turn(image, m, near, x, buffer),
+    match choose(image, m, adjacent, x) {
+        Chosen::Turn => take_turn(image, m, adjacent, x, buffer),
         Chosen::Bid(to) => bid(m, to, x, buffer),
         Chosen::Wait => ModuleStepped {
             answer: Stepped::Waits,
@@ -123,9 +123,9 @@ pub fn step(image: &[u8], m: u8, x: Module, buffer: &mut [u8]) -> ModuleStepped
     match checker::check(image) {
         Verdict::Accepted => {
             if m < plan::modules_of(image) {
-                let near = masks::neighbours(image, m);
-                if holding::fits(image, m, near, x) {
-                    act(image, m, near, x, buffer)
+                let adjacent = masks::neighbours(image, m);
+                if holding::fits(image, m, adjacent, x) {
+                    act(image, m, adjacent, x, buffer)
                 } else {
                     step_refused(x, 9, 0)
                 }

@@ -22,8 +22,8 @@ use Rattle.reader.specs.declared.Found.the-variants.{It, Missing}
 use Rattle.rules.specs.LookUp.{field3, wordField, found, fieldOf}
 use Rattle.rules.proofs.Valid.{both}
 use Rattle.plan.specs.Plan.{counts, counting, stepIn, operationOf, operandOf}
-use Rattle.modules.specs.declared.Work.{Work}
-use Rattle.modules.specs.Work.{workOf}
+use Rattle.modules.specs.declared.StepFields.{StepFields}
+use Rattle.modules.specs.StepFields.{stepFieldsOf}
 
 -- what a look-up finds has the kind and key
 found-key : (p : RecordKey) (rs : List Record) (r : Record) → findIn p rs ≡ It r → T (sameKey (keyOf r) p)
@@ -71,15 +71,15 @@ module _ (rs : List Record) (e i : ℕ) where
   -- ---- what the code is told of a step
 
   module _ {y : Found} (p : y ≡ stepIn rs e i) where
-    pub no-step : {w : Work} → y ≡ Missing → w ≡ record { there = false; operation = 0; operand = 0 } → w ≡ workOf rs e i
+    pub no-step : {w : StepFields} → y ≡ Missing → w ≡ record { present = false; operation = 0; operand = 0 } → w ≡ stepFieldsOf rs e i
     unfolding found fieldOf
-    no-step q z = z ∙ ap (λ (f : Found). record { there = found f; operation = fieldOf field3 f; operand = fieldOf wordField f }) (sym q ∙ p)
+    no-step q z = z ∙ ap (λ (f : Found). record { present = found f; operation = fieldOf field3 f; operand = fieldOf wordField f }) (sym q ∙ p)
 
-    pub a-step : {r : Record} {a b o x : ℕ} → y ≡ It r → r ≡ Step a b o x → record { there = true; operation = o; operand = x } ≡ workOf rs e i
+    pub a-step : {r : Record} {a b o x : ℕ} → y ≡ It r → r ≡ Step a b o x → record { present = true; operation = o; operand = x } ≡ stepFieldsOf rs e i
     unfolding found fieldOf field3 wordField
-    a-step {r} {a} {b} {o} {x} q s = ap (λ (f : Found). record { there = found f; operation = fieldOf field3 f; operand = fieldOf wordField f }) (ap It (sym s) ∙ sym q ∙ p)
+    a-step {r} {a} {b} {o} {x} q s = ap (λ (f : Found). record { present = found f; operation = fieldOf field3 f; operand = fieldOf wordField f }) (ap It (sym s) ∙ sym q ∙ p)
 
-    pub not-a-step : {r : Record} {w : Work} → y ≡ It r → OneOf (0 ∷ 1 ∷ 2 ∷ 3 ∷ 4 ∷ 5 ∷ 6 ∷ 8 ∷ []) (tagOf the-type r) → w ≡ workOf rs e i
+    pub not-a-step : {r : Record} {w : StepFields} → y ≡ It r → OneOf (0 ∷ 1 ∷ 2 ∷ 3 ∷ 4 ∷ 5 ∷ 6 ∷ 8 ∷ []) (tagOf the-type r) → w ≡ stepFieldsOf rs e i
     not-a-step {r} q o =
         let s = step-found r (sym p ∙ q) .0 in
         absurd (miss (0 ∷ 1 ∷ 2 ∷ 3 ∷ 4 ∷ 5 ∷ 6 ∷ 8 ∷ []) 7 tt (subst (λ (t : Record). OneOf (0 ∷ 1 ∷ 2 ∷ 3 ∷ 4 ∷ 5 ∷ 6 ∷ 8 ∷ []) (tagOf the-type t)) (sym s) o))

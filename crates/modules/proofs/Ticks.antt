@@ -18,29 +18,29 @@ use Rattle.water.specs.declared.Flow.{Flow}
 use Rattle.water.proofs.Laws.{reading-exact}
 use Rattle.modules.specs.declared.Own.{Own}
 use Rattle.modules.specs.declared.Procedure.{Procedure}
-use Rattle.modules.specs.declared.Work.{Work}
+use Rattle.modules.specs.declared.StepFields.{StepFields}
 use Rattle.modules.specs.Queue.{full, queued}
-use Rattle.modules.specs.Procedure.{idle, arriveAt, withProcedure, withOutputs, onward, counted, withWater, outputOn, outputOff, poured, performed, ticked, taken, refused, tickOf}
-use Rattle.modules.specs.Work.{workOf}
+use Rattle.modules.specs.Procedure.{idle, arriveAt, withProcedure, withOutputs, advanced, counted, withWater, outputOn, outputOff, metered, performed, ticked, taken, refused, tickOf}
+use Rattle.modules.specs.StepFields.{stepFieldsOf}
 use Rattle.modules.proofs.Steps.{step-counts}
 
 -- ---- arriving at a step
 
-module _ (rs : List Record) (e i : ℕ) {w : Work} (p : w ≡ workOf rs e i) where
-  pub arrived-by : {v : Water} → w .there ≡ true → v ≡ cond (eqb (w .operation) 4) (waterOf (w .operand)) noWater
+module _ (rs : List Record) (e i : ℕ) {w : StepFields} (p : w ≡ stepFieldsOf rs e i) where
+  pub arrived-by : {v : Water} → w .present ≡ true → v ≡ cond (eqb (w .operation) 4) (waterOf (w .operand)) noWater
       → record { running = true; event = e; index = i; count = 0; water = v } ≡ arriveAt rs e i
   unfolding arriveAt
   arrived-by {v} h q =
-      simp (sym (ap (λ (u : Work). u .there) p) ∙ h)
+      simp (sym (ap (λ (u : StepFields). u .present) p) ∙ h)
       (ap (λ (u : Water). record { running = true; event = e; index = i; count = 0; water = u })
-      (q ∙ ap (λ (u : Work). cond (eqb (u .operation) 4) (waterOf (u .operand)) noWater) p))
+      (q ∙ ap (λ (u : StepFields). cond (eqb (u .operation) 4) (waterOf (u .operand)) noWater) p))
 
-  pub arrived-idle : {q : Procedure} → w .there ≡ false → q ≡ idle → q ≡ arriveAt rs e i
+  pub arrived-idle : {q : Procedure} → w .present ≡ false → q ≡ idle → q ≡ arriveAt rs e i
   unfolding arriveAt
-  arrived-idle h q = simp (sym (ap (λ (u : Work). u .there) p) ∙ h) q
+  arrived-idle h q = simp (sym (ap (λ (u : StepFields). u .present) p) ∙ h) q
 
-pub onward-by : (rs : List Record) (own : Own) {p : Procedure} → p ≡ arriveAt rs (own .procedure .event) (own .procedure .index + 1) → withProcedure own p ≡ onward rs own
-onward-by rs own h = ap (withProcedure own) (h ∙ ap (arriveAt rs (own .procedure .event)) (add-one (own .procedure .index)))
+pub advanced-by : (rs : List Record) (own : Own) {p : Procedure} → p ≡ arriveAt rs (own .procedure .event) (own .procedure .index + 1) → withProcedure own p ≡ advanced rs own
+advanced-by rs own h = ap (withProcedure own) (h ∙ ap (arriveAt rs (own .procedure .event)) (add-one (own .procedure .index)))
 
 -- the index after a change elsewhere
 pub kept-small : (own : Own) (o : ℕ) {next : Own} → next ≡ withOutputs own o → own .procedure .index < 64 → next .procedure .index < 64
@@ -63,79 +63,79 @@ module _ (rs : List Record) (x : ℕ) (own : Own) where
 
   pub wait-goes : n + 1 < x
       → withProcedure own (record { running = true; event = own .procedure .event; index = own .procedure .index; count = n + 1; water = own .procedure .water })
-      ≡ cond (ltb (suc n) x) (counted own) (onward rs own)
+      ≡ cond (ltb (suc n) x) (counted own) (advanced rs own)
   wait-goes h = rw (lt-ltb (suc n) x (omega arith), add-one n)
 
-  pub wait-ends : {r : Own} → x ≤ n + 1 → r ≡ onward rs own → r ≡ cond (ltb (suc n) x) (counted own) (onward rs own)
+  pub wait-ends : {r : Own} → x ≤ n + 1 → r ≡ advanced rs own → r ≡ cond (ltb (suc n) x) (counted own) (advanced rs own)
   wait-ends h q = simp (le-ltb (suc n) x (omega arith)) q
 
 module _ (rs : List Record) (x : ℕ) (f : Flow) (own : Own) {b : Bool} (p : b ≡ running x (own .procedure .water)) where
-  pub pour-none : b ≡ false → own ≡ cond (running x (own .procedure .water)) (poured rs f own) own
+  pub pour-none : b ≡ false → own ≡ cond (running x (own .procedure .water)) (metered rs f own) own
   pour-none h = simp (sym p ∙ h)
 
   module _ (h : b ≡ true) (k : flowOk f ≡ true) {v : Water} (s : Summed (own .procedure .water) f v) {t : Bool} (c : Compared v t) where
     exact : (v ≡ added (own .procedure .water) f) × (t ≡ reached (added (own .procedure .water) f))
     exact = reading-exact x (own .procedure .water) v f t (sym p ∙ h) k s c
 
-    picked : (r : Own) → r ≡ cond t (onward rs own) (withWater own v) → r ≡ cond (running x (own .procedure .water)) (poured rs f own) own
+    picked : (r : Own) → r ≡ cond t (advanced rs own) (withWater own v) → r ≡ cond (running x (own .procedure .water)) (metered rs f own) own
     picked r q =
-        q ∙ ap₂ (λ (b : Bool) (u : Water). cond b (onward rs own) (withWater own u)) (exact .1) (exact .0)
-        ∙ sym (ap (λ (b : Bool). cond b (poured rs f own) own) (sym p ∙ h))
+        q ∙ ap₂ (λ (b : Bool) (u : Water). cond b (advanced rs own) (withWater own u)) (exact .1) (exact .0)
+        ∙ sym (ap (λ (b : Bool). cond b (metered rs f own) own) (sym p ∙ h))
 
-    pub pour-ends : {r : Own} → t ≡ true → r ≡ onward rs own → r ≡ cond (running x (own .procedure .water)) (poured rs f own) own
-    pour-ends {r} q z = picked r (z ∙ sym (ap (λ (b : Bool). cond b (onward rs own) (withWater own v)) q))
+    pub pour-ends : {r : Own} → t ≡ true → r ≡ advanced rs own → r ≡ cond (running x (own .procedure .water)) (metered rs f own) own
+    pour-ends {r} q z = picked r (z ∙ sym (ap (λ (b : Bool). cond b (advanced rs own) (withWater own v)) q))
 
-    pub pour-goes : t ≡ false → withWater own v ≡ cond (running x (own .procedure .water)) (poured rs f own) own
-    pour-goes q = picked (withWater own v) (sym (ap (λ (b : Bool). cond b (onward rs own) (withWater own v)) q))
+    pub pour-goes : t ≡ false → withWater own v ≡ cond (running x (own .procedure .water)) (metered rs f own) own
+    pour-goes q = picked (withWater own v) (sym (ap (λ (b : Bool). cond b (advanced rs own) (withWater own v)) q))
 
 -- ---- respond
 
 module _ (rs : List Record) (x : ℕ) (own : Own) where
-  pub answer-full : 8 ≤ own .length → own ≡ cond (full own) own (onward rs (queued own x))
+  pub answer-full : 8 ≤ own .length → own ≡ cond (full own) own (advanced rs (queued own x))
   answer-full h = simp (le-leb 8 (own .length) h)
 
-  pub answer-queued : {next r : Own} → own .length < 8 → next ≡ queued own x → r ≡ onward rs next → r ≡ cond (full own) own (onward rs (queued own x))
-  answer-queued h p q = simp (lt-leb 8 (own .length) h) (q ∙ ap (onward rs) p)
+  pub answer-queued : {next r : Own} → own .length < 8 → next ≡ queued own x → r ≡ advanced rs next → r ≡ cond (full own) own (advanced rs (queued own x))
+  answer-queued h p q = simp (lt-leb 8 (own .length) h) (q ∙ ap (advanced rs) p)
 
 -- ---- the operations
 
 module _ (rs : List Record) (o x : ℕ) (f : Flow) (own : Own) {r : Own} where
-  pub performs-on : {next : Own} → o ≡ 1 → next ≡ withOutputs own (outputOn (own .outputs) x) → r ≡ onward rs next → r ≡ performed rs o x f own
+  pub performs-on : {next : Own} → o ≡ 1 → next ≡ withOutputs own (outputOn (own .outputs) x) → r ≡ advanced rs next → r ≡ performed rs o x f own
   unfolding performed
-  performs-on q p h = h ∙ ap (onward rs) p ∙ rw q
+  performs-on q p h = h ∙ ap (advanced rs) p ∙ rw q
 
-  pub performs-off : {next : Own} → o ≡ 2 → next ≡ withOutputs own (outputOff (own .outputs) x) → r ≡ onward rs next → r ≡ performed rs o x f own
+  pub performs-off : {next : Own} → o ≡ 2 → next ≡ withOutputs own (outputOff (own .outputs) x) → r ≡ advanced rs next → r ≡ performed rs o x f own
   unfolding performed
-  performs-off q p h = h ∙ ap (onward rs) p ∙ rw q
+  performs-off q p h = h ∙ ap (advanced rs) p ∙ rw q
 
-  pub performs-wait : o ≡ 3 → r ≡ cond (ltb (suc (own .procedure .count)) x) (counted own) (onward rs own) → r ≡ performed rs o x f own
+  pub performs-wait : o ≡ 3 → r ≡ cond (ltb (suc (own .procedure .count)) x) (counted own) (advanced rs own) → r ≡ performed rs o x f own
   unfolding performed
   performs-wait q h = h ∙ rw q
 
-  pub performs-pour : o ≡ 4 → r ≡ cond (running x (own .procedure .water)) (poured rs f own) own → r ≡ performed rs o x f own
+  pub performs-pour : o ≡ 4 → r ≡ cond (running x (own .procedure .water)) (metered rs f own) own → r ≡ performed rs o x f own
   unfolding performed
   performs-pour q h = h ∙ rw q
 
-  pub performs-answer : (o ≡ 1 → ⊥) → (o ≡ 2 → ⊥) → (o ≡ 3 → ⊥) → (o ≡ 4 → ⊥) → r ≡ cond (full own) own (onward rs (queued own x)) → r ≡ performed rs o x f own
+  pub performs-answer : (o ≡ 1 → ⊥) → (o ≡ 2 → ⊥) → (o ≡ 3 → ⊥) → (o ≡ 4 → ⊥) → r ≡ cond (full own) own (advanced rs (queued own x)) → r ≡ performed rs o x f own
   unfolding performed
   performs-answer a b c d h = h ∙ simp (ne-eqb o 1 a, ne-eqb o 2 b, ne-eqb o 3 c, ne-eqb o 4 d)
 
 -- ---- a tick
 
-module _ (rs : List Record) (f : Flow) (own : Own) {w : Work} (p : w ≡ workOf rs (own .procedure .event) (own .procedure .index)) where
-  ran : ticked rs f own ≡ cond (own .procedure .running && w .there) (performed rs (w .operation) (w .operand) f own) own
-  ran = ap (λ (u : Work). cond (own .procedure .running && u .there) (performed rs (u .operation) (u .operand) f own) own) (sym p)
+module _ (rs : List Record) (f : Flow) (own : Own) {w : StepFields} (p : w ≡ stepFieldsOf rs (own .procedure .event) (own .procedure .index)) where
+  ran : ticked rs f own ≡ cond (own .procedure .running && w .present) (performed rs (w .operation) (w .operand) f own) own
+  ran = ap (λ (u : StepFields). cond (own .procedure .running && u .present) (performed rs (u .operation) (u .operand) f own) own) (sym p)
 
-  pub ticked-by : {r : Own} → (own .procedure .running && w .there) ≡ true → r ≡ performed rs (w .operation) (w .operand) f own → r ≡ ticked rs f own
+  pub ticked-by : {r : Own} → (own .procedure .running && w .present) ≡ true → r ≡ performed rs (w .operation) (w .operand) f own → r ≡ ticked rs f own
   ticked-by h q = q ∙ sym (ran ∙ ap (λ (b : Bool). cond b (performed rs (w .operation) (w .operand) f own) own) h)
 
-  pub ticked-none : (own .procedure .running && w .there) ≡ false → own ≡ ticked rs f own
+  pub ticked-none : (own .procedure .running && w .present) ≡ false → own ≡ ticked rs f own
   ticked-none h = sym (ran ∙ ap (λ (b : Bool). cond b (performed rs (w .operation) (w .operand) f own) own) h)
 
-  pub may-perform : (own .procedure .running && w .there) ≡ true → counts (Step (own .procedure .event) (own .procedure .index) (w .operation) (w .operand)) ≡ true
+  pub may-perform : (own .procedure .running && w .present) ≡ true → counts (Step (own .procedure .event) (own .procedure .index) (w .operation) (w .operand)) ≡ true
   may-perform h =
-      ap (λ (u : Work). counts (Step (own .procedure .event) (own .procedure .index) (u .operation) (u .operand))) p
-      ∙ step-counts rs (own .procedure .event) (own .procedure .index) (sym (ap (λ (u : Work). u .there) p) ∙ second (own .procedure .running) (w .there) h)
+      ap (λ (u : StepFields). counts (Step (own .procedure .event) (own .procedure .index) (u .operation) (u .operand))) p
+      ∙ step-counts rs (own .procedure .event) (own .procedure .index) (sym (ap (λ (u : StepFields). u .present) p) ∙ second (own .procedure .running) (w .present) h)
     where
       second : (a b : Bool) → (a && b) ≡ true → b ≡ true
       second true b h = h

@@ -2,5 +2,5 @@ pub mod Queue
 pub mod Procedure
 pub mod Turn
 pub mod Fits
-pub mod Work
+pub mod StepFields
 pub mod Numbers

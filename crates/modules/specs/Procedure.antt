@@ -37,8 +37,8 @@ abbrev pub withOutputs : Own → ℕ → Own
 withOutputs own o = record { state = own .state; queue = own .queue; length = own .length; procedure = own .procedure; outputs = o }
 
 -- on to the next step of the event
-abbrev pub onward : List Record → Own → Own
-onward rs own = withProcedure own (arriveAt rs (own .procedure .event) (suc (own .procedure .index)))
+abbrev pub advanced : List Record → Own → Own
+advanced rs own = withProcedure own (arriveAt rs (own .procedure .event) (suc (own .procedure .index)))
 
 -- one tick more of a wait, and a litres step's water
 abbrev pub counted : Own → Own
@@ -59,19 +59,19 @@ abbrev pub outputOff : ℕ → ℕ → ℕ
 outputOff o i = bitAnd o (2 ^ 32 - 1 - 2 ^ i)
 
 -- the reading added, or the step ended
-abbrev pub poured : List Record → Flow → Own → Own
-poured rs f own = cond (reached (added (own .procedure .water) f)) (onward rs own) (withWater own (added (own .procedure .water) f))
+abbrev pub metered : List Record → Flow → Own → Own
+metered rs f own = cond (reached (added (own .procedure .water) f)) (advanced rs own) (withWater own (added (own .procedure .water) f))
 
 -- "A tick .. performs one step, or one tick of a wait." The step has operation o and operand x.
 -- 3: "A wait of n ends at its nth tick." 4: the reading is added to the water of the running step, and "the step ends when it reaches the
 -- target". 5: "Respond stays put while the queue is full."
 unfoldable pub performed : List Record → ℕ → ℕ → Flow → Own → Own
 performed rs o x f own =
-    cond (eqb o 1) (onward rs (withOutputs own (outputOn (own .outputs) x)))
-    (cond (eqb o 2) (onward rs (withOutputs own (outputOff (own .outputs) x)))
-    (cond (eqb o 3) (cond (ltb (suc (own .procedure .count)) x) (counted own) (onward rs own))
-    (cond (eqb o 4) (cond (running x (own .procedure .water)) (poured rs f own) own)
-    (cond (full own) own (onward rs (queued own x))))))
+    cond (eqb o 1) (advanced rs (withOutputs own (outputOn (own .outputs) x)))
+    (cond (eqb o 2) (advanced rs (withOutputs own (outputOff (own .outputs) x)))
+    (cond (eqb o 3) (cond (ltb (suc (own .procedure .count)) x) (counted own) (advanced rs own))
+    (cond (eqb o 4) (cond (running x (own .procedure .water)) (metered rs f own) own)
+    (cond (full own) own (advanced rs (queued own x))))))
 
 abbrev pub ticked : List Record → Flow → Own → Own
 ticked rs f own =

@@ -11,7 +11,7 @@ ghost use Rattle.water.specs.Water.{flowOk, noWater, waterOf};
 ghost use Rattle.modules.specs.Queue.{queueOf, places, full, withQueue, queued};
 ghost use Rattle.modules.specs.Procedure.{idle, arriveAt, withOutputs, outputOn, outputOff, counted, calledBy, respondOf, tickOf};
 ghost use Rattle.modules.specs.Procedure as Steps;
-ghost use Rattle.modules.specs.Work.{workOf};
+ghost use Rattle.modules.specs.StepFields.{stepFieldsOf};
 ghost use Rattle.modules.specs.Turn.{emptyOwn, startOwn};
 use reader::Found;
 use records::Record;
@@ -183,27 +183,27 @@ fn idle() -> Procedure
 }
 
 // Whether an event has a step of an index, and its operation and operand.
-pub struct Work {
-    pub there: bool,
+pub struct StepFields {
+    pub present: bool,
     pub operation: u8,
     pub operand: u64,
 }
 
-fn no_work() -> Work
-    ensures { λ w. ⌜ w ≡ record { there = false; operation = 0; operand = 0 } ⌝ }
+fn no_fields() -> StepFields
+    ensures { λ w. ⌜ w ≡ record { present = false; operation = 0; operand = 0 } ⌝ }
 {
-    Work {
-        there: false,
+    StepFields {
+        present: false,
         operation: 0,
         operand: 0,
     }
 }
 
-pub fn work_of(image: &[u8], e: u8, i: u8) -> Work
-    ensures { λ w. ⌜ w ≡ workOf (recordsOf (now (image .entry))) e i ⌝ }
+pub fn step_fields(image: &[u8], e: u8, i: u8) -> StepFields
+    ensures { λ w. ⌜ w ≡ stepFieldsOf (recordsOf (now (image .entry))) e i ⌝ }
 {
     let Found::It(r) = plan::step(image, e, i) else {
-        return no_work();
+        return no_fields();
     };
     // No other record is found by the key of a step.
     let Record::Step {
@@ -213,10 +213,10 @@ pub fn work_of(image: &[u8], e: u8, i: u8) -> Work
         operand,
     } = r
     else {
-        return no_work();
+        return no_fields();
     };
-    Work {
-        there: true,
+    StepFields {
+        present: true,
         operation,
         operand,
     }
@@ -237,8 +237,8 @@ fn water_at(o: u8, x: u64) -> Water
 pub fn arrive_at(image: &[u8], e: u8, i: u8) -> Procedure
     ensures { λ r. ⌜ r ≡ arriveAt (recordsOf (now (image .entry))) e i ⌝ }
 {
-    let w = work_of(image, e, i);
-    if w.there {
+    let w = step_fields(image, e, i);
+    if w.present {
         let v = water_at(w.operation, w.operand);
         Procedure {
             running: true,
@@ -253,9 +253,9 @@ pub fn arrive_at(image: &[u8], e: u8, i: u8) -> Procedure
 }
 
 // On to the next step of the event.
-fn onward(image: &[u8], own: Own) -> Own
+fn advanced(image: &[u8], own: Own) -> Own
     requires { ⌜ own .procedure .index < 64 ⌝ }
-    ensures { λ r. ⌜ r ≡ Steps.onward (recordsOf (now (image .entry))) own ⌝ }
+    ensures { λ r. ⌜ r ≡ Steps.advanced (recordsOf (now (image .entry))) own ⌝ }
 {
     let p = own.procedure;
     let after = arrive_at(image, p.event, p.index + 1);
@@ -284,7 +284,7 @@ fn switched(own: Own, x: u64, on: bool) -> Own
 fn waited(image: &[u8], x: u64, own: Own) -> Own
     requires { ⌜ own .procedure .index < 64 ⌝ }
     requires { ⌜ x < 65536 ⌝ }
-    ensures { λ r. ⌜ r ≡ cond (ltb (suc (own .procedure .count)) x) (counted own) (Steps.onward (recordsOf (now (image .entry))) own) ⌝ }
+    ensures { λ r. ⌜ r ≡ cond (ltb (suc (own .procedure .count)) x) (counted own) (Steps.advanced (recordsOf (now (image .entry))) own) ⌝ }
 {
     let mut p = own.procedure;
     let n = p.count as u64 + 1;
@@ -295,22 +295,22 @@ fn waited(image: &[u8], x: u64, own: Own) -> Own
         next.procedure = p;
         next
     } else {
-        onward(image, own)
+        advanced(image, own)
     }
 }
 
 // One reading of a wait for litres, by the bits x of its target.
-fn poured(image: &[u8], x: u64, f: Flow, own: Own) -> Own
+fn metered(image: &[u8], x: u64, f: Flow, own: Own) -> Own
     requires { ⌜ own .procedure .index < 64 ⌝ }
     requires { ⌜ flowOk f ≡ true ⌝ }
-    ensures { λ r. ⌜ r ≡ cond (Rules.running x (own .procedure .water)) (Steps.poured (recordsOf (now (image .entry))) f own) own ⌝ }
+    ensures { λ r. ⌜ r ≡ cond (Rules.running x (own .procedure .water)) (Steps.metered (recordsOf (now (image .entry))) f own) own ⌝ }
 {
     let mut p = own.procedure;
     let w = p.water;
     if water::running(x, w) {
         let v = water::updated(w, f);
         if water::reached(v) {
-            onward(image, own)
+            advanced(image, own)
         } else {
             p.running = true;
             p.water = v;
@@ -324,17 +324,17 @@ fn poured(image: &[u8], x: u64, f: Flow, own: Own) -> Own
 }
 
 // A respond step by the event x: it stays put while the queue is full.
-fn answered(image: &[u8], x: u64, own: Own) -> Own
+fn responded(image: &[u8], x: u64, own: Own) -> Own
     requires { ⌜ own .procedure .index < 64 ⌝ }
     requires { ⌜ x < 64 ⌝ }
-    ensures { λ r. ⌜ r ≡ cond (full own) own (Steps.onward (recordsOf (now (image .entry))) (queued own x)) ⌝ }
+    ensures { λ r. ⌜ r ≡ cond (full own) own (Steps.advanced (recordsOf (now (image .entry))) (queued own x)) ⌝ }
 {
     if 8 <= own.length {
         own
     } else {
         let e = x as u8;
         let after = with_response(own, e);
-        onward(image, after)
+        advanced(image, after)
     }
 }
 
@@ -347,15 +347,15 @@ fn performed(image: &[u8], o: u8, x: u64, f: Flow, own: Own) -> Own
     match o {
         1 => {
             let next = switched(own, x, true);
-            onward(image, next)
+            advanced(image, next)
         }
         2 => {
             let next = switched(own, x, false);
-            onward(image, next)
+            advanced(image, next)
         }
         3 => waited(image, x, own),
-        4 => poured(image, x, f, own),
-        _ => answered(image, x, own),
+        4 => metered(image, x, f, own),
+        _ => responded(image, x, own),
     }
 }
 
@@ -364,8 +364,8 @@ fn ticked(image: &[u8], f: Flow, own: Own) -> Own
     ensures { λ r. ⌜ r ≡ Steps.ticked (recordsOf (now (image .entry))) f own ⌝ }
 {
     let p = own.procedure;
-    let w = work_of(image, p.event, p.index);
-    if p.running & w.there {
+    let w = step_fields(image, p.event, p.index);
+    if p.running & w.present {
         performed(image, w.operation, w.operand, f, own)
     } else {
         own

@@ -38,22 +38,22 @@ use Rattle.permits.specs.Step.{bytesOfMessages, Call}
 
 -- "its lowest neighbour not held", by the masks of the neighbours and of those held
 unfoldable pub missingIn : ℕ → ℕ → Option ℕ
-missingIn near held = least (λ v. bit near v && not (bit held v)) 32
+missingIn adjacent held = least (λ v. bit adjacent v && not (bit held v)) 32
 
 abbrev pub missing : List Record → ℕ → ℕ → Option ℕ
 missing rs m held = missingIn (neighbours rs m) held
 
 -- "held permits are the module's lowest neighbours"
 unfoldable pub heldIn : ℕ → ℕ → Bool
-heldIn near held = allBelow (λ v. not (bit held v) || (bit near v && allBelow (λ w. not (bit near w) || bit held w) v)) 32
+heldIn adjacent held = allBelow (λ v. not (bit held v) || (bit adjacent v && allBelow (λ w. not (bit adjacent w) || bit held w) v)) 32
 
 abbrev pub heldFits : List Record → ℕ → ℕ → Bool
 heldFits rs m held = heldIn (neighbours rs m) held
 
 -- "the received mask is 0 when none is held, a bid is outstanding only while one is missing", and the clauses of the own part
 unfoldable pub fitsIn : List Record → ℕ → ℕ → Module → Bool
-fitsIn rs m near x =
-    heldIn near (x .held) && (not (eqb (x .held) 0) || eqb (x .received) 0) && (not (x .bid) || isSome (missingIn near (x .held))) && ownFits rs m (x .own)
+fitsIn rs m adjacent x =
+    heldIn adjacent (x .held) && (not (eqb (x .held) 0) || eqb (x .received) 0) && (not (x .bid) || isSome (missingIn adjacent (x .held))) && ownFits rs m (x .own)
 
 abbrev pub moduleFits : List Record → ℕ → Module → Bool
 moduleFits rs m x = fitsIn rs m (neighbours rs m) x

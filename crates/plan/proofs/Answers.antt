@@ -15,13 +15,13 @@ use Rattle.reader.specs.declared.Found.the-variants.{It, Missing}
 use Rattle.rules.specs.LookUp.{fieldOf}
 use Rattle.plan.specs.declared.Fields.{Fields}
 use Rattle.plan.specs.Plan.{target, stateBy, inAlphabet, supervisorMove, supervisorAfter, counts, counting}
-use Rattle.plan.specs.Fields.{fieldsOf, Looked}
+use Rattle.plan.specs.Fields.{fieldsOf, FieldsFound}
 
 module _ {x y : Found} (p : y ≡ x) where
-  pub looked-none : {f : Fields} → y ≡ Missing → f ≡ record { first = 0; second = 0; third = 0; fourth = 0; word = 0 } → Looked x f
+  pub fields-none : {f : Fields} → y ≡ Missing → f ≡ record { first = 0; second = 0; third = 0; fourth = 0; word = 0 } → FieldsFound x f
   unfolding fieldOf
-  looked-none {f} q e =
-      subst (λ (z : Found). Looked z f) (sym q ∙ p) (subst (Looked Missing) (sym e) (record { first = refl; second = refl; third = refl; fourth = refl; word = refl }))
+  fields-none {f} q e =
+      subst (λ (z : Found). FieldsFound z f) (sym q ∙ p) (subst (FieldsFound Missing) (sym e) (record { first = refl; second = refl; third = refl; fourth = refl; word = refl }))
 
   pub target-none : y ≡ Missing → none ≡ target x
   unfolding target
@@ -32,10 +32,10 @@ module _ {x y : Found} (p : y ≡ x) where
   step-none q = ap counting (sym q ∙ p)
 
   module _ {r : Record} (q : y ≡ It r) {f : Fields} (e : f ≡ fieldsOf r) where
-    pub looked-it : Looked x f
+    pub fields-it : FieldsFound x f
     unfolding fieldOf
-    looked-it =
-        subst (λ (z : Found). Looked z f) (sym q ∙ p) (subst (Looked (It r)) (sym e) (record { first = refl; second = refl; third = refl; fourth = refl; word = refl }))
+    fields-it =
+        subst (λ (z : Found). FieldsFound z f) (sym q ∙ p) (subst (FieldsFound (It r)) (sym e) (record { first = refl; second = refl; third = refl; fourth = refl; word = refl }))
 
     pub target-it : some (f .fourth) ≡ target x
     unfolding target

@@ -11,7 +11,7 @@ abbrev pub fieldsOf : Record → Fields
 fieldsOf r = record { first = field1 r; second = field2 r; third = field3 r; fourth = field4 r; word = wordField r }
 
 -- f holds the fields of what a look-up found, or 0 if it found none
-pub record Looked (x : Found) (f : Fields) : Type 0 where
+pub record FieldsFound (x : Found) (f : Fields) : Type 0 where
   pub first : f .first ≡ fieldOf field1 x
   pub second : f .second ≡ fieldOf field2 x
   pub third : f .third ≡ fieldOf field3 x

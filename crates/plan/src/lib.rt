@@ -6,7 +6,7 @@ ghost use Rattle.reader.specs.Walk.{recordsOf};
 ghost use Rattle.reader.specs.Find.{findIn};
 ghost use Rattle.rules.specs.LookUp.{modulesOf, supervisorsOf, eventsOf, moduleState, supervisorState, controllable, alphabetOf};
 ghost use Rattle.plan.specs.Plan.{target, moduleInitial, supervisorInitial, ownEvent, ownUncontrollable, inAlphabet, shown, moduleMove, supervisorAfter, stepIn};
-ghost use Rattle.plan.specs.Fields.{fieldsOf, Looked};
+ghost use Rattle.plan.specs.Fields.{fieldsOf, FieldsFound};
 use bits::Maybe;
 use reader::Found;
 use records::Record;
@@ -97,8 +97,8 @@ fn find(image: &[u8], kind: u8, first: u8, second: u8, third: u8) -> Found
     reader::find(image, key)
 }
 
-fn look(image: &[u8], kind: u8, first: u8, second: u8) -> Fields
-    ensures { λ f. ⌜ Looked (findIn (keyBy kind first second 0) (recordsOf (now (image .entry)))) f ⌝ }
+fn fields_at(image: &[u8], kind: u8, first: u8, second: u8) -> Fields
+    ensures { λ f. ⌜ FieldsFound (findIn (keyBy kind first second 0) (recordsOf (now (image .entry)))) f ⌝ }
 {
     let Found::It(r) = find(image, kind, first, second, 0) else {
         return fields_by(0, 0, 0, 0, 0);
@@ -110,57 +110,57 @@ fn look(image: &[u8], kind: u8, first: u8, second: u8) -> Fields
 pub fn modules_of(image: &[u8]) -> u8
     ensures { λ r. ⌜ r ≡ modulesOf (recordsOf (now (image .entry))) ⌝ }
 {
-    look(image, 0x10, 0, 0).first
+    fields_at(image, 0x10, 0, 0).first
 }
 
 pub fn supervisors_of(image: &[u8]) -> u8
     ensures { λ r. ⌜ r ≡ supervisorsOf (recordsOf (now (image .entry))) ⌝ }
 {
-    look(image, 0x10, 0, 0).second
+    fields_at(image, 0x10, 0, 0).second
 }
 
 pub fn events_of(image: &[u8]) -> u8
     ensures { λ r. ⌜ r ≡ eventsOf (recordsOf (now (image .entry))) ⌝ }
 {
-    look(image, 0x10, 0, 0).third
+    fields_at(image, 0x10, 0, 0).third
 }
 
 // Whether a module or a supervisor has a state.
 pub fn module_state(image: &[u8], m: u8, st: u8) -> bool
     ensures { λ r. ⌜ r ≡ moduleState (recordsOf (now (image .entry))) m st ⌝ }
 {
-    st < look(image, 0x12, m, 0).second
+    st < fields_at(image, 0x12, m, 0).second
 }
 
 pub fn supervisor_state(image: &[u8], v: u8, st: u8) -> bool
     ensures { λ r. ⌜ r ≡ supervisorState (recordsOf (now (image .entry))) v st ⌝ }
 {
-    st < look(image, 0x14, v, 0).second
+    st < fields_at(image, 0x14, v, 0).second
 }
 
 pub fn module_initial(image: &[u8], m: u8) -> u8
     ensures { λ r. ⌜ r ≡ moduleInitial (recordsOf (now (image .entry))) m ⌝ }
 {
-    look(image, 0x12, m, 0).third
+    fields_at(image, 0x12, m, 0).third
 }
 
 pub fn supervisor_initial(image: &[u8], v: u8) -> u8
     ensures { λ r. ⌜ r ≡ supervisorInitial (recordsOf (now (image .entry))) v ⌝ }
 {
-    look(image, 0x14, v, 0).third
+    fields_at(image, 0x14, v, 0).third
 }
 
 // Whether an event is the module's, whether it is controllable, and whether it is an uncontrollable one of the module.
 pub fn own_event(image: &[u8], m: u8, e: u8) -> bool
     ensures { λ r. ⌜ r ≡ ownEvent (recordsOf (now (image .entry))) m e ⌝ }
 {
-    (e < events_of(image)) & (look(image, 0x11, e, 0).second == m)
+    (e < events_of(image)) & (fields_at(image, 0x11, e, 0).second == m)
 }
 
 pub fn controllable(image: &[u8], e: u8) -> bool
     ensures { λ r. ⌜ r ≡ controllable (recordsOf (now (image .entry))) e ⌝ }
 {
-    look(image, 0x11, e, 0).third == 1
+    fields_at(image, 0x11, e, 0).third == 1
 }
 
 pub fn own_uncontrollable(image: &[u8], m: u8, e: u8) -> bool
@@ -173,7 +173,7 @@ pub fn own_uncontrollable(image: &[u8], m: u8, e: u8) -> bool
 pub fn alphabet_of(image: &[u8], v: u8) -> u64
     ensures { λ r. ⌜ r ≡ alphabetOf (recordsOf (now (image .entry))) v ⌝ }
 {
-    look(image, 0x14, v, 0).word
+    fields_at(image, 0x14, v, 0).word
 }
 
 pub fn in_alphabet(image: &[u8], v: u8, e: u8) -> bool
@@ -186,7 +186,7 @@ pub fn in_alphabet(image: &[u8], v: u8, e: u8) -> bool
 pub fn shown(image: &[u8], v: u8, st: u8) -> u64
     ensures { λ r. ⌜ r ≡ shown (recordsOf (now (image .entry))) v st ⌝ }
 {
-    look(image, 0x16, v, st).word
+    fields_at(image, 0x16, v, st).word
 }
 
 // Where a listed move of a kind leads.

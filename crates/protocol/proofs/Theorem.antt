@@ -19,7 +19,7 @@ use Rattle.modules.specs.declared.Reply.{Reply}
 use Rattle.protocol.specs.Generic.{update, Picked, pick}
 use Rattle.protocol.specs.Plan.{Plan, Fired, TurnLaw, OwnLaws, Laws}
 use Rattle.protocol.specs.Rules.{OneDevice, stateAfter, shownBelow, deviceTurn, DeviceAct, deviceResponds, deviceTicks, deviceStep, Message, bid, permit, release, missing, Choice, takesTurn, waits, bidsTo, choiceOn, choice, SupervisorState, placeAfter, firstNoted, servedOn, served}
-use Rattle.protocol.specs.System.{System, Act, moduleStep, supervisorStep, deliver, respond, tick, afterModuleStep, afterSupervisorStep, afterMessage, afterDelivery, afterOwn, step, run, startSystem, startDevice, Seen, turnSeen, replySeen, repliedSeen, stepSeen, actSeen, seen, stepFed, actFed, fed, deviceActSeen, deviceRun, deviceSeen, turnEvents, recordOf, commandsOf, Position, startPosition, lead, replay, LegalEvent, Legal, none-left, next}
+use Rattle.protocol.specs.System.{System, Act, moduleStep, supervisorStep, deliver, respond, tick, afterModuleStep, afterSupervisorStep, afterMessage, afterDelivery, afterOwn, step, run, startSystem, startDevice, Seen, turnSeen, replySeen, repliedSeen, stepSeen, actSeen, seen, stepFed, actFed, fed, deviceActSeen, deviceRun, deviceSeen, turnEvents, recordOf, commandsOf, Position, startPosition, afterEvent, replay, LegalEvent, Legal, none-left, next}
 use Rattle.protocol.specs.Demand.{Demand3}
 use Rattle.bits.proofs.Least.{least-some}
 use Rattle.protocol.proofs.Tools.{clash, either-way, digit, oneAt, update-same, update-other, update-each, count-nil, nil, Inserted, pick-inserted}
@@ -91,7 +91,7 @@ module _ (P : Plan) (A : Laws P) (O : OneDevice) (m : ℕ) (mine : m < P .module
 
     turn-leads : (t : Turn) (o : Own) → TurnLaw P m mask (O .owns m) t o
         → StandsAt P (record { owns = update (O .owns) m o; states = λ s. stateAfter P s (O .states s) t }) (replay P p (turnEvents t ++ []))
-    unfolding turnEvents replay lead stateAfter
+    unfolding turnEvents replay afterEvent stateAfter
     turn-leads (Event e) o l =
         let w : P .owner e ≡ m = A .move-owner m (O .owns m .state) e (o .state) (l .listed) in
         let y : ℕ = Option·getD (P .move m (p .moduleStates m) e) (p .moduleStates m) in
@@ -229,12 +229,12 @@ recordOf-append (replySeen m n o ∷ l) r = recordOf-append l r
 replay-append : (P : Plan) (p : Position) (l r : List ℕ) → replay P p (l ++ r) ≡ replay P (replay P p l) r
 unfolding replay
 replay-append P p [] r = refl
-replay-append P p (e ∷ l) r = replay-append P (lead P p e) l r
+replay-append P p (e ∷ l) r = replay-append P (afterEvent P p e) l r
 
 legal-append : (P : Plan) (p : Position) (l r : List ℕ) → Legal P p l → Legal P (replay P p l) r → Legal P p (l ++ r)
 unfolding replay
 legal-append P p [] r none-left h = h
-legal-append P p (e ∷ l) r (next m t) h = next m (legal-append P (lead P p e) l r t h)
+legal-append P p (e ∷ l) r (next m t) h = next m (legal-append P (afterEvent P p e) l r t h)
 
 pub record Whole (P : Plan) (D : System) (O : OneDevice) (acts : List Act) : Type 0 where
   pub inv : Inv P (run P D acts) (deviceRun P O (fed P D acts))

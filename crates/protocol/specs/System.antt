@@ -176,15 +176,15 @@ pub record Position : Type 0 where
 unfoldable pub startPosition : Plan → Position
 startPosition P = record { moduleStates = P .initial; supervisorStates = P .supervisorInitial }
 
-unfoldable pub lead : Plan → Position → ℕ → Position
-lead P p e = record {
+unfoldable pub afterEvent : Plan → Position → ℕ → Position
+afterEvent P p e = record {
   moduleStates = update (p .moduleStates) (P .owner e) (Option·getD (P .move (P .owner e) (p .moduleStates (P .owner e)) e) (p .moduleStates (P .owner e)));
   supervisorStates = λ s. stateAfter P s (p .supervisorStates s) (Event e);
 }
 
 unfoldable pub replay : Plan → Position → List ℕ → Position
 replay P p [] = p
-replay P p (e ∷ w) = replay P (lead P p e) w
+replay P p (e ∷ w) = replay P (afterEvent P p e) w
 
 pub record LegalEvent (P : Plan) (p : Position) (e : ℕ) : Type 0 where
   pub listed : isSome (P .move (P .owner e) (p .moduleStates (P .owner e)) e) ≡ true
@@ -192,7 +192,7 @@ pub record LegalEvent (P : Plan) (p : Position) (e : ℕ) : Type 0 where
 
 pub data Legal (P : Plan) : Position → List ℕ → Type 0 where
   none-left : {p : Position} → Legal P p []
-  next : {p : Position} {e : ℕ} {w : List ℕ} → LegalEvent P p e → Legal P (lead P p e) w → Legal P p (e ∷ w)
+  next : {p : Position} {e : ℕ} {w : List ℕ} → LegalEvent P p e → Legal P (afterEvent P p e) w → Legal P p (e ∷ w)
 
 -- ---- progress
 abbrev pub Accepts : Plan → System → Message → Type 0

@@ -130,7 +130,7 @@ module _ (rs : List Record) (m : ℕ) (t : Turn) where
     done-by h = g .bytes ∙ ap (λ (k : ℕ). written (sent k) b₀) (let e : v ≡ 32 = omega arith in e)
 
     -- a says whether v is a neighbour
-    module _ (near : ℕ) {a : Bool} (e : near ≡ neighbours rs m) (f : a ≡ bit near v) (l : v < 32) where
+    module _ (adjacent : ℕ) {a : Bool} (e : adjacent ≡ neighbours rs m) (f : a ≡ bit adjacent v) (l : v < 32) where
       next : sent (v + 1) ≡ sent v ++ cond a (one v) []
       next = ap sent (add-one v) ∙ sent-next v ∙ ap (λ (c : Bool). sent v ++ cond c (one v) []) (ap (λ (n : ℕ). bit n v) (sym e) ∙ sym f)
 
@@ -166,7 +166,7 @@ module _ (rs : List Record) (m : ℕ) (t : Turn) where
           }
 
 -- the room for all releases: n is 4 bytes for each neighbour
-module _ (rs : List Record) (m : ℕ) (t : Turn) (b : List ℕ) {near n : ℕ} (e : near ≡ neighbours rs m) (f : n ≡ 4 * ones near) where
+module _ (rs : List Record) (m : ℕ) (t : Turn) (b : List ℕ) {adjacent n : ℕ} (e : adjacent ≡ neighbours rs m) (f : n ≡ 4 * ones adjacent) where
   long : length (sent rs m t 32) ≡ n
   long = sent-count rs m t ∙ ap (λ (k : ℕ). 4 * ones k) (sym e) ∙ sym f
 

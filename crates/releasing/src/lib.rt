@@ -41,12 +41,12 @@ fn release_to(image: &[u8], m: u8, v: u8, t: Turn, buffer: &mut [u8], at: usize)
 }
 
 // The releases to all neighbours, in ascending order.
-fn release_all(image: &[u8], m: u8, near: u32, t: Turn, buffer: &mut [u8])
-    requires { ⌜ near ≡ neighbours (recordsOf (now image)) m ⌝ }
+fn release_all(image: &[u8], m: u8, adjacent: u32, t: Turn, buffer: &mut [u8])
+    requires { ⌜ adjacent ≡ neighbours (recordsOf (now image)) m ⌝ }
     requires { ⌜ length (bytesOfMessages (releases (recordsOf (now image)) m t 32)) ≤ length (now buffer) ⌝ }
     ensures { λ r. ⌜ now (buffer .exit) ≡ written (bytesOfMessages (releases (recordsOf (now (image .entry))) m t 32)) (now (buffer .entry)) ⌝ }
 {
-    let mask = near as u64;
+    let mask = adjacent as u64;
     let mut at: usize = 0;
     let mut v: u8 = 0;
     while v < 32 {
@@ -59,21 +59,21 @@ fn release_all(image: &[u8], m: u8, near: u32, t: Turn, buffer: &mut [u8])
 }
 
 // The bytes of the releases to these neighbours, 4 of each.
-pub fn length_of(near: u32) -> usize
-    ensures { λ r. ⌜ r ≡ 4 * ones near ⌝ }
+pub fn length_of(adjacent: u32) -> usize
+    ensures { λ r. ⌜ r ≡ 4 * ones adjacent ⌝ }
 {
-    4 * u32::count_ones(near) as usize
+    4 * u32::count_ones(adjacent) as usize
 }
 
 // The releases of a module's turn into the buffer, if there is room for them.
 pub fn release(image: &[u8], m: u8, t: Turn, buffer: &mut [u8]) -> bool
     ensures { λ r. ⌜ Released (recordsOf (now (image .entry))) m t (now (buffer .entry)) r (now (buffer .exit)) ⌝ }
 {
-    let near = masks::neighbours(image, m);
-    let n = length_of(near);
+    let adjacent = masks::neighbours(image, m);
+    let n = length_of(adjacent);
     if buffer.len() < n {
         return false;
     }
-    release_all(image, m, near, t, &mut *buffer);
+    release_all(image, m, adjacent, t, &mut *buffer);
     true
 }

@@ -19,7 +19,7 @@ use Rattle.reader.specs.declared.Read.the-variants.{Whole, Unknown, Cut, Nothin
 use Rattle.reader.proofs.Read.{the-type}
 use Rattle.reader.proofs.Reading.{walks, next, walks-by, told-by, less-by as read-less}
 use Rattle.walk.specs.Place.{readOn}
-use Rattle.walk.specs.declared.Onward.{Onward}
+use Rattle.walk.specs.declared.PlacedRead.{PlacedRead}
 use Rattle.walk.proofs.Told.{read-by, place-by}
 use Rattle.writer.specs.Write.{Wrote, answerOf, bufferBy as bufferOf}
 use Rattle.writer.specs.declared.Written.{Written}
@@ -63,7 +63,7 @@ pub begins : (s b : List ℕ) → Bytes s → IsPlan s → length s ≤ length b
 begins s b g a h = record { small = g; room = h; bytes = refl; ranges = every-plan s a .sound .ranges; stops = every-plan s a .ended .stops }
 
 -- from what a caller of `read_on` is told: its answer y, and which case was read
-module _ (s b₀ b : List ℕ) (i : ℕ) {y : Onward} where
+module _ (s b₀ b : List ℕ) (i : ℕ) {y : PlacedRead} where
   pub range-by : {r : Record} {n : ℕ} → Going s b₀ b i → y ≡ readOn s i → y .read ≡ Whole r n → inRange r ≡ true
   unfolding recordsIn
   range-by {r} v e f = v .ranges r (subst (λ (z : Walk). r ∈ recordsIn z) (sym (walks-by s i (read-by s i e) f)) (List·Memᴰ·head refl))

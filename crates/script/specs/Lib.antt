@@ -2,5 +2,5 @@ pub mod Ascii
 pub mod Line
 pub mod Text
 pub mod Answers
-pub mod Said
+pub mod SimulationLines
 pub mod Sheet

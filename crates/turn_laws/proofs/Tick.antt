@@ -18,7 +18,7 @@ use Rattle.water.specs.declared.Water.{Water}
 use Rattle.modules.specs.declared.Own.{Own}
 use Rattle.modules.specs.declared.Procedure.{Procedure}
 use Rattle.modules.specs.Queue.{full, queued}
-use Rattle.modules.specs.Procedure.{withProcedure, withOutputs, onward, counted, withWater, outputOn, outputOff, poured, performed, ticked, taken, refused, tickOf}
+use Rattle.modules.specs.Procedure.{withProcedure, withOutputs, advanced, counted, withWater, outputOn, outputOff, metered, performed, ticked, taken, refused, tickOf}
 use Rattle.modules.specs.Fits.{ownFits, queueFits}
 use Rattle.turn_laws.specs.Laws.{EightPlaces, operationAt, operandAt, AtStep}
 use Rattle.turn_laws.proofs.Water.{goes-on}
@@ -46,36 +46,36 @@ module _ (rs : List Record) (own : Own) where
   -- response queued
   tick-cases : (f : Flow) (P : Own → Type 0)
       → P own
-      → (Runs → (outputs : ℕ) → P (onward rs (withOutputs own outputs)))
+      → (Runs → (outputs : ℕ) → P (advanced rs (withOutputs own outputs)))
       → (Runs → eqb o 3 ≡ true → ltb (suc n) x ≡ true → P (counted own))
       → (Runs → eqb o 4 ≡ true → flowOk f ≡ true → reached (added w f) ≡ false → P (withWater own (added w f)))
-      → (Runs → eqb o 1 ≡ false → eqb o 2 ≡ false → eqb o 3 ≡ false → eqb o 4 ≡ false → full own ≡ false → P (onward rs (queued own x)))
+      → (Runs → eqb o 1 ≡ false → eqb o 2 ≡ false → eqb o 3 ≡ false → eqb o 4 ≡ false → full own ≡ false → P (advanced rs (queued own x)))
       → P (tickOf rs f own .own)
   unfolding tickOf performed
   tick-cases f P stay next wait pour respond = reading (flowOk f) refl
     where
-      waited : Runs → eqb o 3 ≡ true → (b : Bool) → ltb (suc n) x ≡ b → P (cond b (counted own) (onward rs own))
+      waited : Runs → eqb o 3 ≡ true → (b : Bool) → ltb (suc n) x ≡ b → P (cond b (counted own) (advanced rs own))
       waited r c true q = wait r c q
       waited r c false q = next r (own .outputs)
 
-      ends : Runs → eqb o 4 ≡ true → flowOk f ≡ true → (b : Bool) → reached (added w f) ≡ b → P (cond b (onward rs own) (withWater own (added w f)))
+      ends : Runs → eqb o 4 ≡ true → flowOk f ≡ true → (b : Bool) → reached (added w f) ≡ b → P (cond b (advanced rs own) (withWater own (added w f)))
       ends r d k true q = next r (own .outputs)
       ends r d k false q = pour r d k q
 
-      pours : Runs → eqb o 4 ≡ true → flowOk f ≡ true → (b : Bool) → P (cond b (poured rs f own) own)
+      pours : Runs → eqb o 4 ≡ true → flowOk f ≡ true → (b : Bool) → P (cond b (metered rs f own) own)
       pours r d k true = ends r d k (reached (added w f)) refl
       pours r d k false = stay
 
-      responded : Runs → eqb o 1 ≡ false → eqb o 2 ≡ false → eqb o 3 ≡ false → eqb o 4 ≡ false → (b : Bool) → full own ≡ b → P (cond b own (onward rs (queued own x)))
+      responded : Runs → eqb o 1 ≡ false → eqb o 2 ≡ false → eqb o 3 ≡ false → eqb o 4 ≡ false → (b : Bool) → full own ≡ b → P (cond b own (advanced rs (queued own x)))
       responded r a b c d true q = stay
       responded r a b c d false q = respond r a b c d q
 
       operation : Runs → flowOk f ≡ true → (a b c d : Bool) → eqb o 1 ≡ a → eqb o 2 ≡ b → eqb o 3 ≡ c → eqb o 4 ≡ d
-          → P (cond a (onward rs (withOutputs own (outputOn (own .outputs) x)))
-          (cond b (onward rs (withOutputs own (outputOff (own .outputs) x)))
-          (cond c (cond (ltb (suc n) x) (counted own) (onward rs own))
-          (cond d (cond (running x w) (poured rs f own) own)
-          (cond (full own) own (onward rs (queued own x)))))))
+          → P (cond a (advanced rs (withOutputs own (outputOn (own .outputs) x)))
+          (cond b (advanced rs (withOutputs own (outputOff (own .outputs) x)))
+          (cond c (cond (ltb (suc n) x) (counted own) (advanced rs own))
+          (cond d (cond (running x w) (metered rs f own) own)
+          (cond (full own) own (advanced rs (queued own x)))))))
       operation r k true b c d ea eb ec ed = next r (outputOn (own .outputs) x)
       operation r k false true c d ea eb ec ed = next r (outputOff (own .outputs) x)
       operation r k false false true d ea eb ec ed = waited r ec (ltb (suc n) x) refl
@@ -109,9 +109,9 @@ module _ (rs : List Record) (own : Own) where
       here = at-step rs plan m (own .procedure) r (clauses .procedure)
 
       -- on to the next step of the event
-      moves-on : (own′ : Own) → own′ .procedure .event ≡ own .procedure .event → Parts rs m own′ → T (ownFits rs m (onward rs own′))
+      moves-on : (own′ : Own) → own′ .procedure .event ≡ own .procedure .event → Parts rs m own′ → T (ownFits rs m (advanced rs own′))
       moves-on own′ e a =
-          whole rs m (onward rs own′) (with-procedure rs m own′ (onward rs own′ .procedure) a
+          whole rs m (advanced rs own′) (with-procedure rs m own′ (advanced rs own′ .procedure) a
           (arrives rs plan m (own′ .procedure .event) (suc (own′ .procedure .index)) (subst (λ (k : ℕ). T (ownEvent rs m k)) (sym e) (now .own-event))))
 
       -- the same step with another count or water
@@ -127,8 +127,8 @@ module _ (rs : List Record) (own : Own) where
             water = now .water;
           })
 
-      poured-fits : (f : Flow) → eqb o 4 ≡ true → flowOk f ≡ true → reached (added w f) ≡ false → T (ownFits rs m (withWater own (added w f)))
-      poured-fits f d k q =
+      metered-fits : (f : Flow) → eqb o 4 ≡ true → flowOk f ≡ true → reached (added w f) ≡ false → T (ownFits rs m (withWater own (added w f)))
+      metered-fits f d k q =
           let before : T (running x w) = if-so (eqb o 4) (running x w) (waterZero w) d (now .water) in
           let after : T (running x (added w f)) = goes-on x w f (litres-range o x (here .step .operand) (eqb-true o 4 d)) before (holds _ k) q in
           stays-at (withWater own (added w f) .procedure) refl (record {
@@ -152,5 +152,5 @@ module _ (rs : List Record) (own : Own) where
         tick-cases f (λ a. T (ownFits rs m a)) t
         (λ r y. moves-on r (withOutputs own y) refl (record { state = clauses .state; queue = clauses .queue; procedure = clauses .procedure }))
         counted-fits
-        (λ r. poured-fits r f)
+        (λ r. metered-fits r f)
         (λ r a b c d q. moves-on r (queued own x) refl (queued-parts own x q rs m (response-own r (last-operation o x (here r .step .operand) a b c d)) clauses))

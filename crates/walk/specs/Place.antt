@@ -7,7 +7,7 @@ use Rattle.reader.specs.Read.{readAt}
 use Rattle.reader.specs.declared.Read.{Read}
 use Rattle.reader.specs.declared.Read.the-variants.{Whole, Unknown, Cut, Nothing}
 use Rattle.walk.specs.declared.Reader.{Reader}
-use Rattle.walk.specs.declared.Onward.{Onward}
+use Rattle.walk.specs.declared.PlacedRead.{PlacedRead}
 
 -- a reader at the image's start
 abbrev pub started : RefT (List ℕ) → Reader
@@ -21,7 +21,7 @@ placeAfter i Cut = i
 placeAfter i Nothing = i
 
 -- what stands at an offset, and the place after it
-abbrev pub readOn : List ℕ → ℕ → Onward
+abbrev pub readOn : List ℕ → ℕ → PlacedRead
 readOn s i = record { read = readAt s i; place = placeAfter i (readAt s i) }
 
 -- a reader gives what stands at its place, and goes on to the place after it, over the same image

@@ -43,17 +43,17 @@ pub fn place<'a>(r: Reader<'a>) -> usize
 }
 
 // What stands at an offset of an image, and the place of a reader that has read it.
-pub struct Onward {
+pub struct PlacedRead {
     pub read: Read,
     pub place: usize,
 }
 
-pub fn read_on(image: &[u8], offset: usize) -> Onward
+pub fn read_on(image: &[u8], offset: usize) -> PlacedRead
     ensures { λ r. ⌜ r ≡ readOn (now (image .entry)) offset ⌝ }
 {
     let mut r = new(image);
     r.offset = offset;
     let read = next(&mut r);
     let place = place(r);
-    Onward { read, place }
+    PlacedRead { read, place }
 }

@@ -11,7 +11,7 @@ use borrow.Author.Tests.{ltb-false, le-ltb, eqb-true, eqb-false, eq-eqb, ne-eqb}
 use denote.Floats.{passes}
 use Rattle.litres.specs.Eighths.{eighths, isEighths, count, targetOk}
 use Rattle.litres.proofs.Laws.{lt-counts, add-counts, target-is-eighths, target-not-nan, eighths-is-eighths, count-eighths}
-use Rattle.water.specs.Water.{flowOk, added, sum, brought, Summed, Compared, isZero, reached, running}
+use Rattle.water.specs.Water.{flowOk, added, sum, readingEighths, Summed, Compared, isZero, reached, running}
 use Rattle.water.specs.declared.Water.{Water}
 use Rattle.water.specs.declared.Flow.{Flow}
 use Rattle.water.specs.declared.Flow.the-variants.{Litres, NoSensor}
@@ -100,7 +100,7 @@ sum-exact w (Litres x) t u =
 sum-exact w NoSensor t u = refl
 
 -- and its eighths are those of both
-added-counts : (w : Water) (f : Flow) → T (flowOk f) → count (w .total) < 2 ^ 20 → count (added w f .total) ≡ count (w .total) + brought f
+added-counts : (w : Water) (f : Flow) → T (flowOk f) → count (w .total) < 2 ^ 20 → count (added w f .total) ≡ count (w .total) + readingEighths f
 unfolding added flowOk
 added-counts w (Litres x) u l =
     let some : count x ≤ 512 = leb→le (count x) 512 (search both) in

@@ -54,16 +54,16 @@ sum w (Litres x) = record { target = w .target; total = add binary64 (w .total) 
 sum w NoSensor = w
 
 -- the eighths that a reading brings
-abbrev pub brought : Flow → ℕ
-brought (Litres x) = count x
-brought NoSensor = 0
+abbrev pub readingEighths : Flow → ℕ
+readingEighths (Litres x) = count x
+readingEighths NoSensor = 0
 
 -- r is the water with the reading added in f64, which of a total in eighths is `added`; and there the counts of eighths add up, without
 -- rounding, as long as the total is below the largest target
 pub record Summed (w : Water) (f : Flow) (r : Water) : Type 0 where
   pub is : r ≡ sum w f
   pub exact : T (isEighths (w .total)) → T (flowOk f) → r ≡ added w f
-  pub whole : T (isEighths (w .total)) → T (flowOk f) → count (w .total) < 2 ^ 20 → count (r .total) ≡ count (w .total) + brought f
+  pub whole : T (isEighths (w .total)) → T (flowOk f) → count (w .total) < 2 ^ 20 → count (r .total) ≡ count (w .total) + readingEighths f
 
 -- b tells whether the total is at or above the target in f64, and in eighths that is whether the target is reached
 pub record Compared (w : Water) (b : Bool) : Type 0 where

@@ -1,4 +1,4 @@
-use Rattle.answers.proofs.Telling.{line-module, line-supervisor, line-delivery, line-nothing, line-response, line-tick, line-misshapen}
+use Rattle.answers.proofs.Printed.{line-module, line-supervisor, line-delivery, line-nothing, line-response, line-tick, line-misshapen}
 use borrow.Author.Needs.{needs}
 use Rattle.answers.proofs.answer_line.Statement.{statement}
 use Rattle.answers.proofs.answer_line.Tie as tie

@@ -1,5 +1,5 @@
 use borrow.Author.Needs.{needs}
-use Rattle.answers.proofs.Telling.{command-none, command-is, command-not}
+use Rattle.answers.proofs.Printed.{command-none, command-is, command-not}
 use Rattle.answers.proofs.command.Statement.{statement}
 use Rattle.answers.proofs.command.Tie as tie
 

@@ -1,5 +1,5 @@
 use Rattle.simulation.proofs.Playing.{bytes-within, bytes-count, bytes-are}
-use Rattle.answers.proofs.Telling.{delivered-by}
+use Rattle.answers.proofs.Printed.{delivered-by}
 use borrow.Author.Needs.{needs}
 use Rattle.answers.proofs.delivered_line.Statement.{statement}
 use Rattle.answers.proofs.delivered_line.Tie as tie

@@ -1,4 +1,4 @@
-use Rattle.answers.proofs.Telling.{line-done, line-refused}
+use Rattle.answers.proofs.Printed.{line-done, line-refused}
 use borrow.Author.Needs.{needs}
 use Rattle.answers.proofs.delivery_line.Statement.{statement}
 use Rattle.answers.proofs.delivery_line.Tie as tie

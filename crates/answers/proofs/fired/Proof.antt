@@ -1,4 +1,4 @@
-use Rattle.answers.proofs.Telling.{fired-elsewhere, fired-unturned, fired-eventless, fired-event}
+use Rattle.answers.proofs.Printed.{fired-elsewhere, fired-unturned, fired-eventless, fired-event}
 use borrow.Author.Needs.{needs}
 use Rattle.answers.proofs.fired.Statement.{statement}
 use Rattle.answers.proofs.fired.Tie as tie

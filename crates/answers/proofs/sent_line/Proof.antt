@@ -1,5 +1,5 @@
 use Rattle.simulation.proofs.Playing.{bytes-within, bytes-count, bytes-are}
-use Rattle.answers.proofs.Telling.{sent-by}
+use Rattle.answers.proofs.Printed.{sent-by}
 use borrow.Author.Needs.{needs}
 use Rattle.answers.proofs.sent_line.Statement.{statement}
 use Rattle.answers.proofs.sent_line.Tie as tie

@@ -1,5 +1,5 @@
 use borrow.Author.Tests.{lt-ltb, le-ltb}
-use Rattle.answers.specs.Said.{withNumber}
+use Rattle.answers.specs.AnswerLines.{withNumber}
 use borrow.Author.Needs.{needs}
 use Rattle.answers.proofs.with_number.Statement.{statement}
 use Rattle.answers.proofs.with_number.Tie as tie

@@ -14,12 +14,12 @@ enum-known-did c = search needs
 returns : tie.Need-returns
 returns c = let h : length (c .before .before .before .before .before .args .d .supervisors) ≡ 32 = search needs in search after-none
 
-led-by-requires : tie.Need-led-by-requires
-led-by-requires c κs = search needs
+states-after-requires : tie.Need-states-after-requires
+states-after-requires c κs = search needs
 
 returns-2 : tie.Need-returns-2
 returns-2 c = search after-event
 
 pub after-turn-spec : {M : Type 1} → statement M
 after-turn-spec =
-    tie.close (tie.spec with-own-requires enum-known-did returns led-by-requires returns-2)
+    tie.close (tie.spec with-own-requires enum-known-did returns states-after-requires returns-2)

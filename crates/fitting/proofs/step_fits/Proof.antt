@@ -3,8 +3,8 @@ use borrow.Author.Needs.{needs}
 use Rattle.fitting.proofs.step_fits.Statement.{statement}
 use Rattle.fitting.proofs.step_fits.Tie as tie
 
-work-of-requires : tie.Need-work-of-requires
-work-of-requires c κs = search needs
+step-fields-requires : tie.Need-step-fields-requires
+step-fields-requires c κs = search needs
 
 own-event-requires : tie.Need-own-event-requires
 own-event-requires c κs = search needs
@@ -21,4 +21,4 @@ returns c = search step-by
 pub step-fits-spec : {M : Type 1} → statement M
 step-fits-spec =
     tie.close
-    (tie.spec work-of-requires own-event-requires count-fits-requires water-fits-requires returns)
+    (tie.spec step-fields-requires own-event-requires count-fits-requires water-fits-requires returns)

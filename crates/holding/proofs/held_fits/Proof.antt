@@ -9,10 +9,10 @@ use Rattle.holding.proofs.held_fits.Statement.{statement}
 use Rattle.holding.proofs.held_fits.Tie as tie
 
 abbrev Inv-loop : tie.InvT-loop
-Inv-loop near held theirs ours whole₀ v₀ whole v = (v ≤ 32) × (whole ≡ allBelow (keptAt near held) v) × (allBelow (fitsAt near held) v ≡ true)
+Inv-loop adjacent held neighbour-bits held-bits whole₀ v₀ whole v = (v ≤ 32) × (whole ≡ allBelow (keptAt adjacent held) v) × (allBelow (fitsAt adjacent held) v ≡ true)
 
 abbrev μ-loop : tie.MeasureT-loop
-μ-loop near held theirs ours whole₀ v₀ whole v = 32 - v
+μ-loop adjacent held neighbour-bits held-bits whole₀ v₀ whole v = 32 - v
 
 loop-holds : tie.Need-loop-holds Inv-loop μ-loop
 unfolding allBelow

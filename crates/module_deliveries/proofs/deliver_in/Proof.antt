@@ -12,8 +12,8 @@ neighbours-requires c κs = search needs
 fits-requires : tie.Need-fits-requires
 fits-requires c κs = search needs
 
-hear-requires : tie.Need-hear-requires
-hear-requires c κs = search needs
+deliver-fitting-requires : tie.Need-deliver-fitting-requires
+deliver-fitting-requires c κs = search needs
 
 refused-requires : tie.Need-refused-requires
 refused-requires c κs = search needs
@@ -37,7 +37,7 @@ deliver-in-spec =
     modules-of-requires
     neighbours-requires
     fits-requires
-    hear-requires
+    deliver-fitting-requires
     refused-requires
     absent-requires
     returns

@@ -3,8 +3,8 @@ use borrow.Author.Needs.{needs}
 use Rattle.modules.proofs.arrive_at.Statement.{statement}
 use Rattle.modules.proofs.arrive_at.Tie as tie
 
-work-of-requires : tie.Need-work-of-requires
-work-of-requires c κs = search needs
+step-fields-requires : tie.Need-step-fields-requires
+step-fields-requires c κs = search needs
 
 water-at-requires : tie.Need-water-at-requires
 water-at-requires c κs = search needs
@@ -20,4 +20,4 @@ returns-2 c = search arrived-idle
 
 pub arrive-at-spec : {M : Type 1} → statement M
 arrive-at-spec =
-    tie.close (tie.spec work-of-requires water-at-requires idle-requires returns returns-2)
+    tie.close (tie.spec step-fields-requires water-at-requires idle-requires returns returns-2)

@@ -6,23 +6,23 @@ use Rattle.modules.proofs.performed.Tie as tie
 switched-requires : tie.Need-switched-requires
 switched-requires c κs = search on-small
 
-onward-requires : tie.Need-onward-requires
-onward-requires c κs = search (kept-small, index-small)
+advanced-requires : tie.Need-advanced-requires
+advanced-requires c κs = search (kept-small, index-small)
 
 switched-requires-2 : tie.Need-switched-requires-2
 switched-requires-2 c κs = search off-small
 
-onward-requires-2 : tie.Need-onward-requires-2
-onward-requires-2 c κs = search (kept-small, index-small)
+advanced-requires-2 : tie.Need-advanced-requires-2
+advanced-requires-2 c κs = search (kept-small, index-small)
 
 waited-requires : tie.Need-waited-requires
 waited-requires c κs = search (index-small, wait-small)
 
-poured-requires : tie.Need-poured-requires
-poured-requires c κs = search index-small
+metered-requires : tie.Need-metered-requires
+metered-requires c κs = search index-small
 
-answered-requires : tie.Need-answered-requires
-answered-requires c κs = search (index-small, respond-small)
+responded-requires : tie.Need-responded-requires
+responded-requires c κs = search (index-small, respond-small)
 
 returns : tie.Need-returns
 returns c = search performs-on
@@ -44,12 +44,12 @@ performed-spec =
     tie.close
     (tie.spec
     switched-requires
-    onward-requires
+    advanced-requires
     switched-requires-2
-    onward-requires-2
+    advanced-requires-2
     waited-requires
-    poured-requires
-    answered-requires
+    metered-requires
+    responded-requires
     returns
     returns-2
     returns-3

@@ -3,8 +3,8 @@ use borrow.Author.Needs.{needs}
 use Rattle.modules.proofs.ticked.Statement.{statement}
 use Rattle.modules.proofs.ticked.Tie as tie
 
-work-of-requires : tie.Need-work-of-requires
-work-of-requires c κs = search needs
+step-fields-requires : tie.Need-step-fields-requires
+step-fields-requires c κs = search needs
 
 performed-requires : tie.Need-performed-requires
 performed-requires c κs = search may-perform
@@ -16,4 +16,4 @@ returns-2 : tie.Need-returns-2
 returns-2 c = search ticked-none
 
 pub ticked-spec : {M : Type 1} → statement M
-ticked-spec = tie.close (tie.spec work-of-requires performed-requires returns returns-2)
+ticked-spec = tie.close (tie.spec step-fields-requires performed-requires returns returns-2)

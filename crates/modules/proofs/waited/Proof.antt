@@ -12,8 +12,8 @@ add-n c = search needs
 add-p : tie.Need-add-p
 add-p c = search needs
 
-onward-requires : tie.Need-onward-requires
-onward-requires c κs = search needs
+advanced-requires : tie.Need-advanced-requires
+advanced-requires c κs = search needs
 
 returns : tie.Need-returns
 returns c = search wait-goes
@@ -22,4 +22,4 @@ returns-2 : tie.Need-returns-2
 returns-2 c = search wait-ends
 
 pub waited-spec : {M : Type 1} → statement M
-waited-spec = tie.close (tie.spec cast-n add-n add-p onward-requires returns returns-2)
+waited-spec = tie.close (tie.spec cast-n add-n add-p advanced-requires returns returns-2)

@@ -1,6 +1,6 @@
 use borrow.Author.Needs.{needs}
 use Rattle.script.specs.Ascii.{ascii}
-use Rattle.script.specs.Said.{deliveredLine}
+use Rattle.script.specs.SimulationLines.{deliveredLine}
 use Rattle.script.proofs.delivered_line.Statement.{statement}
 use Rattle.script.proofs.delivered_line.Tie as tie
 

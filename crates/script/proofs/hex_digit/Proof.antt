@@ -1,6 +1,6 @@
 use borrow.Author.Needs.{needs}
 use borrow.Author.Tests.{lt-ltb, le-ltb}
-use Rattle.script.specs.Said.{hexDigit}
+use Rattle.script.specs.SimulationLines.{hexDigit}
 use Rattle.script.proofs.hex_digit.Statement.{statement}
 use Rattle.script.proofs.hex_digit.Tie as tie
 

@@ -3,7 +3,7 @@ use Prim.Native.Nat.{_-_}
 use lib.ListN.{length, drop}
 use borrow.Author.Needs.{needs}
 use Rattle.script.specs.Text.{appended}
-use Rattle.script.specs.Said.{hexes}
+use Rattle.script.specs.SimulationLines.{hexes}
 use Rattle.script.proofs.Bytes.{hexes-again, hexes-done}
 use Rattle.script.proofs.push_hexes.Statement.{statement}
 use Rattle.script.proofs.push_hexes.Tie as tie

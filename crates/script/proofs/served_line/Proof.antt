@@ -6,7 +6,7 @@ use Rattle.script.specs.declared.Text.{Text}
 use Rattle.script.specs.Ascii.{ascii}
 use Rattle.script.specs.Text.{textOf}
 use Rattle.script.specs.Answers.{spaced, refusedLine}
-use Rattle.script.specs.Said.{servedLine}
+use Rattle.script.specs.SimulationLines.{servedLine}
 use Rattle.permits.specs.declared.Served.{Served}
 use Rattle.permits.specs.declared.Served.the-variants.{Sends, Waits, Refused}
 use Rattle.script.proofs.served_line.Statement.{statement}

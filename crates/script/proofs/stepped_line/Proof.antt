@@ -6,7 +6,7 @@ use Rattle.script.specs.declared.Text.{Text}
 use Rattle.script.specs.Ascii.{ascii}
 use Rattle.script.specs.Text.{textOf}
 use Rattle.script.specs.Answers.{spaced, refusedLine}
-use Rattle.script.specs.Said.{steppedLine}
+use Rattle.script.specs.SimulationLines.{steppedLine}
 use Rattle.modules.specs.declared.Turn.{Turn}
 use Rattle.modules.specs.declared.Turn.the-variants.{Event, Stray, Nothing}
 use Rattle.permits.specs.declared.Stepped.{Stepped}

@@ -6,7 +6,7 @@ use Rattle.script.specs.declared.Text.{Text}
 use Rattle.script.specs.Ascii.{ascii}
 use Rattle.script.specs.Text.{textOf}
 use Rattle.script.specs.Answers.{spaced, refusedLine}
-use Rattle.script.specs.Said.{tickLine}
+use Rattle.script.specs.SimulationLines.{tickLine}
 use Rattle.modules.specs.declared.Called.{Called}
 use Rattle.modules.specs.declared.Called.the-variants.{Done, Refused}
 use Rattle.script.proofs.tick_line.Statement.{statement}

@@ -53,11 +53,11 @@ use Rattle.reader.proofs.Read as S
 use Rattle.reader.proofs.Read.Laws as S′
 use Rattle.walk.specs.Place.{started, placeAfter, Moved, readOn}
 use Rattle.walk.specs.declared.Reader.{Reader}
-use Rattle.walk.specs.declared.Onward.{Onward}
+use Rattle.walk.specs.declared.PlacedRead.{PlacedRead}
 use Rattle.walk.proofs.Reader as T
 use Rattle.walk.proofs.Reader.Laws as T′
-use Rattle.walk.proofs.Onward as O
-use Rattle.walk.proofs.Onward.Laws as O′
+use Rattle.walk.proofs.PlacedRead as O
+use Rattle.walk.proofs.PlacedRead.Laws as O′
 use Rattle.walk.proofs.new as new
 use Rattle.walk.proofs.new.Symbol as new-def
 use Rattle.walk.proofs.new.Symbol.{name as #walk·new}
@@ -208,7 +208,7 @@ module _ {M : Type 1} (𝓤 : URA M) (H : Heap 𝓤) (A : Atoms 𝓤) (W : Given
 
   -- the result, of what was read and of the place
   module _ (x : Read) (n : ℕ) (fits : n < 2 ^ 64) (is : Is S.the-row x (EL.vals S.the-type S′.the-laws x)) where
-    abbrev made : Onward
+    abbrev made : PlacedRead
     made = record { read = x; place = n }
 
     abbrev value : Val

@@ -1,7 +1,7 @@
 use Rattle.modules.proofs.Steps.{no-step, not-a-step, a-step}
 use borrow.Author.Needs.{needs}
-use Rattle.modules.proofs.work_of.Statement.{statement}
-use Rattle.modules.proofs.work_of.Tie as tie
+use Rattle.modules.proofs.step_fields.Statement.{statement}
+use Rattle.modules.proofs.step_fields.Tie as tie
 
 step-requires : tie.Need-step-requires
 step-requires c κs = search needs
@@ -12,8 +12,8 @@ enum-known-r c = search needs
 enum-told : tie.Need-enum-told
 enum-told c = search needs
 
-no-work-requires : tie.Need-no-work-requires
-no-work-requires c κs = search needs
+no-fields-requires : tie.Need-no-fields-requires
+no-fields-requires c κs = search needs
 
 returns : tie.Need-returns
 returns c = search no-step
@@ -21,8 +21,8 @@ returns c = search no-step
 enum-known-r-2 : tie.Need-enum-known-r-2
 enum-known-r-2 c = search needs
 
-no-work-requires-2 : tie.Need-no-work-requires-2
-no-work-requires-2 c κs = search needs
+no-fields-requires-2 : tie.Need-no-fields-requires-2
+no-fields-requires-2 c κs = search needs
 
 returns-2 : tie.Need-returns-2
 returns-2 c = search not-a-step
@@ -30,16 +30,16 @@ returns-2 c = search not-a-step
 returns-3 : tie.Need-returns-3
 returns-3 c = search a-step
 
-pub work-of-spec : {M : Type 1} → statement M
-work-of-spec =
+pub step-fields-spec : {M : Type 1} → statement M
+step-fields-spec =
     tie.close
     (tie.spec
     step-requires
     enum-known-r
     enum-told
-    no-work-requires
+    no-fields-requires
     returns
     enum-known-r-2
-    no-work-requires-2
+    no-fields-requires-2
     returns-2
     returns-3)

@@ -5,12 +5,12 @@ use native.Mathlib.Omega.{arith}
 use borrow.Author.Needs.{needs}
 use Rattle.reader.specs.Walk.{recordsOf}
 use Rattle.device_states.specs.States.{listFrom}
-use Rattle.device_states.proofs.Slots.{filled, fill-done, led, led-on}
-use Rattle.device_states.proofs.led_by.Statement.{statement}
-use Rattle.device_states.proofs.led_by.Tie as tie
+use Rattle.device_states.proofs.Slots.{filled, fill-done, moved, moved-on}
+use Rattle.device_states.proofs.states_after.Statement.{statement}
+use Rattle.device_states.proofs.states_after.Tie as tie
 
 abbrev Inv-loop : tie.InvT-loop
-Inv-loop image e states next₀ i₀ next i = (i ≤ 32) × (next ≡ filled (led (recordsOf image) states e) 0 32 i)
+Inv-loop image e states next₀ i₀ next i = (i ≤ 32) × (next ≡ filled (moved (recordsOf image) states e) 0 32 i)
 
 abbrev μ-loop : tie.MeasureT-loop
 μ-loop image e states next₀ i₀ next i = 32 - i
@@ -42,15 +42,15 @@ loop-again c =
     let l = c .before .before .loop in
     let a = c .before .before .before .before .args in
     let e : l .i % 256 ≡ l .i = omega (arith, c .before .loop-test .taken) in
-    (search needs, led-on _ (a .t2) (a .e) _ _ e (c .supervisor-after .ensures) (c .before .loop-test .taken) (l .inv .1))
+    (search needs, moved-on _ (a .t2) (a .e) _ _ e (c .supervisor-after .ensures) (c .before .loop-test .taken) (l .inv .1))
 
 returns : tie.Need-returns Inv-loop μ-loop
 returns c =
     let l = c .before .loop in
     let a = c .before .before .before .args in
-    fill-done (led _ (a .t2) (a .e)) 0 32 (l .i) (l .inv .1) (c .loop-test .left) (l .inv .0)
+    fill-done (moved _ (a .t2) (a .e)) 0 32 (l .i) (l .inv .1) (c .loop-test .left) (l .inv .0)
 
-pub led-by-spec : {M : Type 1} → statement M
-led-by-spec =
+pub states-after-spec : {M : Type 1} → statement M
+states-after-spec =
     tie.close
     (tie.spec Inv-loop μ-loop loop-holds cast-v array-read-st supervisor-after-requires array-write-next add-i loop-less loop-again returns)

@@ -1,7 +1,7 @@
 use borrow.Author.Needs.{needs}
-use Rattle.plan.proofs.Answers.{looked-none, looked-it}
-use Rattle.plan.proofs.look.Statement.{statement}
-use Rattle.plan.proofs.look.Tie as tie
+use Rattle.plan.proofs.Answers.{fields-none, fields-it}
+use Rattle.plan.proofs.fields_at.Statement.{statement}
+use Rattle.plan.proofs.fields_at.Tie as tie
 
 find-requires : tie.Need-find-requires
 find-requires c κs = search needs
@@ -16,16 +16,16 @@ fields-by-requires : tie.Need-fields-by-requires
 fields-by-requires c κs = search needs
 
 returns : tie.Need-returns
-returns c = search looked-none
+returns c = search fields-none
 
 fields-of-requires : tie.Need-fields-of-requires
 fields-of-requires c κs = search needs
 
 returns-2 : tie.Need-returns-2
-returns-2 c = search looked-it
+returns-2 c = search fields-it
 
-pub look-spec : {M : Type 1} → statement M
-look-spec =
+pub fields-at-spec : {M : Type 1} → statement M
+fields-at-spec =
     tie.close
     (tie.spec
     find-requires

@@ -1,7 +1,7 @@
-use Rattle.module_deliveries.proofs.Delivering.{hear-misshapen, hear-named, hear-unnamed}
+use Rattle.module_deliveries.proofs.Delivering.{deliver-fitting-misshapen, deliver-fitting-named, deliver-fitting-unnamed}
 use borrow.Author.Needs.{needs}
-use Rattle.module_deliveries.proofs.hear.Statement.{statement}
-use Rattle.module_deliveries.proofs.hear.Tie as tie
+use Rattle.module_deliveries.proofs.deliver_fitting.Statement.{statement}
+use Rattle.module_deliveries.proofs.deliver_fitting.Tie as tie
 
 enum-known-p : tie.Need-enum-known-p
 enum-known-p c = search needs
@@ -13,7 +13,7 @@ refused-requires : tie.Need-refused-requires
 refused-requires c κs = search needs
 
 returns : tie.Need-returns
-returns c = search hear-misshapen
+returns c = search deliver-fitting-misshapen
 
 named-requires : tie.Need-named-requires
 named-requires c κs = search needs
@@ -25,13 +25,13 @@ refused-requires-2 : tie.Need-refused-requires-2
 refused-requires-2 c κs = search needs
 
 returns-2 : tie.Need-returns-2
-returns-2 c = search hear-named
+returns-2 c = search deliver-fitting-named
 
 returns-3 : tie.Need-returns-3
-returns-3 c = search hear-unnamed
+returns-3 c = search deliver-fitting-unnamed
 
-pub hear-spec : {M : Type 1} → statement M
-hear-spec =
+pub deliver-fitting-spec : {M : Type 1} → statement M
+deliver-fitting-spec =
     tie.close
     (tie.spec
     enum-known-p

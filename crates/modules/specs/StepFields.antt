@@ -4,7 +4,7 @@ use mathlib.Core.List.{List}
 use Rattle.records.specs.declared.Record.{Record}
 use Rattle.rules.specs.LookUp.{found}
 use Rattle.plan.specs.Plan.{stepIn, operationOf, operandOf}
-use Rattle.modules.specs.declared.Work.{Work}
+use Rattle.modules.specs.declared.StepFields.{StepFields}
 
-abbrev pub workOf : List Record → ℕ → ℕ → Work
-workOf rs e i = record { there = found (stepIn rs e i); operation = operationOf rs e i; operand = operandOf rs e i }
+abbrev pub stepFieldsOf : List Record → ℕ → ℕ → StepFields
+stepFieldsOf rs e i = record { present = found (stepIn rs e i); operation = operationOf rs e i; operand = operandOf rs e i }

@@ -1,7 +1,7 @@
 use Rattle.modules.proofs.Ticks.{pour-none, pour-ends, pour-goes}
 use borrow.Author.Needs.{needs}
-use Rattle.modules.proofs.poured.Statement.{statement}
-use Rattle.modules.proofs.poured.Tie as tie
+use Rattle.modules.proofs.metered.Statement.{statement}
+use Rattle.modules.proofs.metered.Tie as tie
 
 running-requires : tie.Need-running-requires
 running-requires c κs = search needs
@@ -12,8 +12,8 @@ updated-requires c κs = search needs
 reached-requires : tie.Need-reached-requires
 reached-requires c κs = search needs
 
-onward-requires : tie.Need-onward-requires
-onward-requires c κs = search needs
+advanced-requires : tie.Need-advanced-requires
+advanced-requires c κs = search needs
 
 returns : tie.Need-returns
 returns c = search pour-ends
@@ -24,14 +24,14 @@ returns-2 c = search pour-goes
 returns-3 : tie.Need-returns-3
 returns-3 c = search pour-none
 
-pub poured-spec : {M : Type 1} → statement M
-poured-spec =
+pub metered-spec : {M : Type 1} → statement M
+metered-spec =
     tie.close
     (tie.spec
     running-requires
     updated-requires
     reached-requires
-    onward-requires
+    advanced-requires
     returns
     returns-2
     returns-3)

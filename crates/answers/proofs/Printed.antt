@@ -26,12 +26,12 @@ use Rattle.script.specs.declared.Text.{Text}
 use Rattle.script.specs.Ascii.{ascii}
 use Rattle.script.specs.Text.{textOf, cut}
 use Rattle.script.specs.Answers.{refusedLine, responseLine}
-use Rattle.script.specs.Said.{hexes, sentLine, deliveredLine, steppedLine, servedLine, tickLine, nothingLine}
+use Rattle.script.specs.SimulationLines.{hexes, sentLine, deliveredLine, steppedLine, servedLine, tickLine, nothingLine}
 use Rattle.script.proofs.Texts.{appended-text}
 use Rattle.simulation.specs.declared.Answer.{Answer}
 use Rattle.simulation.specs.declared.Answer.the-variants.{Module, Supervisor, Delivery, NoMessage, Response, Tick, Misshapen}
 use Rattle.simulation.proofs.Answer as AnswerType
-use Rattle.answers.specs.Said.{deliveryLine, answerLine, eventOf, stepEvent, fired, commandOf, command}
+use Rattle.answers.specs.AnswerLines.{deliveryLine, answerLine, eventOf, stepEvent, fired, commandOf, command}
 use Rattle.simulation.proofs.Playing.{message-length}
 
 -- ---- a message's bytes are few
