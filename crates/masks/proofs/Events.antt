@@ -9,7 +9,7 @@ use native.Mathlib.Omega.{arith}
 use lib.Dec.{eqb, ltb, lit<}
 use lib.Bits.{bitAnd, bitOr, and-le-l}
 use lib.Pow.{pow-lt}
-use borrow.Author.Tests.{lt-ltb, le-ltb, ne-eqb, eq-eqb}
+use borrow.Author.Tests.{lt-ltb, ne-eqb, eq-eqb}
 use Rattle.bits.specs.Bit.{bit, maskOf}
 use Rattle.bits.proofs.Laws.{bit-and, bit-or, bit-not, bit-low-ones, shl-one}
 use Rattle.bits.proofs.Mask.{mask-is, mask-bit, mask-small, common-is}
@@ -18,7 +18,7 @@ use Rattle.rules.specs.LookUp.{field2, eventsOf, supervisorsOf, ownerOf, alphab
 use Rattle.plan.specs.Plan.{ownEvent, neighbour}
 use Rattle.masks.specs.declared.Seen.{Seen}
 use Rattle.masks.specs.Seen.{seenBy, seenIn, noneSeen}
-use Rattle.masks.proofs.Meaning.{kept-is, known-fits}
+use Rattle.masks.proofs.Meaning.{kept-is}
 
 -- ---- the numbers below n
 
@@ -69,16 +69,15 @@ module _ (rs : List Record) (m : ℕ) where
 
 -- ---- neighbours
 
-module _ (rs : List Record) (v : ℕ) {n own : ℕ} where
-  pub near-in : {a : ℕ} → n ≡ supervisorsOf rs → v < n → a ≡ alphabetOf rs v → a < 2 ^ 64 → (m : ℕ) → own ≡ maskOf (ownEvent rs m) 64
-      → not (eqb (bitAnd a own) 0) ≡ (ltb v (supervisorsOf rs) && neighbour rs m v)
-  near-in q h e f m w =
-      ap₂ (λ (x y : ℕ). not (eqb (bitAnd x y) 0)) e w
-      ∙ common-is (λ e. eqb (ownerOf rs e) m) 64 (eventsOf rs) (alphabetOf rs v) (subst (λ (x : ℕ). x < 2 ^ 64) e f)
-      ∙ sym (ap (λ (t : Bool). t && neighbour rs m v) (lt-ltb v (supervisorsOf rs) (subst (λ (x : ℕ). v < x) q h)))
+module _ (v : ℕ) {own a : ℕ} (f : a < 2 ^ 64) where
+  pub neighbour-is : (rs : List Record) (m : ℕ) → own ≡ maskOf (ownEvent rs m) 64 → a ≡ alphabetOf rs v → not (eqb (bitAnd a own) 0) ≡ neighbour rs m v
+  neighbour-is rs m w k =
+      ap₂ (λ (x y : ℕ). not (eqb (bitAnd x y) 0)) k w
+      ∙ common-is (λ e. eqb (ownerOf rs e) m) 64 (eventsOf rs) (alphabetOf rs v) (subst (λ (x : ℕ). x < 2 ^ 64) k f)
 
-  pub near-out : n ≡ supervisorsOf rs → n ≤ v → (m : ℕ) → own ≡ maskOf (ownEvent rs m) 64 → false ≡ (ltb v (supervisorsOf rs) && neighbour rs m v)
-  near-out q h m w = sym (ap (λ (t : Bool). t && neighbour rs m v) (le-ltb v (supervisorsOf rs) (subst (λ (x : ℕ). x ≤ v) q h)))
+  pub near-is : {n : ℕ} (rs : List Record) (m : ℕ) → n ≡ supervisorsOf rs → own ≡ maskOf (ownEvent rs m) 64 → a ≡ alphabetOf rs v
+      → (ltb v n && not (eqb (bitAnd a own) 0)) ≡ (ltb v (supervisorsOf rs) && neighbour rs m v)
+  near-is rs m q w k = ap₂ (λ (x : ℕ) (t : Bool). ltb v x && t) q (neighbour-is rs m w k)
 
 -- one bit more of a mask that is made from below
 pub one-bit : (p : ℕ → Bool) (v : ℕ) {x y : ℕ} {b : Bool} → x ≡ maskOf p v → b ≡ p v → y ≡ cond b (bitOr x (2 ^ v)) x → y ≡ maskOf p (v + 1)

@@ -1,15 +1,18 @@
 // Masks of a plan: the commands of a module's state, and a module's neighbours.
 ghost use mathlib.Core.Path.{_≡_};
 ghost use Prim.Native.Nat.{ℕ, _<_, _^_};
+ghost use mathlib.Core.List.{List};
 ghost use mathlib.Core.Bool.{cond, _&&_};
 ghost use lib.Bits.{bitOr};
 ghost use lib.Dec.{ltb};
 ghost use Rattle.bits.specs.Bit.{maskOf};
+ghost use Rattle.records.specs.declared.Record.{Record};
 ghost use Rattle.reader.specs.Walk.{recordsOf};
-ghost use Rattle.rules.specs.LookUp.{supervisorsOf};
+ghost use Rattle.rules.specs.LookUp.{supervisorsOf, alphabetOf};
 ghost use Rattle.plan.specs.Plan.{commands, ownEvent, neighbour, neighbours};
 ghost use Rattle.masks.specs.Seen.{putIf, seenBy, seenIn, noneSeen};
 use reader::Read;
+use reader::Shape;
 use records::Record;
 
 // The events that have a record, by the first of each the controllable ones and those of a module, and the events by which that
@@ -43,7 +46,7 @@ fn seen_by(m: u8, st: u8, s: Seen, r: Record) -> Seen
     }
 }
 
-// One pass over the image.
+// One pass over the image, which skips records of kinds other than events and moves of modules.
 fn scan(image: &[u8], m: u8, st: u8) -> Seen
     ensures { λ s. ⌜ s ≡ seenIn m st noneSeen (recordsOf (now (image .entry))) ⌝ }
 {
@@ -55,10 +58,15 @@ fn scan(image: &[u8], m: u8, st: u8) -> Seen
         moves: 0,
     };
     loop {
-        let Read::Whole(r, next) = reader::read_at(image, i) else {
+        let Shape::Whole(k, _, next) = reader::shape_at(image, i) else {
             return s;
         };
-        s = seen_by(m, st, s, r);
+        if (k == 0x11) | (k == 0x13) {
+            let Read::Whole(r, _) = reader::read_at(image, i) else {
+                return s;
+            };
+            s = seen_by(m, st, s, r);
+        }
         i = next;
     }
 }
@@ -96,15 +104,11 @@ fn own_events(image: &[u8], m: u8) -> u64
     }
 }
 
-// Whether a supervisor is a neighbour of the module that owns the events.
-fn near(image: &[u8], own: u64, v: u8) -> bool
-    ensures { λ r. ⌜ ((m : ℕ) → own ≡ maskOf (ownEvent (recordsOf (now (image .entry))) m) 64 → r ≡ (ltb v (supervisorsOf (recordsOf (now (image .entry)))) && neighbour (recordsOf (now (image .entry))) m v)) ⌝ }
+// Whether a supervisor of the n of a plan is a neighbour of the module that owns the events.
+fn near(own: u64, alphabet: u64, v: u8, n: u8) -> bool
+    ensures { λ r. ⌜ ((rs : List Record) (m : ℕ) → n ≡ supervisorsOf rs → own ≡ maskOf (ownEvent rs m) 64 → alphabet ≡ alphabetOf rs v → r ≡ (ltb v (supervisorsOf rs) && neighbour rs m v)) ⌝ }
 {
-    if v < plan::supervisors_of(image) {
-        plan::alphabet_of(image, v) & own != 0
-    } else {
-        false
-    }
+    (v < n) & (alphabet & own != 0)
 }
 
 fn with_bit(mask: u32, v: u8, on: bool) -> u32
@@ -114,14 +118,18 @@ fn with_bit(mask: u32, v: u8, on: bool) -> u32
     if on { mask | (1u32 << v) } else { mask }
 }
 
-// The neighbours of a module: the supervisors whose alphabet has an event of it.
+// The neighbours of a module: the supervisors whose alphabet has an event of it. One pass finds the module's events, one the alphabets.
 pub fn neighbours(image: &[u8], m: u8) -> u32
     ensures { λ r. ⌜ r ≡ neighbours (recordsOf (now (image .entry))) m ⌝ }
 {
     let own = own_events(image, m);
+    let n = plan::supervisors_of(image);
+    let looks = supervisor_records::look_all(image, 0x14, [0; 32], 0);
     let mut mask: u32 = 0;
     for v in 0..32 {
-        mask = with_bit(mask, v, near(image, own, v));
+        let i = words::wide(v);
+        let alphabet = looks.words[i];
+        mask = with_bit(mask, v, near(own, alphabet, v, n));
     }
     mask
 }

@@ -7,22 +7,39 @@ use Rattle.bits.specs.Bit.{maskOf}
 use Rattle.reader.specs.Walk.{recordsOf}
 use Rattle.rules.specs.LookUp.{supervisorsOf}
 use Rattle.plan.specs.Plan.{neighbour}
+use Rattle.supervisor_records.proofs.Supervisors.{alphabet-in}
 use Rattle.masks.proofs.Events.{one-bit, all-bits}
 use Rattle.masks.proofs.neighbours.Statement.{statement}
 use Rattle.masks.proofs.neighbours.Tie as tie
 
 abbrev Inv-loop : tie.InvT-loop
-Inv-loop image m own mask₀ v₀ mask v = (v ≤ 32) × (mask ≡ maskOf (λ e. ltb e (supervisorsOf (recordsOf image)) && neighbour (recordsOf image) m e) v)
+Inv-loop image m own n looks mask₀ v₀ mask v =
+    (v ≤ 32) × (mask ≡ maskOf (λ u. ltb u (supervisorsOf (recordsOf image)) && neighbour (recordsOf image) m u) v)
 
 abbrev μ-loop : tie.MeasureT-loop
-μ-loop image m own mask₀ v₀ mask v = 32 - v
+μ-loop image m own n looks mask₀ v₀ mask v = 32 - v
 
 own-events-requires : tie.Need-own-events-requires Inv-loop μ-loop
 own-events-requires c κs = search needs
 
+supervisors-of-requires : tie.Need-supervisors-of-requires Inv-loop μ-loop
+supervisors-of-requires c κs = search needs
+
+look-all-requires : tie.Need-look-all-requires Inv-loop μ-loop
+look-all-requires c κs = search needs
+
 loop-holds : tie.Need-loop-holds Inv-loop μ-loop
 unfolding maskOf
 loop-holds c = (search needs, refl)
+
+wide-requires : tie.Need-wide-requires Inv-loop μ-loop
+wide-requires c κs = search needs
+
+mul-alphabet : tie.Need-mul-alphabet Inv-loop μ-loop
+mul-alphabet c = search needs
+
+element-copy-out-alphabet : tie.Need-element-copy-out-alphabet Inv-loop μ-loop
+element-copy-out-alphabet c = search needs
 
 near-requires : tie.Need-near-requires Inv-loop μ-loop
 near-requires c κs = search needs
@@ -38,8 +55,10 @@ loop-less c = search needs
 
 loop-again : tie.Need-loop-again Inv-loop μ-loop
 loop-again c =
-    let b = c .before .before .before in
-    (search needs, one-bit _ _ (b .loop .inv .1) (c .before .near .ensures (b .before .before .before .args .m) (b .before .own-events .ensures)) (c .with-bit .ensures))
+    let l = c .before .before .before .before .before in
+    let a = l .before in
+    let near = c .before .near .ensures _ _ (a .before .supervisors-of .ensures) (a .before .before .own-events .ensures) (search alphabet-in) in
+    (search needs, one-bit _ _ (l .loop .inv .1) near (c .with-bit .ensures))
 
 returns : tie.Need-returns Inv-loop μ-loop
 returns c = all-bits _ 32 _ (c .before .loop .inv .1) (c .before .loop .inv .0) (c .loop-test .left)
@@ -51,7 +70,12 @@ neighbours-spec =
     Inv-loop
     μ-loop
     own-events-requires
+    supervisors-of-requires
+    look-all-requires
     loop-holds
+    wide-requires
+    mul-alphabet
+    element-copy-out-alphabet
     near-requires
     with-bit-requires
     add-v
