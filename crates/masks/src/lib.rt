@@ -92,7 +92,7 @@ fn below(n: u8) -> u64
 }
 
 // The events of a module. A look-up that finds no record gives module 0.
-fn own_events(image: &[u8], m: u8) -> u64
+pub fn own_events(image: &[u8], m: u8) -> u64
     ensures { λ r. ⌜ r ≡ maskOf (ownEvent (recordsOf (now (image .entry))) m) 64 ⌝ }
 {
     let low = below(plan::events_of(image));

@@ -99,16 +99,9 @@ pub fn empty_supervisor() -> Supervisor
 fn is_neighbour(image: &[u8], m: u8, v: u8) -> bool
     ensures { λ r. ⌜ r ≡ neighbour (recordsOf (now (image .entry))) m v ⌝ }
 {
-    let n = plan::events_of(image);
+    let own = masks::own_events(image, m);
     let alphabet = plan::alphabet_of(image, v);
-    let mut e: u8 = 0;
-    while e < n {
-        if plan::own_event(image, m, e) & bits::has(alphabet, e) {
-            return true;
-        }
-        e += 1;
-    }
-    false
+    alphabet & own != 0
 }
 
 // Whether a module and a supervisor are the plan's, and neighbours.

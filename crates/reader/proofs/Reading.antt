@@ -200,6 +200,11 @@ module _ (s : List ℕ) (i : ℕ) {r : Read} where
       none Cut o = refl
       none Nothing o = refl
 
+-- a whole record, forwards
+pub reads-whole : (s : List ℕ) (i : ℕ) → i < length s → (bodyLen (getD s i 0) ≡ noLen → ⊥) → bodyLen (getD s i 0) ≤ length s - (i + 1)
+    → readAt s i ≡ Whole (recordOf (getD s i 0) (drop (i + 1) s)) (i + 1 + bodyLen (getD s i 0))
+reads-whole s i h u w = reads-by s i (sym (shapes-whole s i h u w))
+
 -- the same, from what a caller of `shape_at` is told
 module _ (s : List ℕ) (i : ℕ) {x : Shape} where
   pub read-there : {k b n : ℕ} → x ≡ shapeAt s i → x ≡ WholeThere k b n → readAt s i ≡ Whole (recordOf k (drop b s)) n
