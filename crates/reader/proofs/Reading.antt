@@ -264,6 +264,34 @@ kind-kept k b h =
     go false false false false false false false false true e0 e1 e2 e3 e4 e5 e6 e7 e8 h = sym (eqb-true _ _ e8)
     go false false false false false false false false false e0 e1 e2 e3 e4 e5 e6 e7 e8 h = absurd (h refl)
 
+-- the records from i, by what a caller of `shape_at` is told, also where it reads the record at the same offset
+module _ (s : List ℕ) (i : ℕ) {x : Shape} where
+  pub records-there : {k b n : ℕ} → x ≡ shapeAt s i → x ≡ WholeThere k b n → recordsIn (walkFrom s i) ≡ recordOf k (drop b s) ∷ recordsIn (walkFrom s n)
+  records-there e g = records-by s i refl (read-there s i e g)
+
+  pub kind-in-there : {k b n : ℕ} → x ≡ shapeAt s i → x ≡ WholeThere k b n → keyOf (recordOf k (drop b s)) .kind ≡ k
+  kind-in-there {k = k} {b = b} e g = kind-kept k (drop b s) (known-there s i e g)
+
+  pub no-records-there : x ≡ shapeAt s i → OneOf (1 ∷ 2 ∷ 3 ∷ []) (tagOf shape-type x) → recordsIn (walkFrom s i) ≡ []
+  unfolding recordsIn
+  no-records-there e t = ap recordsIn (walks s i ∙ ap (next s i) (reads-by s i e)) ∙ none x t
+    where
+      none : (z : Shape) → OneOf (1 ∷ 2 ∷ 3 ∷ []) (tagOf shape-type z) → recordsIn (next s i (readBy s z)) ≡ []
+      none (WholeThere k b n) o = absurd (miss (1 ∷ 2 ∷ 3 ∷ []) 0 tt o)
+      none UnknownThere o = refl
+      none CutThere o = refl
+      none NothingThere o = refl
+
+  module _ {k b n m : ℕ} {y : Read} {r : Record} (e : x ≡ shapeAt s i) (g : x ≡ WholeThere k b n) (f : y ≡ readAt s i) (h : y ≡ Whole r m) where
+    pub read-is-there : r ≡ recordOf k (drop b s)
+    read-is-there = told-by s i f h .is ∙ sym (told-by s i refl (read-there s i e g) .is)
+
+    pub records-read-there : recordsIn (walkFrom s i) ≡ r ∷ recordsIn (walkFrom s n)
+    records-read-there = records-there e g ∙ ap (λ (z : Record). z ∷ recordsIn (walkFrom s n)) (sym read-is-there)
+
+    pub kind-read-there : keyOf r .kind ≡ k
+    kind-read-there = ap (λ (z : Record). keyOf z .kind) read-is-there ∙ kind-in-there e g
+
 -- a look-up among the records from i, by the same
 module _ (p : RecordKey) (s : List ℕ) (i : ℕ) {x : Shape} {y : Found} where
   pub finds-by : {k b n : ℕ} {r : Record} {q : RecordKey} {t : Bool} → x ≡ shapeAt s i → x ≡ WholeThere k b n → q ≡ keyOf (recordOf k (drop b s))
@@ -271,29 +299,22 @@ module _ (p : RecordKey) (s : List ℕ) (i : ℕ) {x : Shape} {y : Found} where
   unfolding findIn
   finds-by {k = k} {b = b} e g h m f w v =
       let a : sameKey (keyOf (recordOf k (drop b s))) p ≡ true = cc in
-      ap It w ∙ sym (ap (findIn p) (records-by s i refl (read-there s i e g)) ∙ simp a) ∙ v
+      ap It w ∙ sym (ap (findIn p) (records-there s i e g) ∙ simp a) ∙ v
 
   pub again-by : {k b : ℕ} (n : ℕ) {q : RecordKey} {t : Bool} → x ≡ shapeAt s i → x ≡ WholeThere k b n → q ≡ keyOf (recordOf k (drop b s))
       → t ≡ sameKey q p → t ≡ false → findIn p (recordsIn (walkFrom s i)) ≡ y → findIn p (recordsIn (walkFrom s n)) ≡ y
   unfolding findIn
   again-by {k = k} {b = b} n e g h m f v =
       let a : sameKey (keyOf (recordOf k (drop b s))) p ≡ false = cc in
-      sym (ap (findIn p) (records-by s i refl (read-there s i e g)) ∙ simp a) ∙ v
+      sym (ap (findIn p) (records-there s i e g) ∙ simp a) ∙ v
 
   pub passes-by : {k b : ℕ} (n : ℕ) → x ≡ shapeAt s i → x ≡ WholeThere k b n → (k ≡ p .kind → ⊥) → findIn p (recordsIn (walkFrom s i)) ≡ y
       → findIn p (recordsIn (walkFrom s n)) ≡ y
   unfolding sameKey
   passes-by {k = k} {b = b} n e g d v =
-      let c : keyOf (recordOf k (drop b s)) .kind ≡ k = kind-kept k (drop b s) (known-there s i e g) in
-      let a : sameKey (keyOf (recordOf k (drop b s))) p ≡ false = simp (ne-eqb _ _ (λ z. d (sym c ∙ z))) in
+      let a : sameKey (keyOf (recordOf k (drop b s))) p ≡ false = simp (ne-eqb _ _ (λ z. d (sym (kind-in-there s i e g) ∙ z))) in
       again-by n e g refl refl a v
 
   pub missing-by : x ≡ shapeAt s i → OneOf (1 ∷ 2 ∷ 3 ∷ []) (tagOf shape-type x) → findIn p (recordsIn (walkFrom s i)) ≡ y → Missing ≡ y
-  unfolding findIn recordsIn
-  missing-by e t v = sym (ap (λ w. findIn p (recordsIn w)) (walks s i ∙ ap (next s i) (reads-by s i e)) ∙ none x t) ∙ v
-    where
-      none : (z : Shape) → OneOf (1 ∷ 2 ∷ 3 ∷ []) (tagOf shape-type z) → findIn p (recordsIn (next s i (readBy s z))) ≡ Missing
-      none (WholeThere k b n) o = absurd (miss (1 ∷ 2 ∷ 3 ∷ []) 0 tt o)
-      none UnknownThere o = refl
-      none CutThere o = refl
-      none NothingThere o = refl
+  unfolding findIn
+  missing-by e t v = sym (ap (findIn p) (no-records-there s i e t)) ∙ v

@@ -90,8 +90,8 @@ pub enum Read {
     Nothing,
 }
 
-// The same without the fields.
-enum Shape {
+// The same without the fields, for one who looks for records of a kind.
+pub enum Shape {
     // the kind, and the offsets of the body and of what follows it
     Whole(u8, usize, usize),
     Unknown,
@@ -99,7 +99,7 @@ enum Shape {
     Nothing,
 }
 
-fn shape_at(s: &[u8], at: usize) -> Shape
+pub fn shape_at(s: &[u8], at: usize) -> Shape
     ensures { λ r. ⌜ r ≡ shapeAt (now (s .entry)) at ⌝ }
 {
     if s.len() <= at {
