@@ -75,9 +75,9 @@ module _ (v : ℕ) {own a : ℕ} (f : a < 2 ^ 64) where
       ap₂ (λ (x y : ℕ). not (eqb (bitAnd x y) 0)) k w
       ∙ common-is (λ e. eqb (ownerOf rs e) m) 64 (eventsOf rs) (alphabetOf rs v) (subst (λ (x : ℕ). x < 2 ^ 64) k f)
 
-  pub near-is : {n : ℕ} (rs : List Record) (m : ℕ) → n ≡ supervisorsOf rs → own ≡ maskOf (ownEvent rs m) 64 → a ≡ alphabetOf rs v
+  pub neighbour-bit-is : {n : ℕ} (rs : List Record) (m : ℕ) → n ≡ supervisorsOf rs → own ≡ maskOf (ownEvent rs m) 64 → a ≡ alphabetOf rs v
       → (ltb v n && not (eqb (bitAnd a own) 0)) ≡ (ltb v (supervisorsOf rs) && neighbour rs m v)
-  near-is rs m q w k = ap₂ (λ (x : ℕ) (t : Bool). ltb v x && t) q (neighbour-is rs m w k)
+  neighbour-bit-is rs m q w k = ap₂ (λ (x : ℕ) (t : Bool). ltb v x && t) q (neighbour-is rs m w k)
 
 -- one bit more of a mask that is made from below
 pub one-bit : (p : ℕ → Bool) (v : ℕ) {x y : ℕ} {b : Bool} → x ≡ maskOf p v → b ≡ p v → y ≡ cond b (bitOr x (2 ^ v)) x → y ≡ maskOf p (v + 1)

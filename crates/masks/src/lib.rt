@@ -105,7 +105,7 @@ pub fn own_events(image: &[u8], m: u8) -> u64
 }
 
 // Whether a supervisor of the n of a plan is a neighbour of the module that owns the events.
-fn near(own: u64, alphabet: u64, v: u8, n: u8) -> bool
+fn is_neighbour(own: u64, alphabet: u64, v: u8, n: u8) -> bool
     ensures { λ r. ⌜ ((rs : List Record) (m : ℕ) → n ≡ supervisorsOf rs → own ≡ maskOf (ownEvent rs m) 64 → alphabet ≡ alphabetOf rs v → r ≡ (ltb v (supervisorsOf rs) && neighbour rs m v)) ⌝ }
 {
     (v < n) & (alphabet & own != 0)
@@ -129,7 +129,7 @@ pub fn neighbours(image: &[u8], m: u8) -> u32
     for v in 0..32 {
         let i = words::wide(v);
         let alphabet = looks.words[i];
-        mask = with_bit(mask, v, near(own, alphabet, v, n));
+        mask = with_bit(mask, v, is_neighbour(own, alphabet, v, n));
     }
     mask
 }

@@ -41,8 +41,8 @@ mul-alphabet c = search needs
 element-copy-out-alphabet : tie.Need-element-copy-out-alphabet Inv-loop μ-loop
 element-copy-out-alphabet c = search needs
 
-near-requires : tie.Need-near-requires Inv-loop μ-loop
-near-requires c κs = search needs
+is-neighbour-requires : tie.Need-is-neighbour-requires Inv-loop μ-loop
+is-neighbour-requires c κs = search needs
 
 with-bit-requires : tie.Need-with-bit-requires Inv-loop μ-loop
 with-bit-requires c κs = search needs
@@ -57,8 +57,8 @@ loop-again : tie.Need-loop-again Inv-loop μ-loop
 loop-again c =
     let l = c .before .before .before .before .before in
     let a = l .before in
-    let near = c .before .near .ensures _ _ (a .before .supervisors-of .ensures) (a .before .before .own-events .ensures) (search alphabet-in) in
-    (search needs, one-bit _ _ (l .loop .inv .1) near (c .with-bit .ensures))
+    let bit-is = c .before .is-neighbour .ensures _ _ (a .before .supervisors-of .ensures) (a .before .before .own-events .ensures) (search alphabet-in) in
+    (search needs, one-bit _ _ (l .loop .inv .1) bit-is (c .with-bit .ensures))
 
 returns : tie.Need-returns Inv-loop μ-loop
 returns c = all-bits _ 32 _ (c .before .loop .inv .1) (c .before .loop .inv .0) (c .loop-test .left)
@@ -76,7 +76,7 @@ neighbours-spec =
     wide-requires
     mul-alphabet
     element-copy-out-alphabet
-    near-requires
+    is-neighbour-requires
     with-bit-requires
     add-v
     loop-less
