@@ -1,12 +1,16 @@
 use borrow.Author.Needs.{needs}
 use native.Mathlib.Omega.{arith}
-use mathlib.Core.Path.{_≡_, refl}
-use Prim.Native.Nat.{_-_}
+use mathlib.Core.Path.{_≡_, refl, ap}
+use mathlib.Core.List.{List}
+use Prim.Native.Nat.{ℕ, _-_}
+use denote.Ref.{now}
 use lib.ListN.{length}
 use Rattle.reader.specs.Walk.{walkFrom}
-use Rattle.reader.proofs.Reading.{inside-by, less-by}
+use Rattle.reader.proofs.Reading.{inside-by}
 use Rattle.rules.specs.Check.{verdictOf}
-use Rattle.checker.proofs.Loop.{checkBy, begins, too-long, stopped-by, refused-by, ended-by, goes-on-by}
+use Rattle.context.specs.declared.Context.{Context}
+use Rattle.checker.specs.Stretch.{checkBy}
+use Rattle.checker.proofs.Loop.{begins, too-long, stopped-by, refused-by, ended-by, goes-on-by, goes-past-by, stretch-past, stretch-less}
 use Rattle.checker.proofs.check.Statement.{statement}
 use Rattle.checker.proofs.check.Tie as tie
 
@@ -67,11 +71,33 @@ returns-6 c = search ended-by
 with-record-requires : tie.Need-with-record-requires Inv-loop μ-loop
 with-record-requires c κs = search needs
 
+pass-requires : tie.Need-pass-requires Inv-loop μ-loop
+pass-requires c κs = search needs
+
+loop-again-2 : tie.Need-loop-again-2 Inv-loop μ-loop
+loop-again-2 c = search goes-past-by
+
+loop-less-2 : tie.Need-loop-less-2 Inv-loop μ-loop
+loop-less-2 c = search stretch-less
+
+steps-requires : tie.Need-steps-requires Inv-loop μ-loop
+steps-requires c κs = search needs
+
 loop-less : tie.Need-loop-less Inv-loop μ-loop
-loop-less c = search less-by
+loop-less c = search stretch-less
+
+-- after steps `search` would have too many facts to look at, so that those of the record before are taken by themselves
+abbrev bytes : tie.After-with-record Inv-loop μ-loop → List ℕ
+bytes c = now (c .before .before .before .before .before .before .before .before .before .before .before .before .before .args .image)
+
+past : (c : tie.After-with-record Inv-loop μ-loop)
+    → checkBy (length (bytes c)) (c .with-record .result) (walkFrom (bytes c) (c .before .before .before .before .before .before .r .given .0 .1 .0)) ≡ verdictOf (bytes c)
+past c = search goes-on-by
 
 loop-again : tie.Need-loop-again Inv-loop μ-loop
-loop-again c = search goes-on-by
+loop-again c =
+    let a = c .before .before .before .before in
+    stretch-past _ _ _ _ _ _ (ap (λ (d : Context). d .begun) (a .with-record .ensures)) (c .before .before .steps .ensures) (past a)
 
 pub check-spec : {M : Type 1} → statement M
 check-spec =
@@ -96,5 +122,9 @@ check-spec =
     end-at-requires
     returns-6
     with-record-requires
+    steps-requires
     loop-less
-    loop-again)
+    loop-again
+    pass-requires
+    loop-less-2
+    loop-again-2)

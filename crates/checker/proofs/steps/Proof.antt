@@ -1,0 +1,105 @@
+use borrow.Author.Needs.{needs}
+use Prim.Native.Nat.{_-_}
+use lib.ListN.{length}
+use lib.Dec.{lit≤}
+use Rattle.checker.specs.Stretch.{withSteps, Reached}
+use Rattle.checker.proofs.Stretch.{begins-stretch, fields-by, inside-by, fits-by, further-by, step-step}
+use Rattle.checker.proofs.steps.Statement.{statement}
+use Rattle.checker.proofs.steps.Tie as tie
+
+abbrev Inv-loop : tie.InvT-loop
+Inv-loop image from c events₀ last₀ i₀ events last i = Reached image c from (withSteps c events last) i
+
+abbrev μ-loop : tie.MeasureT-loop
+μ-loop image from c events₀ last₀ i₀ events last i = length image - i
+
+loop-holds : tie.Need-loop-holds Inv-loop μ-loop
+loop-holds c = search begins-stretch
+
+stands-requires : tie.Need-stands-requires Inv-loop μ-loop
+stands-requires c κs = search needs
+
+returns : tie.Need-returns Inv-loop μ-loop
+returns c = search needs
+
+fields-at-requires : tie.Need-fields-at-requires Inv-loop μ-loop
+fields-at-requires c κs = search (fields-by, lit≤)
+
+add-word-at : tie.Need-add-word-at Inv-loop μ-loop
+add-word-at c = search (needs, inside-by, lit≤)
+
+word-at-requires : tie.Need-word-at-requires Inv-loop μ-loop
+word-at-requires c κs = search needs
+
+returns-2 : tie.Need-returns-2 Inv-loop μ-loop
+returns-2 c = search needs
+
+wide-requires : tie.Need-wide-requires Inv-loop μ-loop
+wide-requires c κs = search needs
+
+element-copy-out-owner : tie.Need-element-copy-out-owner Inv-loop μ-loop
+element-copy-out-owner c = search needs
+
+element-copy-out-count : tie.Need-element-copy-out-count Inv-loop μ-loop
+element-copy-out-count c = search needs
+
+cast-y : tie.Need-cast-y Inv-loop μ-loop
+cast-y c = search needs
+
+wide-requires-2 : tie.Need-wide-requires-2 Inv-loop μ-loop
+wide-requires-2 c κs = search needs
+
+element-copy-out-other : tie.Need-element-copy-out-other Inv-loop μ-loop
+element-copy-out-other c = search needs
+
+step-kept-requires : tie.Need-step-kept-requires Inv-loop μ-loop
+step-kept-requires c κs = search needs
+
+precedes-requires : tie.Need-precedes-requires Inv-loop μ-loop
+precedes-requires c κs = search needs
+
+returns-3 : tie.Need-returns-3 Inv-loop μ-loop
+returns-3 c = search needs
+
+wrapping-add-u8-requires : tie.Need-wrapping-add-u8-requires Inv-loop μ-loop
+wrapping-add-u8-requires c κs = search needs
+
+element-write-events : tie.Need-element-write-events Inv-loop μ-loop
+element-write-events c = search needs
+
+add-i : tie.Need-add-i Inv-loop μ-loop
+add-i c = search (needs, fits-by)
+
+loop-less : tie.Need-loop-less Inv-loop μ-loop
+loop-less c = search (further-by, lit≤)
+
+loop-again : tie.Need-loop-again Inv-loop μ-loop
+loop-again c = search step-step
+
+pub steps-spec : {M : Type 1} → statement M
+steps-spec =
+    tie.close
+    (tie.spec
+    Inv-loop
+    μ-loop
+    loop-holds
+    stands-requires
+    returns
+    fields-at-requires
+    add-word-at
+    word-at-requires
+    returns-2
+    wide-requires
+    element-copy-out-owner
+    element-copy-out-count
+    cast-y
+    wide-requires-2
+    element-copy-out-other
+    step-kept-requires
+    precedes-requires
+    returns-3
+    wrapping-add-u8-requires
+    element-write-events
+    add-i
+    loop-less
+    loop-again)
