@@ -22,7 +22,8 @@ use Rattle.device_states.specs.declared.Device.{Device}
 use Rattle.device.specs.declared.DeviceTurned.{DeviceTurned}
 use Rattle.device.specs.declared.DeviceCalled.{DeviceCalled}
 use Rattle.device.specs.declared.Turning.the-variants.{Turned as Turns, Refused as TurnRefused}
-use Rattle.device_states.specs.States.{stateOf, listFrom, stateAfterTurn, withOwn, statesAfter, emptyDevice, startDevice}
+use Rattle.supervisor_records.specs.Looks.{listFrom}
+use Rattle.device_states.specs.States.{stateOf, stateAfterTurn, withOwn, statesAfter, emptyDevice, startDevice}
 use Rattle.device.specs.Device.{turned, afterTurn, deviceNumber, turnRefused, turnIn, turnBy, turnCall, callRefused, replyIn, replyBy, startBy, startCall}
 use Rattle.device_states.proofs.Slots.{same-slots}
 

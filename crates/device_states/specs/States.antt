@@ -14,6 +14,7 @@ use Rattle.modules.specs.declared.Turn.{Turn}
 use Rattle.modules.specs.declared.Turn.the-variants.{Event, Stray, Nothing}
 use Rattle.modules.specs.Turn.{startOwn, emptyOwn}
 use Rattle.modules.specs.Fits.{ownFits, ownEmpty}
+use Rattle.supervisor_records.specs.Looks.{listFrom}
 use Rattle.device_states.specs.declared.Device.{Device}
 
 abbrev pub ownAt : Device → ℕ → Own
@@ -24,11 +25,6 @@ stateOf states v = getD states v 0
 
 abbrev pub stateAt : Device → ℕ → ℕ
 stateAt d v = stateOf (d .supervisors) v
-
--- the list f i, f (i + 1), .. of n members
-unfoldable pub listFrom : {A : Type 0} → (ℕ → A) → ℕ → ℕ → List A
-listFrom f i zero = []
-listFrom f i (suc n) = f i ∷ listFrom f (suc i) n
 
 -- "A state fits when numbers are the plan's", and the clauses of each module's own part; slots that the plan lacks hold 0
 unfoldable pub ownSlotFits : List Record → Device → ℕ → Bool

@@ -1,10 +1,18 @@
 // The state of the one-device controller: each module's own part and each supervisor's state. specs/States.antt says what each function gives.
 ghost use mathlib.Core.Path.{_≡_};
+ghost use mathlib.Core.List.{List};
+ghost use Prim.Native.Nat.{ℕ, _<_};
+ghost use lib.ListN.{getD, replicate};
 ghost use Rattle.bits.specs.Bit.{allBelow};
+ghost use Rattle.records.specs.declared.Record.{Record};
 ghost use Rattle.reader.specs.Walk.{recordsOf};
+ghost use Rattle.plan.specs.Plan.{shown, supervisorAfter};
+ghost use Rattle.supervisor_records.specs.Looks.{looksOf};
 ghost use Rattle.modules.specs.declared.Turn.the-variants.{Event};
-ghost use Rattle.device_states.specs.States.{ownAt, stateOf, withOwn, ownSlotFits, stateSlotFits, deviceFits, shownBy, statesAfter, emptyDevice, startSlot, startState, listFrom, startDevice};
+ghost use Rattle.supervisor_records.specs.Looks.{listFrom};
+ghost use Rattle.device_states.specs.States.{ownAt, stateOf, withOwn, ownSlotFits, stateSlotFits, deviceFits, shownBy, statesAfter, emptyDevice, startSlot, startState, startDevice};
 use modules::Own;
+use supervisor_records::Looks;
 
 // Each module's own part and each supervisor's state. Slots that the plan lacks hold 0.
 pub struct Device {
@@ -118,30 +126,58 @@ pub fn fits(image: &[u8], d: Device) -> bool
 
 // ---- a turn
 
+// The mask that a supervisor shows, from the look-ups of all; one past the last slot is looked up by itself.
+fn mask_of(image: &[u8], shows: Looks, v: u8, st: u8) -> u64
+    ensures { λ r. ⌜ ((states : List ℕ) → shows ≡ looksOf 0x16 states 0 (recordsOf (now (image .entry))) → st ≡ stateOf states v → r ≡ shown (recordsOf (now (image .entry))) v st) ⌝ }
+{
+    if v < 32 {
+        let i = words::wide(v);
+        shows.words[i]
+    } else {
+        plan::shown(image, v, st)
+    }
+}
+
 // The union of the masks that the first n supervisors show.
 pub fn shown_by(image: &[u8], states: [u8; 32], n: u8) -> u64
     ensures { λ r. ⌜ r ≡ shownBy (recordsOf (now (image .entry))) (stateOf states) n ⌝ }
 {
+    let shows = supervisor_records::look_all(image, 0x16, states, 0);
     let mut k: u64 = 0;
     let mut v: u8 = 0;
     while v < n {
         let st = state_of(states, v);
-        k = k | plan::shown(image, v, st);
+        k = k | mask_of(image, shows, v, st);
         v += 1;
     }
     k
+}
+
+// Where an event leads a supervisor, from the look-ups of all.
+fn state_after(alphabets: Looks, moves: Looks, v: u8, st: u8, e: u8) -> u8
+    requires { ⌜ v < 32 ⌝ }
+    ensures { λ r. ⌜ ((rs : List Record) (states : List ℕ) → alphabets ≡ looksOf 0x14 (replicate 32 0) 0 rs → moves ≡ looksOf 0x15 states e rs → st ≡ getD states v 0 → r ≡ supervisorAfter rs v st e) ⌝ }
+{
+    let i = words::wide(v);
+    if bits::has(alphabets.words[i], e) & bits::has(moves.found, v) {
+        moves.fourths[i]
+    } else {
+        st
+    }
 }
 
 // The states after an event fired.
 pub fn states_after(image: &[u8], states: [u8; 32], e: u8) -> [u8; 32]
     ensures { λ r. ⌜ r ≡ statesAfter (recordsOf (now (image .entry))) states (Event e) ⌝ }
 {
+    let alphabets = supervisor_records::look_all(image, 0x14, [0; 32], 0);
+    let moves = supervisor_records::look_all(image, 0x15, states, e);
     let mut next = [0u8; 32];
     let mut i: usize = 0;
     while i < 32 {
         let v = (i % 256) as u8;
         let st = states[i];
-        next[i] = plan::supervisor_after(image, v, st, e);
+        next[i] = state_after(alphabets, moves, v, st, e);
         i += 1;
     }
     next

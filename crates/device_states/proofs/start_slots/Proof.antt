@@ -6,7 +6,8 @@ use lib.ListN.{replicate}
 use Rattle.modules.specs.Turn.{emptyOwn}
 use Rattle.modules.specs.declared.Own.{Own}
 use Rattle.reader.specs.Walk.{recordsOf}
-use Rattle.device_states.specs.States.{listFrom, startSlot}
+use Rattle.supervisor_records.specs.Looks.{listFrom}
+use Rattle.device_states.specs.States.{startSlot}
 use Rattle.device_states.proofs.Slots.{filled, fill-on, fill-done}
 use Rattle.device_states.proofs.start_slots.Statement.{statement}
 use Rattle.device_states.proofs.start_slots.Tie as tie

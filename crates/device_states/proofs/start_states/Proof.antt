@@ -3,7 +3,8 @@ use Prim.Native.Nat.{ℕ, _-_, _%_, _≤_}
 use native.Mathlib.Omega.{arith}
 use borrow.Author.Needs.{needs}
 use Rattle.reader.specs.Walk.{recordsOf}
-use Rattle.device_states.specs.States.{listFrom, startState}
+use Rattle.supervisor_records.specs.Looks.{listFrom}
+use Rattle.device_states.specs.States.{startState}
 use Rattle.device_states.proofs.Slots.{filled, fill-on, fill-done}
 use Rattle.device_states.proofs.start_states.Statement.{statement}
 use Rattle.device_states.proofs.start_states.Tie as tie

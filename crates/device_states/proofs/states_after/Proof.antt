@@ -2,18 +2,25 @@ use mathlib.Core.Path.{_≡_, refl, sym, ap, _∙_}
 use mathlib.Core.List.{List}
 use Prim.Native.Nat.{ℕ, _-_, _%_, _≤_}
 use native.Mathlib.Omega.{arith}
+use lib.ListN.{getD}
 use borrow.Author.Needs.{needs}
 use Rattle.reader.specs.Walk.{recordsOf}
-use Rattle.device_states.specs.States.{listFrom}
+use Rattle.supervisor_records.specs.Looks.{listFrom}
 use Rattle.device_states.proofs.Slots.{filled, fill-done, moved, moved-on}
 use Rattle.device_states.proofs.states_after.Statement.{statement}
 use Rattle.device_states.proofs.states_after.Tie as tie
 
 abbrev Inv-loop : tie.InvT-loop
-Inv-loop image e states next₀ i₀ next i = (i ≤ 32) × (next ≡ filled (moved (recordsOf image) states e) 0 32 i)
+Inv-loop image e states alphabets moves next₀ i₀ next i = (i ≤ 32) × (next ≡ filled (moved (recordsOf image) states e) 0 32 i)
 
 abbrev μ-loop : tie.MeasureT-loop
-μ-loop image e states next₀ i₀ next i = 32 - i
+μ-loop image e states alphabets moves next₀ i₀ next i = 32 - i
+
+look-all-requires : tie.Need-look-all-requires Inv-loop μ-loop
+look-all-requires c κs = search needs
+
+look-all-requires-2 : tie.Need-look-all-requires-2 Inv-loop μ-loop
+look-all-requires-2 c κs = search needs
 
 loop-holds : tie.Need-loop-holds Inv-loop μ-loop
 unfolding listFrom
@@ -25,8 +32,8 @@ cast-v c = search needs
 array-read-st : tie.Need-array-read-st Inv-loop μ-loop
 array-read-st c = search needs
 
-supervisor-after-requires : tie.Need-supervisor-after-requires Inv-loop μ-loop
-supervisor-after-requires c κs = search needs
+state-after-requires : tie.Need-state-after-requires Inv-loop μ-loop
+state-after-requires c κs = search needs
 
 array-write-next : tie.Need-array-write-next Inv-loop μ-loop
 array-write-next c = search needs
@@ -40,17 +47,19 @@ loop-less c = search needs
 loop-again : tie.Need-loop-again Inv-loop μ-loop
 loop-again c =
     let l = c .before .before .loop in
-    let a = c .before .before .before .before .args in
+    let b = c .before .before .before .before in
+    let a = b .before .before .args in
     let e : l .i % 256 ≡ l .i = omega (arith, c .before .loop-test .taken) in
-    (search needs, moved-on _ (a .t2) (a .e) _ _ e (c .supervisor-after .ensures) (c .before .loop-test .taken) (l .inv .1))
+    let s = c .state-after .ensures _ (a .t2) (b .look-all .ensures) (c .before .before .before .look-all2 .ensures) (ap (λ (j : ℕ). getD (a .t2) j 0) (sym e)) in
+    (search needs, moved-on _ (a .t2) (a .e) _ _ e s (c .before .loop-test .taken) (l .inv .1))
 
 returns : tie.Need-returns Inv-loop μ-loop
 returns c =
     let l = c .before .loop in
-    let a = c .before .before .before .args in
+    let a = c .before .before .before .before .before .args in
     fill-done (moved _ (a .t2) (a .e)) 0 32 (l .i) (l .inv .1) (c .loop-test .left) (l .inv .0)
 
 pub states-after-spec : {M : Type 1} → statement M
 states-after-spec =
     tie.close
-    (tie.spec Inv-loop μ-loop loop-holds cast-v array-read-st supervisor-after-requires array-write-next add-i loop-less loop-again returns)
+    (tie.spec Inv-loop μ-loop look-all-requires look-all-requires-2 loop-holds cast-v array-read-st state-after-requires array-write-next add-i loop-less loop-again returns)
