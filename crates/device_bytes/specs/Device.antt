@@ -1,0 +1,74 @@
+-- "One device, 592 bytes: sixteen own parts of 35 bytes, then the states of 32 supervisors."
+use Prim.Native.Nat.{ℕ, _+_, _*_}
+use mathlib.Core.Path.{_≡_}
+use mathlib.Core.List.{List, [], _∷_, _++_}
+use mathlib.Core.Bool.{Bool, true, false, cond, _&&_}
+use lib.ListN.{length, getD, drop, replicate}
+use lib.Dec.{eqb, leb}
+use Rattle.bits.specs.Bit.{allBelow}
+use Rattle.records.specs.declared.Record.{Record}
+use Rattle.roundtrip.specs.Fits.{Bytes}
+use Rattle.messages.specs.Message.{written}
+use Rattle.modules.specs.declared.Own.{Own}
+use Rattle.supervisor_records.specs.Looks.{listFrom}
+use Rattle.device_states.specs.States.{deviceFits}
+use Rattle.device_states.specs.declared.Device.{Device}
+use Rattle.own_bytes.specs.Own.{ownBytes, ownOf, isOwn, unfitOwn, OwnHeld}
+
+-- own parts one after another
+unfoldable pub ownsBytes : List Own → List ℕ
+ownsBytes [] = []
+ownsBytes (own ∷ owns) = ownBytes own ++ ownsBytes owns
+
+unfoldable pub deviceBytes : Device → List ℕ
+deviceBytes d = ownsBytes (d .modules) ++ d .supervisors
+
+-- a slice with the bytes of a device from its start, if it has room for them
+unfoldable pub devicePut : Device → List ℕ → List ℕ
+devicePut d s = cond (leb 592 (length s)) (written (deviceBytes d) s) s
+
+-- the device that the bytes are, by their places
+unfoldable pub slotOf : List ℕ → ℕ → Own
+slotOf b m = ownOf (drop (m * 35) b)
+
+unfoldable pub stateOf : List ℕ → ℕ → ℕ
+stateOf b v = getD b (560 + v) 0
+
+abbrev pub deviceAt : List ℕ → Device
+deviceAt b = record { modules = listFrom (slotOf b) 0 16; supervisors = listFrom (stateOf b) 0 32 }
+
+-- "Bytes of another length, a flag other than 0 and 1, .. and f64 bits of a NaN stand for no state"
+unfoldable pub isSlot : List ℕ → ℕ → Bool
+isSlot b m = isOwn (drop (m * 35) b)
+
+unfoldable pub isDevice : List ℕ → Bool
+isDevice b = eqb (length b) 592 && allBelow (isSlot b) 16
+
+-- a device that fits no plan
+abbrev pub unfitDevice : Device
+unfitDevice = record { modules = replicate 16 unfitOwn; supervisors = replicate 32 0 }
+
+-- the device of a call: bytes that stand for no state give one that fits no plan, which every call refuses with 9
+unfoldable pub deviceOf : List ℕ → Device
+deviceOf b = cond (isDevice b) (deviceAt b) unfitDevice
+
+-- ---- what is proved of them
+
+-- own parts as the code's types can hold them, without a NaN
+abbrev pub OwnsHeld : List Own → Type 0
+OwnsHeld [] = Unit {0}
+OwnsHeld (own ∷ owns) = OwnHeld own × OwnsHeld owns
+
+pub record DeviceHeld (d : Device) : Type 0 where
+  pub owns : OwnsHeld (d .modules)
+  pub modules : length (d .modules) ≡ 16
+  pub supervisors : length (d .supervisors) ≡ 32
+
+pub record DeviceParts : Type 0 where
+  -- decoding what was encoded gives it back
+  pub stands : (d : Device) → DeviceHeld d → isDevice (deviceBytes d) ≡ true
+  pub back : (d : Device) → DeviceHeld d → deviceAt (deviceBytes d) ≡ d
+  -- and bytes that stand for a device are those of that device
+  pub written : (b : List ℕ) → Bytes b → isDevice b ≡ true → deviceBytes (deviceAt b) ≡ b
+  pub size : (d : Device) → DeviceHeld d → length (deviceBytes d) ≡ 592
+  pub unfit : (rs : List Record) → deviceFits rs unfitDevice ≡ false

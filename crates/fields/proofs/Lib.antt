@@ -1,0 +1,4 @@
+pub mod Floats
+pub mod Reading
+pub mod Writing
+pub mod Back

@@ -1,0 +1,100 @@
+-- The bytes of a party read and put, from what the code is told.
+use mathlib.Core.Path.{_≡_, refl, sym, ap, _∙_}
+use mathlib.Core.List.{List, [], _∷_, _++_}
+use mathlib.Core.Bool.{Bool, true, false}
+use Prim.Native.Nat.{ℕ, _+_, _/_, _%_, _≤_, _<_}
+use native.Mathlib.Omega.{arith}
+use lib.ListN.{length, set, length-append}
+use lib.Seq.{sets, length-sets}
+use Rattle.words.specs.Word.{wordBytes}
+use Rattle.words.proofs.Laws.{length-word}
+use Rattle.messages.specs.Message.{putAt}
+use Rattle.messages.proofs.Writing.{put-sets, put-not}
+use Rattle.permits.specs.declared.Module.{Module}
+use Rattle.permits.specs.declared.Supervisor.{Supervisor}
+use Rattle.fields.specs.Fields.{quadBytes, halfBytes, flagByte}
+use Rattle.fields.proofs.Writing.{join, next, length-quad}
+use Rattle.own_bytes.specs.Own.{ownBytes}
+use Rattle.own_bytes.proofs.Writing.{length-own}
+use Rattle.party_bytes.specs.Module.{moduleBytes, moduleAt, isModule, unfitModule, moduleOf}
+use Rattle.party_bytes.specs.Supervisor.{isOut, holderByte, supervisorBytes, supervisorAt, isSupervisor, unfitSupervisor, supervisorOf}
+
+-- ---- read
+
+module _ (s : List ℕ) {t : Bool} where
+  pub module-yes : {r : Module} → t ≡ isModule s → t ≡ true → r ≡ moduleAt s → r ≡ moduleOf s
+  unfolding moduleOf
+  module-yes e h w = simp (sym e ∙ h) w
+
+  pub module-no : {r : Module} → t ≡ isModule s → t ≡ false → r ≡ unfitModule → r ≡ moduleOf s
+  unfolding moduleOf
+  module-no e h w = simp (sym e ∙ h) w
+
+  pub supervisor-yes : {r : Supervisor} → t ≡ isSupervisor s → t ≡ true → r ≡ supervisorAt s → r ≡ supervisorOf s
+  unfolding supervisorOf
+  supervisor-yes e h w = simp (sym e ∙ h) w
+
+  pub supervisor-no : {r : Supervisor} → t ≡ isSupervisor s → t ≡ false → r ≡ unfitSupervisor → r ≡ supervisorOf s
+  unfolding supervisorOf
+  supervisor-no e h w = simp (sym e ∙ h) w
+
+-- ---- put
+
+pub length-module : (x : Module) → length (x .own .queue) ≡ 8 → length (moduleBytes x) ≡ 48
+unfolding moduleBytes
+length-module x n =
+    let a : List ℕ = ownBytes (x .own) in
+    let b : List ℕ = quadBytes (x .held) in
+    let c : List ℕ = wordBytes (x .received) in
+    omega (arith, length-own (x .own) n, length-quad (x .held), length-word (x .received), length-append a b, length-append (a ++ b) c, length-append (a ++ b ++ c) (flagByte (x .bid) ∷ []))
+
+pub length-supervisor : (y : Supervisor) → length (supervisorBytes y) ≡ 6
+unfolding supervisorBytes halfBytes
+length-supervisor y = refl
+
+module _ (l : List ℕ) (x : Module) (n : length (x .own .queue) ≡ 8) where
+  module-puts : {s1 s2 s3 : List ℕ} {f : ℕ} → 48 ≤ length l → s1 ≡ putAt (ownBytes (x .own)) 0 l → s2 ≡ putAt (quadBytes (x .held)) 35 s1
+      → s3 ≡ putAt (wordBytes (x .received)) 39 s2 → f ≡ flagByte (x .bid) → set s3 47 f ≡ sets l 0 (moduleBytes x)
+  unfolding moduleBytes
+  module-puts {s1} {s2} {s3} {f} room e g h z =
+      let a : List ℕ = ownBytes (x .own) in
+      let b : List ℕ = quadBytes (x .held) in
+      let c : List ℕ = wordBytes (x .received) in
+      let la : length a ≡ 35 = length-own (x .own) n in
+      let lab : length (a ++ b) ≡ 39 = omega (arith, length-append a b, length-quad (x .held)) in
+      let labc : length (a ++ b ++ c) ≡ 47 = omega (arith, length-append (a ++ b) c, length-word (x .received)) in
+      let one : 0 + length a ≤ length l = omega arith in
+      let two : 0 + length (a ++ b) ≤ length l = omega arith in
+      let three : 0 + length (a ++ b ++ c) ≤ length l = omega arith in
+      let at2 : 35 ≡ 0 + length a = omega arith in
+      let at3 : 39 ≡ 0 + length (a ++ b) = omega arith in
+      let at4 : 47 ≡ 0 + length (a ++ b ++ c) = omega arith in
+      let p1 : s1 ≡ sets l 0 a = e ∙ put-sets a 0 l one in
+      let p3 : s3 ≡ sets l 0 (a ++ b ++ c) = next l 0 (a ++ b) c 39 (next l 0 a b 35 p1 at2 two g) at3 three h in
+      ap (λ (y : ℕ). set s3 47 y) z ∙ ap (λ (y : List ℕ). set y 47 (flagByte (x .bid))) p3 ∙ join l (a ++ b ++ c) (flagByte (x .bid) ∷ []) 0 47 at4
+
+  pub module-put : {s1 s2 s3 : List ℕ} {f : ℕ} → 48 ≤ length l → s1 ≡ putAt (ownBytes (x .own)) 0 l → s2 ≡ putAt (quadBytes (x .held)) 35 s1
+      → s3 ≡ putAt (wordBytes (x .received)) 39 s2 → f ≡ flagByte (x .bid) → set s3 47 f ≡ putAt (moduleBytes x) 0 l
+  module-put room e g h z =
+      let fit : 0 + length (moduleBytes x) ≤ length l = omega (arith, length-module x n) in
+      module-puts room e g h z ∙ sym (put-sets (moduleBytes x) 0 l fit)
+
+  pub module-size : {s1 s2 s3 : List ℕ} {f : ℕ} → 48 ≤ length l → s1 ≡ putAt (ownBytes (x .own)) 0 l → s2 ≡ putAt (quadBytes (x .held)) 35 s1
+      → s3 ≡ putAt (wordBytes (x .received)) 39 s2 → f ≡ flagByte (x .bid) → length (set s3 47 f) ≡ length l
+  module-size room e g h z = ap length (module-puts room e g h z) ∙ length-sets l 0 (moduleBytes x)
+
+  pub module-short : length l < 48 → l ≡ putAt (moduleBytes x) 0 l
+  module-short h = sym (put-not (moduleBytes x) 0 l (omega (arith, length-module x n)))
+
+module _ (l : List ℕ) (y : Supervisor) where
+  pub supervisor-put : {f m : ℕ} {o : Bool} → 6 ≤ length l → o ≡ isOut (y .holder) → f ≡ flagByte o → m ≡ holderByte (y .holder)
+      → set (set (set (set (set (set l 0 (y .state)) 1 (y .noted / 0x100 % 256)) 2 (y .noted % 256)) 3 f) 4 m) 5 (y .last) ≡ putAt (supervisorBytes y) 0 l
+  unfolding supervisorBytes halfBytes
+  supervisor-put {f} {m} h w e g =
+      let fit : 0 + length (supervisorBytes y) ≤ length l = omega (arith, length-supervisor y) in
+      ap (λ (k : ℕ). set (set (set (set (set (set l 0 (y .state)) 1 (y .noted / 0x100 % 256)) 2 (y .noted % 256)) 3 k) 4 m) 5 (y .last)) (e ∙ ap flagByte w)
+      ∙ ap (λ (k : ℕ). set (set (set (set (set (set l 0 (y .state)) 1 (y .noted / 0x100 % 256)) 2 (y .noted % 256)) 3 (flagByte (isOut (y .holder)))) 4 k) 5 (y .last)) g
+      ∙ sym (put-sets (supervisorBytes y) 0 l fit)
+
+  pub supervisor-short : length l < 6 → l ≡ putAt (supervisorBytes y) 0 l
+  supervisor-short h = sym (put-not (supervisorBytes y) 0 l (omega (arith, length-supervisor y)))

@@ -1,0 +1,12 @@
+use borrow.Author.Needs.{needs}
+use Rattle.party_bytes.proofs.unfit_module.Statement.{statement}
+use Rattle.party_bytes.proofs.unfit_module.Tie as tie
+
+unfit-requires : tie.Need-unfit-requires
+unfit-requires c κs = search needs
+
+returns : tie.Need-returns
+returns c = cc
+
+pub unfit-module-spec : {M : Type 1} → statement M
+unfit-module-spec = tie.close (tie.spec unfit-requires returns)

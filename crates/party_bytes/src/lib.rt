@@ -1,0 +1,156 @@
+// The states of a module and of a supervisor on their own devices as bytes: specs/Module.antt and specs/Supervisor.antt.
+ghost use mathlib.Core.Path.{_≡_};
+ghost use Rattle.messages.specs.Message.{putAt};
+ghost use Rattle.party_bytes.specs.Module.{moduleBytes, moduleAt, isModule, unfitModule, moduleOf};
+ghost use Rattle.party_bytes.specs.Supervisor.{isOut, holderByte, holderOf, supervisorBytes, supervisorAt, isSupervisor, unfitSupervisor, supervisorOf};
+use modules::Own;
+use permits::Holder;
+use permits::Module;
+use permits::Supervisor;
+
+// ---- a module
+
+fn is_module(s: &[u8]) -> bool
+    ensures { λ r. ⌜ r ≡ isModule (now (s .entry)) ⌝ }
+{
+    (s.len() == 48) & own_bytes::is_own(s) & (words::byte_at(s, 47) < 2)
+}
+
+fn module_at(s: &[u8]) -> Module
+    ensures { λ r. ⌜ r ≡ moduleAt (now (s .entry)) ⌝ }
+{
+    let own = own_bytes::own_of(s);
+    let held = fields::quad_at(s, 35);
+    let received = words::word_at(s, 39);
+    let flag = words::byte_at(s, 47);
+    Module {
+        own,
+        held,
+        received,
+        bid: flag == 1,
+    }
+}
+
+fn unfit_module() -> Module
+    ensures { λ r. ⌜ r ≡ unfitModule ⌝ }
+{
+    let own = own_bytes::unfit();
+    Module {
+        own,
+        held: 0,
+        received: 0,
+        bid: false,
+    }
+}
+
+// The module that the bytes are; one that fits no plan, if they stand for none.
+pub fn read_module(s: &[u8]) -> Module
+    ensures { λ r. ⌜ r ≡ moduleOf (now (s .entry)) ⌝ }
+{
+    if is_module(s) {
+        module_at(s)
+    } else {
+        unfit_module()
+    }
+}
+
+// Puts the bytes of a module at the start, if there is room for all; else the slice stays.
+pub fn put_module(s: &mut [u8], x: Module)
+    ensures { λ _. ⌜ now (s .exit) ≡ putAt (moduleBytes x) 0 (now (s .entry)) ⌝ }
+{
+    if 48 <= s.len() {
+        let own = x.own;
+        own_bytes::put_own(&mut *s, 0, own);
+        fields::put_quad(&mut *s, 35, x.held);
+        fields::put_word(&mut *s, 39, x.received);
+        s[47] = fields::flag_of(x.bid);
+    }
+}
+
+// ---- a supervisor
+
+fn is_supervisor(s: &[u8]) -> bool
+    ensures { λ r. ⌜ r ≡ isSupervisor (now (s .entry)) ⌝ }
+{
+    let flag = words::byte_at(s, 3);
+    let holder = words::byte_at(s, 4);
+    (s.len() == 6) & (flag < 2) & ((flag == 1) | (holder == 0))
+}
+
+fn holder_of(out: bool, m: u8) -> Holder
+    ensures { λ r. ⌜ r ≡ holderOf out m ⌝ }
+{
+    if out { Holder::Out(m) } else { Holder::Home }
+}
+
+fn supervisor_at(s: &[u8]) -> Supervisor
+    ensures { λ r. ⌜ r ≡ supervisorAt (now (s .entry)) ⌝ }
+{
+    let state = words::byte_at(s, 0);
+    let noted = fields::half_at(s, 1);
+    let holder = holder_of(words::byte_at(s, 3) == 1, words::byte_at(s, 4));
+    let last = words::byte_at(s, 5);
+    Supervisor {
+        state,
+        noted,
+        holder,
+        last,
+    }
+}
+
+fn unfit_supervisor() -> Supervisor
+    ensures { λ r. ⌜ r ≡ unfitSupervisor ⌝ }
+{
+    Supervisor {
+        state: 0,
+        noted: 0,
+        holder: Holder::Home,
+        last: 255,
+    }
+}
+
+// The supervisor that the bytes are; one that fits no plan, if they stand for none.
+pub fn read_supervisor(s: &[u8]) -> Supervisor
+    ensures { λ r. ⌜ r ≡ supervisorOf (now (s .entry)) ⌝ }
+{
+    if is_supervisor(s) {
+        supervisor_at(s)
+    } else {
+        unfit_supervisor()
+    }
+}
+
+fn is_out(h: Holder) -> bool
+    ensures { λ r. ⌜ r ≡ isOut h ⌝ }
+{
+    match h {
+        Holder::Home => false,
+        Holder::Out(_) => true,
+    }
+}
+
+fn holder_byte(h: Holder) -> u8
+    ensures { λ r. ⌜ r ≡ holderByte h ⌝ }
+{
+    match h {
+        Holder::Home => 0,
+        Holder::Out(m) => m,
+    }
+}
+
+// Puts the bytes of a supervisor at the start, if there is room for all; else the slice stays.
+pub fn put_supervisor(s: &mut [u8], y: Supervisor)
+    ensures { λ _. ⌜ now (s .exit) ≡ putAt (supervisorBytes y) 0 (now (s .entry)) ⌝ }
+{
+    if 6 <= s.len() {
+        let holder = y.holder;
+        let flag = fields::flag_of(is_out(holder));
+        let out = holder_byte(holder);
+        s[0] = y.state;
+        s[1] = (y.noted / 0x100 % 256) as u8;
+        s[2] = (y.noted % 256) as u8;
+        s[3] = flag;
+        s[4] = out;
+        s[5] = y.last;
+    }
+}
