@@ -1,0 +1,110 @@
+-- `Exact` of specs/Exact.antt.
+use mathlib.Core.Path.{_≡_, refl, sym, ap, _∙_, subst}
+use mathlib.Core.List.{List}
+use mathlib.Core.Bool.{Bool, true, false, cond, not, _&&_, true≢false}
+use Prim.Native.Nat.{ℕ, zero, suc, _+_, _*_, _^_, _≤_, _<_}
+use native.Mathlib.Omega.{arith}
+use lib.ListN.{length, getD, drop}
+use lib.Dec.{T, eqb, lit<}
+use lib.Seq.{getD-drop}
+use lib.Ieee.{binary64, nanBits}
+use lib.Ieee.Bits.{is-true, ofBits-fits, nanBits-is}
+use Rattle.bits.specs.Bit.{allBelow}
+use Rattle.bits.proofs.Laws.{all-at}
+use Rattle.words.specs.Word.{wordAt}
+use Rattle.roundtrip.specs.Fits.{Byte, Bytes}
+use Rattle.roundtrip.proofs.Shape.{word-small}
+use Rattle.supervisor_records.specs.Looks.{listFrom}
+use Rattle.fields.specs.Fields.{bytesFrom, halfAt, quadAt, flagOf, isFlag, isFloat, floatAt, Number}
+use Rattle.fields.proofs.Back.{and-left, and-right}
+use Rattle.own_bytes.specs.Own.{procedureOf, ownOf, isOwn, OwnHeld}
+use Rattle.party_bytes.specs.Module.{moduleAt, moduleBytes, moduleOf, isModule, unfitModule, ModuleHeld}
+use Rattle.party_bytes.specs.Supervisor.{holderByte, holderOf, supervisorAt, supervisorBytes, supervisorOf, unfitSupervisor, SupervisorHeld}
+use Rattle.party_bytes.proofs.Parts.{module-parts, supervisor-parts}
+use Rattle.device_bytes.specs.Device.{slotOf, deviceAt, deviceBytes, deviceOf, isSlot, isDevice, unfitDevice, OwnsHeld, DeviceHeld}
+use Rattle.device_bytes.proofs.Parts.{device-parts}
+use Rattle.interface_laws.specs.Exact.{Exact}
+
+not-true : (a : Bool) → not a ≡ true → a ≡ false
+not-true true h = absurd (true≢false (sym h))
+not-true false h = refl
+
+module _ (b : List ℕ) (g : Bytes b) where
+  half-small : (o : ℕ) → halfAt b o < 2 ^ 16
+  unfolding halfAt
+  half-small o = omega (arith, g o, g (o + 1))
+
+  quad-small : (o : ℕ) → quadAt b o < 2 ^ 32
+  unfolding quadAt
+  quad-small o = omega (arith, g o, g (o + 1), g (o + 2), g (o + 3))
+
+  number-at : (o : ℕ) → isFloat b o ≡ true → Number (floatAt b o)
+  number-at o h = record { fit = ofBits-fits binary64 (wordAt b o); number = sym (nanBits-is binary64 (wordAt b o)) ∙ not-true (nanBits binary64 (wordAt b o)) h }
+
+  own-held : isOwn b ≡ true → OwnHeld (ownOf b)
+  unfolding isOwn ownOf procedureOf bytesFrom
+  own-held h =
+      let F : Bool = isFlag (getD b 10 0) in
+      let A : Bool = isFloat b 15 in
+      let B : Bool = isFloat b 23 in
+      record {
+        state = g 0;
+        queued = g 1;
+        places = refl;
+        event = g 11;
+        index = g 12;
+        count = half-small 13;
+        target = number-at 15 (and-right F A (and-left (F && A) B h));
+        total = number-at 23 (and-right (F && A) B h);
+        outputs = quad-small 31;
+      }
+
+  module-is : isModule b ≡ true → ModuleHeld (moduleAt b)
+  unfolding isModule moduleAt
+  module-is h =
+      let L : Bool = eqb (length b) 48 in
+      let O : Bool = isOwn b in
+      let F : Bool = isFlag (getD b 47 0) in
+      record { own = own-held (and-right L O (and-left (L && O) F h)); held = quad-small 35; received = word-small b 39 g }
+
+  holder-small : (out : Bool) → Byte (holderByte (holderOf out (getD b 4 0)))
+  unfolding holderByte holderOf
+  holder-small true = g 4
+  holder-small false = lit< tt
+
+  supervisor-is : SupervisorHeld (supervisorAt b)
+  unfolding supervisorAt
+  supervisor-is = record { state = g 0; noted = half-small 1; holder = holder-small (flagOf (getD b 3 0)); last = g 5 }
+
+module _ (b : List ℕ) (g : Bytes b) (all : (k : ℕ) → k < 16 → isSlot b k ≡ true) where
+  slot-held : (i : ℕ) → i < 16 → OwnHeld (slotOf b i)
+  unfolding slotOf isSlot
+  slot-held i h = own-held (drop (i * 35) b) (λ j. subst Byte (sym (getD-drop (i * 35) b j 0)) (g (i * 35 + j))) (all i h)
+
+  slots-held : (n i : ℕ) → i + n ≤ 16 → OwnsHeld (listFrom (slotOf b) i n)
+  unfolding listFrom
+  slots-held zero i h = tt
+  slots-held (suc n) i h = (slot-held i (omega arith), slots-held n (suc i) (omega arith))
+
+device-is : (b : List ℕ) → Bytes b → isDevice b ≡ true → DeviceHeld (deviceAt b)
+unfolding isDevice listFrom
+device-is b g h =
+    let L : Bool = eqb (length b) 592 in
+    let A : Bool = allBelow (isSlot b) 16 in
+    let all : (k : ℕ) → k < 16 → isSlot b k ≡ true = λ k m. is-true (isSlot b k) (all-at (isSlot b) 16 (subst T (sym (and-right L A h)) tt) k m) in
+    record { owns = slots-held b g all 16 0 (omega arith); modules = refl; supervisors = refl }
+
+pub exact : Exact
+exact =
+    record {
+      own = λ b g h. own-held b g h;
+      module-held = λ b g h. module-is b g h;
+      supervisor-held = λ b g h. supervisor-is b g;
+      device-held = device-is;
+      module-again = λ x h. unfold moduleOf in
+          ap (λ (t : Bool). cond t (moduleAt (moduleBytes x)) unfitModule) (module-parts .stands x h) ∙ module-parts .back x h;
+      supervisor-again = λ y h. unfold supervisorOf in
+          ap (λ (t : Bool). cond t (supervisorAt (supervisorBytes y)) unfitSupervisor) (supervisor-parts .stands y h) ∙ supervisor-parts .back y h;
+      device-again = λ d h. unfold deviceOf in
+          ap (λ (t : Bool). cond t (deviceAt (deviceBytes d)) unfitDevice) (device-parts .stands d h) ∙ device-parts .back d h;
+    }

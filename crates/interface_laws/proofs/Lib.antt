@@ -1,0 +1,5 @@
+pub mod Numbers
+pub mod Untouched
+pub mod NoState
+pub mod Exact
+pub mod Kept

@@ -1,0 +1,113 @@
+-- `SameNumbers` of specs/Laws.antt.
+use mathlib.Core.Path.{_≡_, refl, sym, ap, _∙_}
+use mathlib.Core.List.{List}
+use mathlib.Core.Bool.{Bool, true, false, cond}
+use Prim.Native.Nat.{ℕ, _%_, _≤_}
+use native.Mathlib.Omega.{arith}
+use lib.ListN.{length}
+use lib.Dec.{ltb}
+use borrow.Author.Tests.{ne-eqb}
+use Rattle.rules.specs.Check.{verdictOf}
+use Rattle.rules.specs.declared.Verdict.{Verdict}
+use Rattle.rules.specs.declared.Verdict.the-variants.{Accepted, Refused as CheckRefused}
+use Rattle.modules.specs.Numbers.{calledNumber}
+use Rattle.modules.specs.declared.Turn.{Turn}
+use Rattle.modules.specs.declared.Turn.the-variants.{Event, Stray, Nothing}
+use Rattle.modules.specs.declared.Called.{Called}
+use Rattle.modules.specs.declared.Called.the-variants.{Done, Refused}
+use Rattle.device.specs.Numbers.{turningNumber}
+use Rattle.device.specs.Device.{startCall}
+use Rattle.device.specs.declared.Turning.{Turning}
+use Rattle.device.specs.declared.Turning.the-variants.{Turned, Refused as TurnRefused}
+use Rattle.permits.specs.Numbers.{steppedNumber, servedNumber}
+use Rattle.permits.specs.Module.{moduleStart}
+use Rattle.permits.specs.Supervisor.{supervisorStart}
+use Rattle.permits.specs.declared.Stepped.{Stepped}
+use Rattle.permits.specs.declared.Stepped.the-variants.{Turned as Turns, Bids, Waits, Refused as StepRefused}
+use Rattle.permits.specs.declared.Served.{Served}
+use Rattle.permits.specs.declared.Served.the-variants.{Sends, Waits as ServedWaits, Refused as ServeRefused}
+use Rattle.refusals.specs.Numbers.{verdictNumber}
+use Rattle.refusals.specs.Refusals.{InTable, CheckAnswer, CallAnswer, TurnAnswer, StepAnswer, ServeAnswer}
+use Rattle.refusals.proofs.Refusals.{refusals}
+use Rattle.device_bytes.specs.Device.{deviceBytes, deviceOf}
+use Rattle.party_bytes.specs.Module.{moduleBytes, moduleOf}
+use Rattle.party_bytes.specs.Supervisor.{supervisorBytes, supervisorOf}
+use Rattle.packing.specs.Answer.{packed, verdictAnswer, calledAnswer, turnAnswer, turningAnswer, steppedAnswer, servedAnswer, startAnswer}
+use Rattle.packing.specs.Flow.{flowOf}
+use Rattle.device_interface.specs.Calls as Device
+use Rattle.module_interface.specs.Calls as Module
+use Rattle.supervisor_interface.specs.Calls as Supervisor
+use Rattle.interface_laws.specs.Laws.{numberOf, startNumber, SameNumbers}
+
+-- what is done has the number 0, and what is refused its own
+pub accepted : (d v s : ℕ) → packed 0 d v s % 256 ≡ 0
+unfolding packed
+accepted d v s = omega arith
+
+number : (n o : ℕ) → InTable n → packed n 0 0 o % 256 ≡ n
+unfolding packed
+number n o t = omega (arith, t .1)
+
+verdict-number : (a : Verdict) → CheckAnswer a → verdictAnswer a % 256 ≡ verdictNumber a
+unfolding verdictAnswer
+verdict-number Accepted h = accepted 0 0 0
+verdict-number (CheckRefused n o) h = number n o (h .numbered n o refl)
+
+called-number : (a : Called) → CallAnswer a → calledAnswer a % 256 ≡ calledNumber a
+unfolding calledAnswer
+called-number Done h = accepted 0 0 0
+called-number (Refused n o) h = number n o (h .numbered n o refl)
+
+pub turn-number : (t : Turn) (s : ℕ) → turnAnswer t s % 256 ≡ 0
+unfolding turnAnswer
+turn-number (Event e) s = accepted 1 e s
+turn-number (Stray e) s = accepted 2 e s
+turn-number Nothing s = accepted 3 0 s
+
+turning-number : (a : Turning) → TurnAnswer a → turningAnswer a % 256 ≡ turningNumber a
+unfolding turningAnswer
+turning-number (Turned t) h = turn-number t 0
+turning-number (TurnRefused n o) h = number n o (h .numbered n o refl)
+
+stepped-number : (a : Stepped) → StepAnswer a → steppedAnswer a % 256 ≡ steppedNumber a
+unfolding steppedAnswer
+stepped-number (Turns t s) h = turn-number t s
+stepped-number (Bids v s) h = accepted 4 v s
+stepped-number Waits h = accepted 6 0 0
+stepped-number (StepRefused n o) h = number n o (h .numbered n o refl)
+
+served-number : (a : Served) → ServeAnswer a → servedAnswer a % 256 ≡ servedNumber a
+unfolding servedAnswer
+served-number (Sends m s) h = accepted 5 m s
+served-number ServedWaits h = accepted 6 0 0
+served-number (ServeRefused n o) h = number n o (h .numbered n o refl)
+
+start-number : (size : ℕ) (a : Called) (bytes l : List ℕ) → CallAnswer a → numberOf (startAnswer size a bytes l) ≡ startNumber size (calledNumber a) l
+unfolding startAnswer
+start-number size Done bytes l h = go (ltb (length l) size) refl
+  where
+    go : (t : Bool) → ltb (length l) size ≡ t → numberOf (startAnswer size Done bytes l) ≡ cond (ltb (length l) size) 15 0
+    go true e = simp e (unfold packed in refl)
+    go false e = simp e (accepted 0 0 size)
+start-number size (Refused n o) bytes l h =
+    let t : InTable n = h .numbered n o refl in
+    let no : n ≡ 0 → ⊥ = λ e. (let low : 1 ≤ n = t .0 in omega arith) in
+    number n o t ∙ sym (ap (λ (q : Bool). cond q (cond (ltb (length l) size) 15 0) n) (ne-eqb n 0 no))
+
+pub same-numbers : SameNumbers
+same-numbers =
+    record {
+      check = λ image. verdict-number (verdictOf image) (refusals .checker .check image);
+      deviceStart = λ image l. unfold Device.startBytes in start-number 592 (startCall image .answer) (deviceBytes (startCall image .device)) l (refusals .device .start image);
+      deviceTurn = λ image s m. unfold Device.turnBytes in turning-number _ (refusals .device .turn image (deviceOf s) m .answer);
+      deviceRespond = λ image s m e. unfold Device.respondBytes in called-number _ (refusals .device .respond image (deviceOf s) m e .answer);
+      deviceTick = λ image s m f x. unfold Device.tickBytes in called-number _ (refusals .device .tick image (deviceOf s) m (flowOf f x) .answer);
+      moduleStart = λ image m l. unfold Module.startBytes in start-number 48 (moduleStart image m .answer) (moduleBytes (moduleStart image m .state)) l (refusals .modules .start image m);
+      moduleStep = λ image s m l. unfold Module.stepBytes in stepped-number _ (refusals .modules .step image m (moduleOf s) l .answer);
+      moduleDeliver = λ image s m g. unfold Module.deliverBytes in called-number _ (refusals .modules .deliver image m (moduleOf s) g .answer);
+      moduleRespond = λ image s m e. unfold Module.respondBytes in called-number _ (refusals .modules .respond image m (moduleOf s) e .answer);
+      moduleTick = λ image s m f x. unfold Module.tickBytes in called-number _ (refusals .modules .tick image m (moduleOf s) (flowOf f x) .answer);
+      supervisorStart = λ image v l. unfold Supervisor.startBytes in start-number 6 (supervisorStart image v .answer) (supervisorBytes (supervisorStart image v .state)) l (refusals .supervisors .start image v);
+      supervisorStep = λ image s v l. unfold Supervisor.stepBytes in served-number _ (refusals .supervisors .step image v (supervisorOf s) l .answer);
+      supervisorDeliver = λ image s v g. unfold Supervisor.deliverBytes in called-number _ (refusals .supervisors .deliver image v (supervisorOf s) g .answer);
+    }
