@@ -1,0 +1,223 @@
+//! The same calls through the proved engine and the reference, in one process, turn and turn about: `bench`.
+//!
+//! A row is one call on one plan: nanoseconds per call of either side, and how many times as long the reference takes. Both sides get a
+//! fresh copy of the state for each call. The figures are medians of several rounds.
+
+#[path = "../foreign.rs"]
+mod foreign;
+
+use foreign::Foreign;
+use reference::answer::{did, number, BIDS, EVENT};
+use reference::calls::{Call, Engine, Reference};
+use reference::cases::{fit_module, hex, image_of, sized, Case, Rng, PLAN_P};
+use reference::message::Message;
+use reference::plan::{self, Plan};
+use reference::state::{DEVICE_BYTES, MODULE_BYTES, SUPERVISOR_BYTES};
+use std::hint::black_box;
+use std::process::ExitCode;
+use std::time::Instant;
+
+/// Odd, so that the median is one of them.
+const ROUNDS: usize = 101;
+/// How long one side runs in a round: short, so that other work on the machine spoils few of them.
+const ROUND_NANOSECONDS: f64 = 3e5;
+const BUFFER_BYTES: usize = 128;
+
+fn start(call: Call, image: &[u8], bytes: usize) -> Vec<u8> {
+    let mut state = vec![0; bytes];
+    Reference.call(call, image, &mut [], &[], &mut state);
+    state
+}
+
+/// The calls measured on one plan.
+struct Rows<'a> {
+    image: &'a [u8],
+    plan: Plan<'a>,
+    rows: Vec<(&'static str, Case)>,
+}
+
+impl Rows<'_> {
+    fn add(&mut self, name: &'static str, call: Call, state: &[u8], message: &[u8]) {
+        let case = Case {
+            call,
+            image: self.image.to_vec(),
+            state: state.to_vec(),
+            message: message.to_vec(),
+            buffer: vec![0; BUFFER_BYTES],
+        };
+        self.rows.push((name, case));
+    }
+
+    fn message(&self, message: Message) -> Vec<u8> {
+        let mut bytes = vec![0; message.length()];
+        message.write(&mut bytes).expect("a buffer of its length");
+        bytes
+    }
+
+    /// The check, and a turn on one device, of a module that fires if there is one.
+    fn one_device(&mut self) {
+        self.add("check", Call::Check, &[], &[]);
+        let state = start(Call::DeviceStart, self.image, DEVICE_BYTES);
+        let fires = |&module: &u8| {
+            let answer = Reference.call(Call::DeviceTurn { module }, self.image, &mut state.clone(), &[], &mut []);
+            did(answer) == EVENT
+        };
+        let module = (0..self.plan.modules).find(fires).unwrap_or(0);
+        self.add("one-device turn", Call::DeviceTurn { module }, &state, &[]);
+    }
+
+    /// A module that bids at its start, and that state.
+    fn bidder(&self) -> Option<(u8, Vec<u8>)> {
+        (0..self.plan.modules).find_map(|module| {
+            let state = start(Call::ModuleStart { module }, self.image, MODULE_BYTES);
+            let call = Call::ModuleStep { module };
+            let answer = Reference.call(call, self.image, &mut state.clone(), &[], &mut [0; BUFFER_BYTES]);
+            (did(answer) == BIDS).then_some((module, state))
+        })
+    }
+
+    /// Steps of a module and deliveries to it: its bid, the first permit, and the turn with all permits held.
+    fn module(&mut self, module: u8, mut state: Vec<u8>) {
+        let step = Call::ModuleStep { module };
+        let deliver = Call::ModuleDeliver { module };
+        self.add("module step, bid", step, &state, &[]);
+        let neighbours = self.plan.neighbours(module);
+        for supervisor in (0..self.plan.supervisors).filter(|supervisor| neighbours >> supervisor & 1 == 1) {
+            let permit = self.message(Message::Permit {
+                supervisor,
+                module,
+                mask: 0,
+            });
+            Reference.call(step, self.image, &mut state, &[], &mut [0; BUFFER_BYTES]);
+            if supervisor == neighbours.trailing_zeros() as u8 {
+                self.add("deliver permit", deliver, &state, &permit);
+            }
+            Reference.call(deliver, self.image, &mut state, &permit, &mut []);
+        }
+        self.add("module step, turn", step, &state, &[]);
+    }
+
+    /// A tick, in a running procedure if the plan has one.
+    fn tick(&mut self) {
+        let mut rng = Rng::new(1);
+        let running = (0..200).map(|_| {
+            let module = rng.below(usize::from(self.plan.modules)) as u8;
+            (module, fit_module(&mut rng, &self.plan, module))
+        });
+        let idle = (0, start(Call::ModuleStart { module: 0 }, self.image, MODULE_BYTES));
+        let (module, state) = running.into_iter().find(|(_, state)| state[10] == 1).unwrap_or(idle);
+        let call = Call::ModuleTick {
+            module,
+            sensor: 1,
+            litres: 0.125,
+        };
+        self.add("tick", call, &state, &[]);
+    }
+
+    /// A bid, the permit's sending and a release at a module's first supervisor.
+    fn supervisor(&mut self, module: u8) {
+        let supervisor = self.plan.neighbours(module).trailing_zeros() as u8;
+        let step = Call::SupervisorStep { supervisor };
+        let deliver = Call::SupervisorDeliver { supervisor };
+        let mut state = start(Call::SupervisorStart { supervisor }, self.image, SUPERVISOR_BYTES);
+        let bid = self.message(Message::Bid { module, supervisor });
+        self.add("deliver bid", deliver, &state, &bid);
+        Reference.call(deliver, self.image, &mut state, &bid, &mut []);
+        self.add("supervisor step", step, &state, &[]);
+        Reference.call(step, self.image, &mut state, &[], &mut [0; BUFFER_BYTES]);
+        let events = self.plan.module_events[usize::from(module)] & self.plan.alphabet[usize::from(supervisor)];
+        let release = self.message(Message::Release {
+            module,
+            supervisor,
+            event: events.trailing_zeros() as u8,
+        });
+        self.add("deliver release", deliver, &state, &release);
+    }
+}
+
+fn rows(image: &[u8]) -> Vec<(&'static str, Case)> {
+    let plan = plan::check(image).expect("a valid plan");
+    let mut rows = Rows {
+        image,
+        plan,
+        rows: Vec::new(),
+    };
+    rows.one_device();
+    if let Some((module, state)) = rows.bidder() {
+        rows.module(module, state);
+        rows.supervisor(module);
+    }
+    rows.tick();
+    rows.rows
+}
+
+/// Nanoseconds per call over so many calls.
+fn time(engine: &impl Engine, case: &Case, calls: usize) -> f64 {
+    let mut state = case.state.clone();
+    let mut buffer = case.buffer.clone();
+    let begin = Instant::now();
+    for _ in 0..calls {
+        state.copy_from_slice(&case.state);
+        let answer = engine.call(
+            black_box(case.call),
+            black_box(&case.image),
+            black_box(&mut state),
+            black_box(&case.message),
+            black_box(&mut buffer),
+        );
+        black_box(answer);
+    }
+    begin.elapsed().as_nanos() as f64 / calls as f64
+}
+
+fn median(mut times: Vec<f64>) -> f64 {
+    times.sort_by(f64::total_cmp);
+    times[times.len() / 2]
+}
+
+/// Both sides' medians; the rounds alternate.
+fn measure(case: &Case) -> (f64, f64) {
+    let once = time(&Reference, case, 20).max(time(&Foreign, case, 20)).max(1.0);
+    let calls = (ROUND_NANOSECONDS / once) as usize + 1;
+    let (mut engine, mut reference) = (Vec::new(), Vec::new());
+    for _ in 0..ROUNDS {
+        engine.push(time(&Foreign, case, calls));
+        reference.push(time(&Reference, case, calls));
+    }
+    (median(engine), median(reference))
+}
+
+/// Whether both sides accept a case with the same answer: else there is nothing to compare.
+fn agree(case: &Case) -> bool {
+    let answer = |engine: &dyn Engine| {
+        let (mut state, mut buffer) = (case.state.clone(), case.buffer.clone());
+        engine.call(case.call, &case.image, &mut state, &case.message, &mut buffer)
+    };
+    number(answer(&Reference)) == 0 && answer(&Reference) == answer(&Foreign)
+}
+
+fn main() -> ExitCode {
+    let mut rng = Rng::new(1);
+    let mut images = vec![hex(PLAN_P)];
+    images.extend([1_024, 8_192, plan::IMAGE_LIMIT].map(|bytes| image_of(&sized(&mut rng, bytes))));
+    println!(
+        "{:<20} {:>11} {:>12} {:>13} {:>8}",
+        "call", "image bytes", "engine ns", "reference ns", "ratio"
+    );
+    let sets: Vec<_> = images.iter().map(|image| rows(image)).collect();
+    for (name, _) in &sets[0] {
+        for (_, case) in sets.iter().flatten().filter(|(other, _)| other == name) {
+            if !agree(case) {
+                println!("{name:<20} {:>11} the two sides do not agree", case.image.len());
+                return ExitCode::FAILURE;
+            }
+            let (engine, reference) = measure(case);
+            let bytes = case.image.len();
+            println!(
+                "{name:<20} {bytes:>11} {engine:>12.1} {reference:>13.1} {:>8.2}",
+                reference / engine
+            );
+        }
+    }
+    ExitCode::SUCCESS
+}

@@ -1,0 +1,160 @@
+//! The generator gives what it promises: valid plans of all sizes, every number of the table, and schedules that keep demand 3.
+
+use reference::answer::number;
+use reference::calls::{Engine, Reference};
+use reference::cases::{
+    break_device, break_module, break_supervisor, device_case, fit_device, fit_module, fit_supervisor, image_case, image_of, lively_plan,
+    message_case, module_case, plan, record_case, records_of, schedule, sized, supervisor_case, Case, Ground, Rng, World, DEVICE_CLAUSES,
+    MODULE_CLAUSES, SUPERVISOR_CLAUSES,
+};
+use std::collections::BTreeSet;
+
+/// Draws cases on many plans and gives how often each number arose, 0 for accepted.
+fn counts(seed: u64, plans: usize, mut draw: impl FnMut(&mut Rng, &mut Ground) -> Case) -> [usize; 16] {
+    let mut rng = Rng::new(seed);
+    let mut counts = [0; 16];
+    for _ in 0..plans {
+        let records = plan(&mut rng);
+        let image = image_of(&records);
+        let mut ground = Ground::new(&records, &image);
+        for _ in 0..40 {
+            let mut case = draw(&mut rng, &mut ground);
+            let before = case.clone();
+            let answer = Reference.call(case.call, &case.image, &mut case.state, &case.message, &mut case.buffer);
+            counts[usize::from(number(answer))] += 1;
+            if number(answer) != 0 {
+                assert_eq!((case.state, case.buffer), (before.state, before.buffer));
+            }
+        }
+    }
+    counts
+}
+
+#[test]
+fn plans_are_valid_and_of_all_sizes() {
+    let mut rng = Rng::new(1);
+    let mut largest = 0;
+    for _ in 0..200 {
+        let records = plan(&mut rng);
+        let image = image_of(&records);
+        assert_eq!(reference::check(&image), 0);
+        assert_eq!(records_of(&image), records);
+        largest = largest.max(image.len());
+    }
+    assert!(largest > 49_000);
+    for bytes in [1_024, 8_192, 49_152] {
+        let image = image_of(&sized(&mut rng, bytes));
+        assert_eq!((reference::check(&image), image.len()), (0, bytes));
+    }
+}
+
+#[test]
+fn every_number_of_an_image_arises_at_many_offsets() {
+    let mut offsets = vec![BTreeSet::new(); 9];
+    let counts = counts(2, 400, |rng, ground| {
+        let case = image_case(rng, ground);
+        let answer = reference::check(&case.image);
+        offsets[usize::from(number(answer))].insert(answer >> 32);
+        case
+    });
+    for number in 1..=8 {
+        assert!(counts[number] >= 20, "number {number}: {counts:?}");
+        assert!(number == 1 || offsets[number].len() >= 10, "number {number}");
+    }
+    assert!(counts[0] >= 1000);
+}
+
+/// Every number arises at every kind of record that can get it.
+#[test]
+fn every_kind_is_turned_down_for_every_reason() {
+    let mut seen = BTreeSet::new();
+    counts(9, 600, |rng, ground| {
+        let case = image_case(rng, ground);
+        let answer = reference::check(&case.image);
+        if let Some(&kind) = case.image.get((answer >> 32) as usize) {
+            seen.insert((number(answer), kind));
+        }
+        case
+    });
+    let expected: [(u8, &[u8]); 6] = [
+        (3, &[0x10, 0x11, 0x12, 0x13, 0x14, 0x15, 0x16, 0x17]),
+        (4, &[0x10, 0x11, 0x12, 0x13, 0x14, 0x15, 0x16, 0x17, 0x1F]),
+        (5, &[0x10, 0x11, 0x12, 0x14, 0x16, 0x17]),
+        (6, &[0x11, 0x12, 0x13, 0x14, 0x15, 0x16, 0x17]),
+        (7, &[0x13, 0x15, 0x16, 0x17]),
+        (8, &[0x1F]),
+    ];
+    for (number, kinds) in expected {
+        for &kind in kinds {
+            assert!(seen.contains(&(number, kind)), "number {number} at kind {kind:02X}");
+        }
+    }
+}
+
+/// Asserts that some cases are accepted and each of the numbers arises.
+fn arise(counts: [usize; 16], numbers: &[usize]) {
+    assert!(counts[0] >= 1000, "{counts:?}");
+    for &number in numbers {
+        assert!(counts[number] >= 5, "number {number}: {counts:?}");
+    }
+}
+
+#[test]
+fn every_number_of_a_call_arises() {
+    arise(counts(3, 120, device_case), &[9, 11, 13, 14, 15]);
+    arise(counts(4, 120, module_case), &[9, 10, 11, 12, 13, 14, 15]);
+    arise(counts(5, 120, supervisor_case), &[9, 10, 11, 12, 15]);
+    arise(counts(6, 120, |rng, ground| record_case(rng, ground)), &[2, 3, 5, 15]);
+    arise(counts(7, 120, |rng, ground| message_case(rng, ground)), &[10, 15]);
+}
+
+/// Each clause of fitting, broken, gives 9 on many plans.
+#[test]
+fn every_clause_of_fitting_is_broken() {
+    let mut rng = Rng::new(12);
+    let mut refused = [[0; MODULE_CLAUSES]; 3];
+    for _ in 0..300 {
+        let image = image_of(&plan(&mut rng));
+        let facts = reference::plan::check(&image).expect("a valid plan");
+        let module = rng.below(usize::from(facts.modules)) as u8;
+        for (clause, count) in refused[0].iter_mut().enumerate() {
+            let mut state = fit_module(&mut rng, &facts, module);
+            assert_eq!(reference::module_tick(&image, &mut state.clone(), module, 0, 0.0), 0);
+            break_module(&mut rng, &facts, module, &mut state, clause);
+            *count += usize::from(reference::module_tick(&image, &mut state, module, 0, 0.0) == 9);
+        }
+        for (clause, count) in refused[1].iter_mut().enumerate().take(DEVICE_CLAUSES) {
+            let mut state = fit_device(&mut rng, &facts);
+            assert_eq!(reference::device_tick(&image, &mut state.clone(), module, 0, 0.0), 0);
+            break_device(&mut rng, &facts, &mut state, clause);
+            *count += usize::from(reference::device_tick(&image, &mut state, module, 0, 0.0) == 9);
+        }
+        let clauses = if facts.supervisors > 0 { SUPERVISOR_CLAUSES } else { 0 };
+        for (clause, count) in refused[2].iter_mut().enumerate().take(clauses) {
+            let mut state = fit_supervisor(&mut rng, &facts, 0);
+            assert_eq!(number(reference::supervisor_step(&image, &mut state.clone(), 0, &mut [0; 11])), 0);
+            break_supervisor(&mut rng, &facts, 0, &mut state, clause);
+            *count += usize::from(reference::supervisor_step(&image, &mut state, 0, &mut []) == 9);
+        }
+    }
+    for (counts, clauses) in refused.iter().zip([MODULE_CLAUSES, DEVICE_CLAUSES, SUPERVISOR_CLAUSES]) {
+        assert!(counts[..clauses].iter().all(|&count| count >= 50), "{refused:?}");
+    }
+}
+
+#[test]
+fn schedules_keep_demand_three() {
+    let mut rng = Rng::new(8);
+    let mut fired = 0;
+    for _ in 0..60 {
+        let image = image_of(&lively_plan(&mut rng));
+        let mut world = World::new(Reference, &image);
+        for op in schedule(&mut rng, &image, 500) {
+            let applied = world.apply(op);
+            assert_eq!(applied.fault, None, "{op:?}");
+        }
+        assert_eq!(world.finish(), None);
+        fired += world.record.len();
+    }
+    assert!(fired > 1000, "{fired} events");
+}
