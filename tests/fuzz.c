@@ -1,0 +1,249 @@
+/* Random bytes through every call of the C interface, for what the header promises of lent memory.
+ *
+ * Each slice that is lent ends where a page that may not be touched begins, so that one byte read or written past it ends the program; what
+ * stands before it is compared. The C side is compiled with the address and undefined-behaviour sanitizers (tests/fuzz.sh). After each
+ * call: an answer is 0 to 15; what is only read is as it was; a refused call left every lent byte as it was; an accepted one changed nothing
+ * behind its answer's length, except the state that it was lent.
+ *
+ *   fuzz SEED COUNT
+ */
+#define _DEFAULT_SOURCE
+#include <stdio.h>
+#include <stdlib.h>
+#include <string.h>
+#include <sys/mman.h>
+
+#include "chance.h"
+#include "plan.h"
+
+enum { PAGE = 4096, ROOM = 13 * PAGE, CALLS = 17, PLANS = 3 };
+
+/* A lent slice: `bytes` of them end at the guard page; `before` is what the room held when the call was made. */
+struct slice {
+    uint8_t *room;
+    uint8_t *start;
+    size_t length;
+    uint8_t *before;
+};
+
+static struct slice image, state, buffer, message;
+static struct plan plans[PLANS];
+static struct chance chance;
+
+static void slice_make(struct slice *slice)
+{
+    slice->room = mmap(NULL, ROOM + PAGE, PROT_READ | PROT_WRITE, MAP_PRIVATE | MAP_ANONYMOUS, -1, 0);
+    slice->before = malloc(ROOM);
+    if (slice->room == MAP_FAILED || slice->before == NULL || mprotect(slice->room + ROOM, PAGE, PROT_NONE) != 0) {
+        perror("fuzz");
+        exit(2);
+    }
+    slice->start = slice->room + ROOM;
+    slice->length = 0;
+}
+
+static void slice_place(struct slice *slice, size_t length)
+{
+    slice->length = length;
+    slice->start = slice->room + ROOM - length;
+}
+
+static void slice_random(struct slice *slice, size_t length)
+{
+    slice_place(slice, length);
+    for (size_t place = 0; place < length; place++)
+        slice->start[place] = (uint8_t)chance_below(&chance, 256);
+}
+
+static void slice_keep(struct slice *slice) { memcpy(slice->before, slice->room, ROOM); }
+
+static uint8_t any_byte(void) { return (uint8_t)chance_below(&chance, 256); }
+
+/* A small number most of the time, so that it is often one of the plan's. */
+static uint8_t any_number(uint8_t count)
+{
+    return chance_one_in(&chance, 8) ? any_byte() : (uint8_t)chance_below(&chance, (uint32_t)count + 1);
+}
+
+/* A plan as it is, with a few bytes changed, cut, or followed by something; or random bytes. */
+static const struct plan *choose_image(void)
+{
+    const struct plan *plan = &plans[chance_one_in(&chance, 64) ? 2 : chance_below(&chance, 2)];
+    size_t length = plan->length;
+    if (chance_one_in(&chance, 50)) {
+        slice_random(&image, chance_below(&chance, 300));
+        return plan;
+    }
+    if (chance_one_in(&chance, 6))
+        length = chance_below(&chance, (uint32_t)length + 1);
+    slice_place(&image, length);
+    memcpy(image.start, plan->image, length);
+    for (uint32_t changes = chance_one_in(&chance, 3) ? chance_below(&chance, 4) : 0; changes > 0 && length > 0; changes--)
+        image.start[chance_below(&chance, (uint32_t)length)] = any_byte();
+    return plan;
+}
+
+/* A starting state of the plan, often with some bytes changed; or random bytes of any length. */
+static void choose_state(const struct plan *plan, size_t bytes, uint8_t party)
+{
+    if (chance_one_in(&chance, 16)) {
+        slice_random(&state, chance_below(&chance, 700));
+        return;
+    }
+    slice_random(&state, bytes);
+    if (bytes == PEWTERSLUG_DEVICE_BYTES)
+        pewterslug_device_start(plan->image, plan->length, state.start, bytes);
+    else if (bytes == PEWTERSLUG_MODULE_BYTES)
+        pewterslug_module_start(plan->image, plan->length, party, state.start, bytes);
+    else
+        pewterslug_supervisor_start(plan->image, plan->length, party, state.start, bytes);
+    for (uint32_t changes = chance_one_in(&chance, 2) ? chance_below(&chance, 4) : 0; changes > 0; changes--)
+        state.start[chance_below(&chance, (uint32_t)bytes)] = any_byte();
+}
+
+static void choose_message(const struct plan *plan)
+{
+    static const uint8_t lengths[] = {3, 11, 4};
+    uint8_t kind = (uint8_t)(1 + chance_below(&chance, 3));
+    if (chance_one_in(&chance, 10)) {
+        slice_random(&message, chance_below(&chance, 16));
+        return;
+    }
+    slice_random(&message, lengths[kind - 1]);
+    message.start[0] = kind;
+    message.start[1] = any_number(kind == 2 ? plan->supervisors : plan->modules);
+    message.start[2] = any_number(kind == 2 ? plan->modules : plan->supervisors);
+    if (kind == 3)
+        message.start[3] = chance_one_in(&chance, 2) ? 0xFF : any_number(plan->events);
+}
+
+static double any_litres(void)
+{
+    uint64_t bits = (uint64_t)chance_below(&chance, 0xFFFFFFFF) << 32 | chance_below(&chance, 0xFFFFFFFF);
+    double litres;
+    if (!chance_one_in(&chance, 3))
+        return chance_below(&chance, 520) / 8.0;
+    memcpy(&litres, &bits, sizeof litres);
+    return litres;
+}
+
+static uint64_t device_call(uint32_t call, const struct plan *plan)
+{
+    uint8_t module = any_number(plan->modules), event = any_number(plan->events), sensor = (uint8_t)chance_below(&chance, 3);
+    double litres = any_litres();
+    const uint8_t *plan_bytes = image.start;
+    choose_state(plan, PEWTERSLUG_DEVICE_BYTES, 0);
+    slice_keep(&state);
+    if (call == 0)
+        return pewterslug_device_start(plan_bytes, image.length, buffer.start, buffer.length);
+    if (call == 1)
+        return pewterslug_device_turn(plan_bytes, image.length, state.start, state.length, module);
+    if (call == 2)
+        return pewterslug_device_respond(plan_bytes, image.length, state.start, state.length, module, event);
+    return pewterslug_device_tick(plan_bytes, image.length, state.start, state.length, module, sensor, litres);
+}
+
+static uint64_t module_call(uint32_t call, const struct plan *plan)
+{
+    uint8_t module = any_number(plan->modules), event = any_number(plan->events), sensor = (uint8_t)chance_below(&chance, 3);
+    double litres = any_litres();
+    choose_state(plan, PEWTERSLUG_MODULE_BYTES, module);
+    slice_keep(&state);
+    if (call == 0)
+        return pewterslug_module_start(image.start, image.length, module, buffer.start, buffer.length);
+    if (call == 1)
+        return pewterslug_module_step(image.start, image.length, state.start, state.length, module, buffer.start, buffer.length);
+    if (call == 2)
+        return pewterslug_module_deliver(image.start, image.length, state.start, state.length, module, message.start, message.length);
+    if (call == 3)
+        return pewterslug_module_respond(image.start, image.length, state.start, state.length, module, event);
+    return pewterslug_module_tick(image.start, image.length, state.start, state.length, module, sensor, litres);
+}
+
+static uint64_t supervisor_call(uint32_t call, const struct plan *plan)
+{
+    uint8_t supervisor = any_number(plan->supervisors);
+    choose_state(plan, PEWTERSLUG_SUPERVISOR_BYTES, supervisor);
+    slice_keep(&state);
+    if (call == 0)
+        return pewterslug_supervisor_start(image.start, image.length, supervisor, buffer.start, buffer.length);
+    if (call == 1)
+        return pewterslug_supervisor_step(image.start, image.length, state.start, state.length, supervisor, buffer.start, buffer.length);
+    return pewterslug_supervisor_deliver(image.start, image.length, state.start, state.length, supervisor, message.start, message.length);
+}
+
+static uint64_t other_call(uint32_t call)
+{
+    uint64_t word = (uint64_t)chance_below(&chance, 0xFFFFFFFF) << chance_below(&chance, 33);
+    uint8_t kind = (uint8_t)(0x0F + chance_below(&chance, 18));
+    slice_keep(&state);
+    if (call == 0)
+        return pewterslug_check(image.start, image.length);
+    if (call == 1)
+        return pewterslug_read_record(image.start, image.length, chance_below(&chance, (uint32_t)image.length + 3));
+    if (call == 2)
+        return pewterslug_write_record(kind, any_number(16), any_number(32), any_number(5), any_byte(), word, buffer.start, buffer.length);
+    if (call == 3)
+        return pewterslug_read_message(message.start, message.length);
+    return pewterslug_write_message((uint8_t)chance_below(&chance, 5), any_byte(), any_byte(), any_byte(), word, buffer.start, buffer.length);
+}
+
+static int changed(const struct slice *slice, const uint8_t *from)
+{
+    return memcmp(from, slice->before + (from - slice->room), (size_t)(slice->room + ROOM - from)) != 0
+        || memcmp(slice->room, slice->before, (size_t)(slice->start - slice->room)) != 0;
+}
+
+/* What the call must have left alone. The length of a read record or message is not of bytes written. */
+static int broken(uint64_t answer, int writes)
+{
+    uint32_t written = pewterslug_number(answer) == 0 && writes ? pewterslug_length(answer) : 0;
+    if (pewterslug_number(answer) > 15 || changed(&image, image.start) || changed(&message, message.start))
+        return 1;
+    if (written > buffer.length || changed(&buffer, buffer.start + written))
+        return 1;
+    return changed(&state, pewterslug_number(answer) == 0 ? state.room + ROOM : state.start);
+}
+
+static uint64_t one_call(int *writes)
+{
+    uint32_t call = chance_below(&chance, CALLS);
+    const struct plan *plan = choose_image();
+    choose_message(plan);
+    slice_random(&buffer, chance_one_in(&chance, 20) ? chance_below(&chance, 700) : chance_below(&chance, 140));
+    slice_keep(&image);
+    slice_keep(&message);
+    slice_keep(&buffer);
+    *writes = call != 13 && call != 15;
+    if (call < 4)
+        return device_call(call, plan);
+    if (call < 9)
+        return module_call(call - 4, plan);
+    if (call < 12)
+        return supervisor_call(call - 9, plan);
+    return other_call(call - 12);
+}
+
+int main(int count, char **words)
+{
+    uint64_t seed = count > 1 ? strtoull(words[1], NULL, 10) : 1, calls = count > 2 ? strtoull(words[2], NULL, 10) : 20000;
+    uint64_t numbers[16] = {0};
+    if (!plan_build(&plans[0], "two-valve") || !plan_build(&plans[1], "orchard") || !plan_build(&plans[2], "full"))
+        return 2;
+    chance_start(&chance, seed, 0);
+    slice_make(&image), slice_make(&state), slice_make(&buffer), slice_make(&message);
+    for (uint64_t call = 0; call < calls; call++) {
+        int writes;
+        uint64_t answer = one_call(&writes);
+        if (broken(answer, writes)) {
+            printf("fuzz: seed %llu, call %llu: lent memory or the answer is not as promised\n", (unsigned long long)seed, (unsigned long long)call);
+            return 1;
+        }
+        numbers[pewterslug_number(answer)]++;
+    }
+    printf("numbers:");
+    for (int number = 0; number < 16; number++)
+        printf(" %d:%llu", number, (unsigned long long)numbers[number]);
+    printf("\nfuzz: %llu calls, nothing found\n", (unsigned long long)calls);
+    return 0;
+}
