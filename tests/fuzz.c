@@ -3,7 +3,7 @@
  * Each slice that is lent ends where a page that may not be touched begins, so that one byte read or written past it ends the program; what
  * stands before it is compared. The C side is compiled with the address and undefined-behaviour sanitizers (tests/fuzz.sh). After each
  * call: an answer is 0 to 15; what is only read is as it was; a refused call left every lent byte as it was; an accepted one changed nothing
- * behind its answer's length, except the state that it was lent.
+ * behind its answer's length, except the state that it was lent. A run of 20,000 calls or more must have met every number.
  *
  *   fuzz SEED COUNT
  */
@@ -65,7 +65,7 @@ static uint8_t any_number(uint8_t count)
     return chance_one_in(&chance, 8) ? any_byte() : (uint8_t)chance_below(&chance, (uint32_t)count + 1);
 }
 
-/* A plan as it is, with a few bytes changed, cut, or followed by something; or random bytes. */
+/* A plan as it is, with a few bytes changed, cut, followed by something, or too long; or random bytes. */
 static const struct plan *choose_image(void)
 {
     const struct plan *plan = &plans[chance_one_in(&chance, 64) ? 2 : chance_below(&chance, 2)];
@@ -76,14 +76,69 @@ static const struct plan *choose_image(void)
     }
     if (chance_one_in(&chance, 6))
         length = chance_below(&chance, (uint32_t)length + 1);
-    slice_place(&image, length);
-    memcpy(image.start, plan->image, length);
+    else if (chance_one_in(&chance, 20))
+        length += 1 + chance_below(&chance, 8);
+    else if (chance_one_in(&chance, 300))
+        length = PEWTERSLUG_IMAGE_LIMIT + 1 + chance_below(&chance, 100);
+    slice_random(&image, length);
+    memcpy(image.start, plan->image, length < plan->length ? length : plan->length);
     for (uint32_t changes = chance_one_in(&chance, 3) ? chance_below(&chance, 4) : 0; changes > 0 && length > 0; changes--)
         image.start[chance_below(&chance, (uint32_t)length)] = any_byte();
     return plan;
 }
 
-/* A starting state of the plan, often with some bytes changed; or random bytes of any length. */
+/* An uncontrollable event of the module; event records follow the head, four bytes each. */
+static uint8_t response_of(const struct plan *plan, uint8_t module)
+{
+    for (size_t place = 4; plan->image[place] == RECORD_EVENT; place += 4)
+        if (plan->image[place + 2] == module && plan->image[place + 3] == 0)
+            return plan->image[place + 1];
+    return 0xFF;
+}
+
+/* Calls that lead a device to a state with responses queued and procedures running. */
+static void lead_device(const struct plan *plan)
+{
+    uint8_t module = (uint8_t)chance_below(&chance, plan->modules), event = response_of(plan, module);
+    for (uint32_t calls = chance_below(&chance, 24); calls > 0; calls--) {
+        if (chance_one_in(&chance, 4))
+            pewterslug_device_turn(plan->image, plan->length, state.start, state.length, (uint8_t)chance_below(&chance, plan->modules));
+        else if (chance_one_in(&chance, 4))
+            pewterslug_device_tick(plan->image, plan->length, state.start, state.length, module, 1, chance_below(&chance, 512) / 8.0);
+        else
+            pewterslug_device_respond(plan->image, plan->length, state.start, state.length, module, event);
+    }
+}
+
+/* The same of a module, which gets a permit for each of its bids; its mask disables nothing. */
+static void lead_module(const struct plan *plan, uint8_t module)
+{
+    uint8_t written[PEWTERSLUG_STEP_BYTES], event = response_of(plan, module);
+    for (uint32_t calls = chance_below(&chance, 24); calls > 0; calls--) {
+        uint64_t answer = pewterslug_module_step(plan->image, plan->length, state.start, state.length, module, written, sizeof written);
+        uint8_t permit[PEWTERSLUG_MESSAGE_BYTES] = {0x02, pewterslug_value(answer), module};
+        if (pewterslug_number(answer) == 0 && pewterslug_did(answer) == PEWTERSLUG_BIDS)
+            pewterslug_module_deliver(plan->image, plan->length, state.start, state.length, module, permit, sizeof permit);
+        if (!chance_one_in(&chance, 3))
+            pewterslug_module_respond(plan->image, plan->length, state.start, state.length, module, event);
+        else
+            pewterslug_module_tick(plan->image, plan->length, state.start, state.length, module, 0, 0);
+    }
+}
+
+/* A supervisor with bids noted, whose permit may be out. */
+static void lead_supervisor(const struct plan *plan, uint8_t supervisor)
+{
+    uint8_t written[PEWTERSLUG_MESSAGE_BYTES];
+    for (uint32_t calls = chance_below(&chance, 6); calls > 0; calls--) {
+        uint8_t bid[3] = {0x01, (uint8_t)chance_below(&chance, plan->modules), supervisor};
+        pewterslug_supervisor_deliver(plan->image, plan->length, state.start, state.length, supervisor, bid, sizeof bid);
+        if (chance_one_in(&chance, 2))
+            pewterslug_supervisor_step(plan->image, plan->length, state.start, state.length, supervisor, written, sizeof written);
+    }
+}
+
+/* A state of the plan, a few calls after its start, often with some bytes changed; or random bytes of any length. */
 static void choose_state(const struct plan *plan, size_t bytes, uint8_t party)
 {
     if (chance_one_in(&chance, 16)) {
@@ -91,12 +146,16 @@ static void choose_state(const struct plan *plan, size_t bytes, uint8_t party)
         return;
     }
     slice_random(&state, bytes);
-    if (bytes == PEWTERSLUG_DEVICE_BYTES)
+    if (bytes == PEWTERSLUG_DEVICE_BYTES) {
         pewterslug_device_start(plan->image, plan->length, state.start, bytes);
-    else if (bytes == PEWTERSLUG_MODULE_BYTES)
+        lead_device(plan);
+    } else if (bytes == PEWTERSLUG_MODULE_BYTES) {
         pewterslug_module_start(plan->image, plan->length, party, state.start, bytes);
-    else
+        lead_module(plan, party);
+    } else {
         pewterslug_supervisor_start(plan->image, plan->length, party, state.start, bytes);
+        lead_supervisor(plan, party);
+    }
     for (uint32_t changes = chance_one_in(&chance, 2) ? chance_below(&chance, 4) : 0; changes > 0; changes--)
         state.start[chance_below(&chance, (uint32_t)bytes)] = any_byte();
 }
@@ -117,6 +176,11 @@ static void choose_message(const struct plan *plan)
         message.start[3] = chance_one_in(&chance, 2) ? 0xFF : any_number(plan->events);
 }
 
+static uint8_t any_event(const struct plan *plan, uint8_t module)
+{
+    return chance_one_in(&chance, 2) ? response_of(plan, module) : any_number(plan->events);
+}
+
 static double any_litres(void)
 {
     uint64_t bits = (uint64_t)chance_below(&chance, 0xFFFFFFFF) << 32 | chance_below(&chance, 0xFFFFFFFF);
@@ -129,7 +193,7 @@ static double any_litres(void)
 
 static uint64_t device_call(uint32_t call, const struct plan *plan)
 {
-    uint8_t module = any_number(plan->modules), event = any_number(plan->events), sensor = (uint8_t)chance_below(&chance, 3);
+    uint8_t module = any_number(plan->modules), event = any_event(plan, module), sensor = (uint8_t)chance_below(&chance, 3);
     double litres = any_litres();
     const uint8_t *plan_bytes = image.start;
     choose_state(plan, PEWTERSLUG_DEVICE_BYTES, 0);
@@ -145,7 +209,7 @@ static uint64_t device_call(uint32_t call, const struct plan *plan)
 
 static uint64_t module_call(uint32_t call, const struct plan *plan)
 {
-    uint8_t module = any_number(plan->modules), event = any_number(plan->events), sensor = (uint8_t)chance_below(&chance, 3);
+    uint8_t module = any_number(plan->modules), event = any_event(plan, module), sensor = (uint8_t)chance_below(&chance, 3);
     double litres = any_litres();
     choose_state(plan, PEWTERSLUG_MODULE_BYTES, module);
     slice_keep(&state);
@@ -194,10 +258,12 @@ static int changed(const struct slice *slice, const uint8_t *from)
         || memcmp(slice->room, slice->before, (size_t)(slice->start - slice->room)) != 0;
 }
 
-/* What the call must have left alone. The length of a read record or message is not of bytes written. */
+/* What the call must have left alone, and the answer's unused bits. The length of a read record or message is not of bytes written. */
 static int broken(uint64_t answer, int writes)
 {
     uint32_t written = pewterslug_number(answer) == 0 && writes ? pewterslug_length(answer) : 0;
+    if ((answer >> 24 & 0xFF) != 0 || (pewterslug_number(answer) != 0 && (answer >> 8 & 0xFFFF) != 0))
+        return 1;
     if (pewterslug_number(answer) > 15 || changed(&image, image.start) || changed(&message, message.start))
         return 1;
     if (written > buffer.length || changed(&buffer, buffer.start + written))
@@ -244,6 +310,12 @@ int main(int count, char **words)
     printf("numbers:");
     for (int number = 0; number < 16; number++)
         printf(" %d:%llu", number, (unsigned long long)numbers[number]);
-    printf("\nfuzz: %llu calls, nothing found\n", (unsigned long long)calls);
+    printf("\n");
+    for (int number = 0; number < 16; number++)
+        if (numbers[number] == 0 && calls >= 20000) {
+            printf("fuzz: no call got %d, so the run shows too little\n", number);
+            return 1;
+        }
+    printf("fuzz: %llu calls, nothing found\n", (unsigned long long)calls);
     return 0;
 }

@@ -1,7 +1,7 @@
 #!/usr/bin/env bash
 # Random bytes through the C interface: the C side under the address and undefined-behaviour sanitizers, each lent slice against a guard page.
 #   tests/fuzz.sh [SEED [COUNT]]     COUNT calls; docs/BENCHMARK.md records a long run
-# The archive is the one of the gate (target/staticlib).
+# The archive is that of `rt staticlib pewterslug` (target/staticlib), which tests/interface.sh makes.
 set -eu
 cd "$(dirname "$0")/.."
 mkdir -p target/fuzz
