@@ -56,13 +56,15 @@ extern "C" {
  * One device, 592 bytes: sixteen own parts of 35 bytes, then the states of 32 supervisors. Slots that the plan lacks are 0.
  *
  * Bytes of another length, a flag other than 0 and 1, a holder of a permit at home and f64 bits of a NaN stand for no state: the call
- * that gets them is refused with 9.
+ * that gets them is refused with 9, unless the image is refused, or the call is on a module or supervisor that the plan lacks, which is 11
+ * (10 of a misshapen message).
  */
 
 /* An answer is one number. Bits 0..7 are the refusal's number, 0 if the call is accepted. Of a refused call bits 32..63 are the byte
  * offset. Of an accepted one bits 8..15 say what was done, bits 16..23 of what, and bits 32..63 how many bytes were written (for a read
- * record or message: how many it has). All other bits are 0. */
-#define PEWTERSLUG_DONE 0   /* taken; no further answer */
+ * record or message: how many it has). All other bits are 0. The numbers are document 01's; docs/EMBEDDING.md lists those of each call. An
+ * offset has 32 bits; only read_record on more than 4 GiB could have a longer one, and gives its lower 32. */
+#define PEWTERSLUG_DONE 0   /* taken; the value is 0, of a read record or message its kind */
 #define PEWTERSLUG_EVENT 1  /* a turn: an event fired, the value is the event */
 #define PEWTERSLUG_STRAY 2  /* a turn: a stray response, the value is its event */
 #define PEWTERSLUG_NONE 3   /* a turn: none */
@@ -82,7 +84,8 @@ static inline uint32_t pewterslug_length(uint64_t answer) { return (uint8_t)answ
 uint64_t pewterslug_check(const uint8_t *image, size_t image_length);
 
 /* Reads the record at an offset of an image, by shape alone: the value is its kind and the length that of the whole record, so that the
- * next one stands that much further on. Its fields are the image's bytes. */
+ * next one stands that much further on. Its fields are the image's bytes. An unknown kind is 2 and a cut body 3, at the offset; from the
+ * image's length on it is 3 at that length. */
 uint64_t pewterslug_read_record(const uint8_t *image, size_t image_length, size_t offset);
 
 /* Writes one record: the kind, the one-byte fields in the table's order, and the field of eight bytes; what the kind lacks is not looked
@@ -92,7 +95,8 @@ uint64_t pewterslug_write_record(uint8_t kind, uint8_t first, uint8_t second, ui
 
 /* ---- one device ---- */
 
-/* The starting state, written into a buffer of at least PEWTERSLUG_DEVICE_BYTES. */
+/* The starting state, written into a buffer of at least PEWTERSLUG_DEVICE_BYTES. Of the starts a shorter buffer is 15, after the image's
+ * numbers and 11. */
 uint64_t pewterslug_device_start(const uint8_t *image, size_t image_length, uint8_t *buffer, size_t buffer_length);
 
 uint64_t pewterslug_device_turn(const uint8_t *image, size_t image_length, uint8_t *state, size_t state_length, uint8_t module);

@@ -1,5 +1,5 @@
--- The bytes that stand for a state are exactly the bytes of the states that the code's types can hold without a NaN: what is read from bytes that
--- stand for a state is such a state. With `stands`, `back` and `written` of the crates below, encoding and decoding are inverse to each other.
+-- What is read from bytes that stand for a state has no NaN and numbers within the code's types; places of a queue and states of a device's
+-- supervisors are bytes as they stand. With `stands`, `back` and `written` of the crates below, encoding and decoding are inverse to each other.
 use mathlib.Core.Path.{_≡_}
 use mathlib.Core.List.{List}
 use mathlib.Core.Bool.{true}
@@ -18,7 +18,7 @@ pub record Exact : Type 0 where
   pub module-held : (b : List ℕ) → Bytes b → isModule b ≡ true → ModuleHeld (moduleAt b)
   pub supervisor-held : (b : List ℕ) → Bytes b → isSupervisor b ≡ true → SupervisorHeld (supervisorAt b)
   pub device-held : (b : List ℕ) → Bytes b → isDevice b ≡ true → DeviceHeld (deviceAt b)
-  -- so a call that is lent the bytes that another call wrote gets the state that the other one left
+  -- so bytes written for such a state are read as that state
   pub module-again : (x : Module) → ModuleHeld x → moduleOf (moduleBytes x) ≡ x
   pub supervisor-again : (y : Supervisor) → SupervisorHeld y → supervisorOf (supervisorBytes y) ≡ y
   pub device-again : (d : Device) → DeviceHeld d → deviceOf (deviceBytes d) ≡ d
