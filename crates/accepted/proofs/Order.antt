@@ -20,10 +20,10 @@ use Rattle.accepted.specs.Plan.{_∈_, Unique}
 -- ---- the order of keys
 
 -- one field decides, or it is equal and the later fields do
-abbrev Before : ℕ → ℕ → Type 0 → Type 0
+abbrev pub Before : ℕ → ℕ → Type 0 → Type 0
 Before a b X = (a < b) ⊎ ((a ≡ b) × X)
 
-abbrev Precedes : RecordKey → RecordKey → Type 0
+abbrev pub Precedes : RecordKey → RecordKey → Type 0
 Precedes p q = Before (p .kind) (q .kind) (Before (p .first) (q .first) (Before (p .second) (q .second) (p .third < q .third)))
 
 abbrev before : ℕ → ℕ → Bool → Bool
@@ -37,7 +37,7 @@ before-is a b x {X} f t = go (ltb a b) (eqb a b) refl refl t
     go false true e h t = inr (eqb-true a b h, f t)
     go false false e h t = absurd t
 
-precedes-is : (p q : RecordKey) → T (precedes p q) → Precedes p q
+pub precedes-is : (p q : RecordKey) → T (precedes p q) → Precedes p q
 unfolding precedes
 precedes-is p q =
     let third : Bool = ltb (p .third) (q .third) in
@@ -57,19 +57,19 @@ before-irrefl : (a : ℕ) {X : Type 0} → (X → ⊥) → Before a a X → ⊥
 before-irrefl a f (inl h) = omega arith
 before-irrefl a f (inr h) = f (h .1)
 
-precedes-trans : (p q r : RecordKey) → Precedes p q → Precedes q r → Precedes p r
+pub precedes-trans : (p q r : RecordKey) → Precedes p q → Precedes q r → Precedes p r
 precedes-trans p q r =
     before-trans (p .kind) (q .kind) (r .kind)
     (before-trans (p .first) (q .first) (r .first)
     (before-trans (p .second) (q .second) (r .second) (λ h k. omega arith)))
 
-precedes-irrefl : (p : RecordKey) → Precedes p p → ⊥
+pub precedes-irrefl : (p : RecordKey) → Precedes p p → ⊥
 precedes-irrefl p = before-irrefl (p .kind) (before-irrefl (p .first) (before-irrefl (p .second) (λ h. omega arith)))
 
 -- ---- the order of faultless records
 
 -- each record comes after those before it
-after : (rs : List Record) (r t : Record) → Valid (r ∷ rs) → t ∈ rs → Precedes (keyOf t) (keyOf r)
+pub after : (rs : List Record) (r t : Record) → Valid (r ∷ rs) → t ∈ rs → Precedes (keyOf t) (keyOf r)
 unfolding Valid inOrder
 after [] r t v m = absurd (List·Memᴰ·not-nil m)
 after (x ∷ rs) r t v m = go (List·Memᴰ·cases-cons m) (λ n. after rs x t (v .1) n)
