@@ -1,0 +1,3 @@
+pub mod Halving
+pub mod Ascending
+pub mod Runs
