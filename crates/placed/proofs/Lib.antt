@@ -1,3 +1,4 @@
 pub mod Halving
 pub mod Ascending
 pub mod Runs
+pub mod Noted

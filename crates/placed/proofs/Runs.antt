@@ -12,6 +12,7 @@ use borrow.Author.Tests.{leb-true, leb-false, le-leb, lt-leb}
 use Rattle.records.specs.Kinds.{bodyLen, kindOf, sizeOf}
 use Rattle.records.specs.Key.{keyOf}
 use Rattle.records.specs.declared.Record.{Record}
+use Rattle.records.specs.declared.Record.the-variants.{Head, Event, Module, ModuleMove, Supervisor, SupervisorMove, Disabling, Step, End}
 use Rattle.reader.specs.Read.{recordOf, readAt}
 use Rattle.reader.specs.Walk.{Walk, more, stop, walkFrom, recordsIn}
 use Rattle.reader.specs.declared.Read.{Read}
@@ -137,6 +138,45 @@ place-on j k i (more o r w) h = go (leb j (kindOf r)) refl (place-on j k (i + si
         → placeIn k (cond b i (placeIn j (i + sizeOf r) w)) (cond b (more o r w) (from j w)) ≡ cond (leb k (kindOf r)) i (placeIn k (i + sizeOf r) w)
     go true e f = refl
     go false e f = let l : kindOf r < j = leb-false _ _ e in simp (lt-leb k (kindOf r) (omega arith), f)
+
+-- ---- the kinds of the table
+
+each-kind : (P : ℕ → Type 0) → P 0x10 → P 0x11 → P 0x12 → P 0x13 → P 0x14 → P 0x15 → P 0x16 → P 0x17 → P 0x1f → (r : Record) → P (kindOf r)
+unfolding kindOf
+each-kind P a0 a1 a2 a3 a4 a5 a6 a7 a8 (Head m v e) = a0
+each-kind P a0 a1 a2 a3 a4 a5 a6 a7 a8 (Event n o c) = a1
+each-kind P a0 a1 a2 a3 a4 a5 a6 a7 a8 (Module n st i) = a2
+each-kind P a0 a1 a2 a3 a4 a5 a6 a7 a8 (ModuleMove m f e t) = a3
+each-kind P a0 a1 a2 a3 a4 a5 a6 a7 a8 (Supervisor n st i a) = a4
+each-kind P a0 a1 a2 a3 a4 a5 a6 a7 a8 (SupervisorMove v f e t) = a5
+each-kind P a0 a1 a2 a3 a4 a5 a6 a7 a8 (Disabling v st m) = a6
+each-kind P a0 a1 a2 a3 a4 a5 a6 a7 a8 (Step e i o x) = a7
+each-kind P a0 a1 a2 a3 a4 a5 a6 a7 a8 End = a8
+
+-- none is below 10
+pub from-first : (i : ℕ) (w : Walk) → (from 0x10 w ≡ w) × (placeIn 0x10 i w ≡ i)
+unfolding from placeIn
+from-first i (stop n o) = (refl, refl)
+from-first i (more o r w) =
+    let h = each-kind (λ k. leb 0x10 k ≡ true) refl refl refl refl refl refl refl refl refl r in
+    (simp h, simp h)
+
+-- none is between 17 and 1F
+pub from-end : (i : ℕ) (w : Walk) → (from 0x18 w ≡ from 0x1f w) × (placeIn 0x18 i w ≡ placeIn 0x1f i w)
+unfolding from placeIn
+from-end i (stop n o) = (refl, refl)
+from-end i (more o r w) =
+    let h = each-kind (λ k. leb 0x18 k ≡ leb 0x1f k) refl refl refl refl refl refl refl refl refl r in
+    let f = from-end (i + sizeOf r) w in
+    (simp (h, f .0), simp (h, f .1))
+
+-- none is above 1F
+pub from-none : (w : Walk) → recordsIn (from 0x20 w) ≡ []
+unfolding from recordsIn
+from-none (stop n o) = refl
+from-none (more o r w) =
+    let h = each-kind (λ k. leb 0x20 k ≡ false) refl refl refl refl refl refl refl refl refl r in
+    simp h (from-none w)
 
 -- ---- the run of a kind
 
