@@ -2,3 +2,5 @@ pub mod Halving
 pub mod Ascending
 pub mod Runs
 pub mod Noted
+pub mod Listed
+pub mod OfKind

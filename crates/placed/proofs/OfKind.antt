@@ -1,0 +1,107 @@
+-- The records of one kind in an accepted plan, and that the look-up of their own keys leads to them.
+use Prim.Native.Nat.{ℕ, zero, suc, _+_, _-_, _*_, _/_, _≤_, _<_}
+use native.Mathlib.Nat.{div-eq-of-eq-mul-left, eq-or-lt-of-le}
+use native.Mathlib.Omega.{arith}
+use mathlib.Core.Path.{_≡_, refl, sym, ap, _∙_, subst}
+use mathlib.Core.Logic.{_⊎_, inl, inr}
+use mathlib.Core.List.{List, [], _∷_, _++_, Memᴰ·append-left, List·Memᴰ·append-cases}
+use mathlib.Core.Bool.{Bool, true, false, cond}
+use lib.ListN.{length}
+use lib.Dec.{eqb, leb}
+use borrow.Author.Tests.{le-leb, eq-eqb}
+use Rattle.records.specs.Kinds.{bodyLen, kindOf}
+use Rattle.records.specs.Key.{keyOf, precedes}
+use Rattle.records.specs.declared.Record.{Record}
+use Rattle.records.specs.declared.RecordKey.{RecordKey}
+use Rattle.reader.specs.Read.{recordOf}
+use Rattle.reader.specs.Walk.{Walk, walkFrom, recordsIn, recordsOf}
+use Rattle.rules.specs.Check.{IsPlan}
+use Rattle.places.specs.Places.{placesOf, beginOf, endOf, countOf, recordBy, halved, numbered, positionOf, picked, recordsOfKind}
+use Rattle.accepted.specs.Plan.{_∈_}
+use Rattle.accepted.proofs.Order.{Precedes, precedes-irrefl}
+use Rattle.placed.proofs.Halving.{halving-leads}
+use Rattle.placed.proofs.Ascending.{Ascends, precedes-true, precedes-false, not-back, plan-ascends}
+use Rattle.placed.proofs.Runs.{along, from, placeIn, Rest, rest, from-on, place-on, Run, run, recordAt, listed}
+use Rattle.placed.proofs.Listed.{in-listed, index-of, listed-ascends, all-picked}
+
+rest-of : (s : List ℕ) → IsPlan s → (j : ℕ) → Rest s j (walkFrom s 0) (placeIn j 0 (walkFrom s 0)) (from j (walkFrom s 0))
+rest-of s accepted j = rest s j 0 (walkFrom s 0) (along s) (omega arith) (plan-ascends s accepted)
+
+module _ (s : List ℕ) (accepted : IsPlan s) (k : ℕ) (begins : beginOf (placesOf s) k ≡ placeIn k 0 (walkFrom s 0)) where
+  pub kind-run : Run s k (beginOf (placesOf s) k) 0 (from k (walkFrom s 0)) (placeIn (suc k) 0 (walkFrom s 0)) (from (suc k) (walkFrom s 0))
+  kind-run =
+      let w : Walk = walkFrom s 0 in
+      let t = rest-of s accepted k in
+      let b : ℕ = beginOf (placesOf s) k in
+      subst (Run s k b 0 (from k w) (placeIn (suc k) 0 w)) (from-on k (suc k) w (omega arith))
+      (subst (λ (p : ℕ). Run s k b 0 (from k w) p (from (suc k) (from k w))) (place-on k (suc k) 0 w (omega arith))
+      (run s k b 0 (placeIn k 0 w) (from k w) (sym begins ∙ omega arith) (t .follows) (t .least)))
+
+  pub ordered : (i j : ℕ) → i < j → j < kind-run .count → Precedes (keyOf (recordBy s (placesOf s) k i)) (keyOf (recordBy s (placesOf s) k j))
+  unfolding recordBy
+  ordered i j h l =
+      listed-ascends (recordAt s k (beginOf (placesOf s) k)) 0 (kind-run .count) (recordsIn (from (suc k) (walkFrom s 0)))
+      (subst Ascends (kind-run .records) (rest-of s accepted k .ascends)) i j (omega arith) h (omega arith)
+
+  pub belongs : (i : ℕ) → i < kind-run .count → recordBy s (placesOf s) k i ∈ recordsOf s
+  unfolding recordBy
+  belongs i h =
+      rest-of s accepted k .part _
+      (subst (λ (rs : List Record). recordBy s (placesOf s) k i ∈ rs) (sym (kind-run .records))
+      (Memᴰ·append-left _ (in-listed (recordAt s k (beginOf (placesOf s) k)) 0 (kind-run .count) i (omega arith) (omega arith))))
+
+  not-before : (i j : ℕ) → i ≤ j → j < kind-run .count → precedes (keyOf (recordBy s (placesOf s) k j)) (keyOf (recordBy s (placesOf s) k i)) ≡ false
+  not-before i j h l = precedes-false _ _ (go (eq-or-lt-of-le h))
+    where
+      go : (i ≡ j) ⊎ (i < j) → Precedes (keyOf (recordBy s (placesOf s) k j)) (keyOf (recordBy s (placesOf s) k i)) → ⊥
+      go (inl e) q = precedes-irrefl _ (subst (λ (x : ℕ). Precedes (keyOf (recordBy s (placesOf s) k j)) (keyOf (recordBy s (placesOf s) k x))) e q)
+      go (inr g) q = not-back _ _ (ordered i j g l) q
+
+  -- each record of the kind is one of them
+  pub index-in : (r : Record) → r ∈ recordsOf s → kindOf r ≡ k → (i : ℕ) × (i < kind-run .count) × (recordBy s (placesOf s) k i ≡ r)
+  unfolding recordBy
+  index-in r m e =
+      go (List·Memᴰ·append-cases (listed (recordAt s k (beginOf (placesOf s) k)) 0 (kind-run .count))
+      (subst (λ (rs : List Record). r ∈ rs) (kind-run .records) (rest-of s accepted k .keeps r m (omega arith))))
+    where
+      go : (r ∈ listed (recordAt s k (beginOf (placesOf s) k)) 0 (kind-run .count)) ⊎ (r ∈ recordsIn (from (suc k) (walkFrom s 0)))
+          → (i : ℕ) × (i < kind-run .count) × (recordBy s (placesOf s) k i ≡ r)
+      go (inl h) = let x = index-of (recordAt s k (beginOf (placesOf s) k)) 0 (kind-run .count) r h in (x .0, (let y = x .1 in omega arith), x .2)
+      go (inr h) = let g : suc k ≤ kindOf r = rest-of s accepted (suc k) .least r h in absurd (omega arith)
+
+  module _ (ends : endOf (placesOf s) k ≡ placeIn (suc k) 0 (walkFrom s 0)) where
+    counts : countOf s (placesOf s) k ≡ kind-run .count
+    unfolding countOf
+    counts =
+        let p = placesOf s in
+        let n : ℕ = kind-run .count in
+        let h : placeIn (suc k) 0 (walkFrom s 0) ≤ length s = rest-of s accepted (suc k) .within in
+        let g : placeIn (suc k) 0 (walkFrom s 0) ≡ beginOf p k + (0 + n) * suc (bodyLen k) = kind-run .ends in
+        let q : endOf p k - beginOf p k ≡ n * suc (bodyLen k) = omega arith in
+        simp (le-leb (endOf p k) (length s) (omega arith)) (div-eq-of-eq-mul-left (omega arith) q)
+
+    -- if the look-up of each one's key leads to it, all are found
+    pub kind-found : ((i : ℕ) → i < kind-run .count → positionOf s (placesOf s) (keyOf (recordBy s (placesOf s) k i)) ≡ i)
+        → recordsOfKind s (placesOf s) k ++ recordsIn (from (suc k) (walkFrom s 0)) ≡ recordsIn (from k (walkFrom s 0))
+    unfolding recordsOfKind recordBy
+    kind-found leads =
+        let f : ℕ → Record = recordBy s (placesOf s) k in
+        let t : ℕ → Bool = λ i. eqb (positionOf s (placesOf s) (keyOf (f i))) i in
+        ap (λ (rs : List Record). rs ++ recordsIn (from (suc k) (walkFrom s 0)))
+        (ap (picked t f 0) counts ∙ all-picked f t 0 (kind-run .count) (λ i h. eq-eqb _ _ (leads i (omega arith))))
+        ∙ sym (kind-run .records)
+
+    module _ (kept : (b : List ℕ) → keyOf (recordOf k b) .kind ≡ k) where
+      pub by-number : numbered k ≡ true → ((i : ℕ) → i < kind-run .count → keyOf (recordBy s (placesOf s) k i) .first ≡ i) → (i : ℕ) → i < kind-run .count
+          → positionOf s (placesOf s) (keyOf (recordBy s (placesOf s) k i)) ≡ i
+      unfolding positionOf recordBy
+      by-number e numbers i h = simp (kept, e) (numbers i h)
+
+      pub by-halving : numbered k ≡ false → (i : ℕ) → i < kind-run .count → positionOf s (placesOf s) (keyOf (recordBy s (placesOf s) k i)) ≡ i
+      unfolding positionOf recordBy
+      by-halving e i h =
+          let n : ℕ = kind-run .count in
+          let t : ℕ → Bool = λ j. precedes (keyOf (recordBy s (placesOf s) k j)) (keyOf (recordBy s (placesOf s) k i)) in
+          simp (kept, e)
+          (ap (λ (x : ℕ). halved t x 0 x) counts
+          ∙ halving-leads t i n (λ j l. precedes-true _ _ (ordered j i l h)) (not-before i) n 0 n (omega arith) (omega arith) (omega arith) (omega arith))
