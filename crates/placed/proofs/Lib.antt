@@ -4,3 +4,4 @@ pub mod Runs
 pub mod Noted
 pub mod Listed
 pub mod OfKind
+pub mod Numbers
