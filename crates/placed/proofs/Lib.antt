@@ -5,3 +5,4 @@ pub mod Noted
 pub mod Listed
 pub mod OfKind
 pub mod Numbers
+pub mod Placed
