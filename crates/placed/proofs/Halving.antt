@@ -22,7 +22,7 @@ module _ (t : ℕ → Bool) (j top : ℕ) (before : (i : ℕ) → i < j → t i 
   pub halving-leads : (n lo hi : ℕ) → hi - lo ≤ n → lo ≤ j → j ≤ hi → hi ≤ top → halved t n lo hi ≡ j
   unfolding halved
   halving-leads zero lo hi d a b c = omega arith
-  halving-leads (suc n) lo hi d a b c = go (ltb lo hi) refl (λ l h k. halving-leads n l h k)
+  halving-leads (suc n) lo hi d a b c = go (ltb lo hi) refl (halving-leads n)
     where
       mid : ℕ
       mid = lo + (hi - lo) / 2

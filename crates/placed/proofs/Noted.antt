@@ -4,7 +4,7 @@ use native.Mathlib.Nat.{mod-eq-of-lt}
 use native.Mathlib.Omega.{arith}
 use mathlib.Core.Path.{_≡_, refl, sym, ap, _∙_, subst}
 use mathlib.Core.Logic.{_⊎_, inl, inr}
-use mathlib.Core.List.{List, [], _∷_, List·Memᴰ·head, List·Memᴰ·tail, List·Memᴰ·not-nil, List·Memᴰ·cases-cons, Memᴰ·append-right}
+use mathlib.Core.List.{List, List·Memᴰ·head, List·Memᴰ·tail, List·Memᴰ·not-nil, List·Memᴰ·cases-cons, Memᴰ·append-right}
 use mathlib.Core.Bool.{Bool, true, false, cond}
 use lib.ListN.{length}
 use lib.Dec.{leb, lit<, lit≤}
@@ -19,7 +19,7 @@ use Rattle.places.specs.declared.Places.{Places}
 use Rattle.accepted.specs.Plan.{_∈_}
 use Rattle.accepted.proofs.Walked.{short, walked-plan}
 use Rattle.placed.proofs.Ascending.{Ascends, kind-rises, plan-ascends}
-use Rattle.placed.proofs.Runs.{Along, along, AtLeast, from, placeIn, rest}
+use Rattle.placed.proofs.Runs.{Along, along, AtLeast, placeIn, rest}
 
 -- ---- one of the places, that of kind j
 

@@ -2,7 +2,7 @@
 use Prim.Native.Nat.{ℕ, zero, suc, _≤_, _<_}
 use native.Mathlib.Nat.{eq-or-lt-of-le}
 use native.Mathlib.Omega.{arith}
-use mathlib.Core.Path.{_≡_, refl, sym, ap, _∙_, subst₂}
+use mathlib.Core.Path.{_≡_, refl, ap, _∙_, subst₂}
 use mathlib.Core.Logic.{_⊎_, inl, inr}
 use mathlib.Core.List.{List}
 use mathlib.Core.Bool.{Bool, true, false}
@@ -13,17 +13,15 @@ use Rattle.records.specs.Kinds.{kindOf}
 use Rattle.records.specs.Key.{keyBy, keyOf}
 use Rattle.records.specs.declared.Record.{Record}
 use Rattle.records.specs.declared.Record.the-variants.{Event, Module, Supervisor}
-use Rattle.records.specs.declared.RecordKey.{RecordKey}
 use Rattle.reader.specs.Read.{recordOf}
-use Rattle.reader.specs.Walk.{walkFrom, recordsOf}
+use Rattle.reader.specs.Walk.{recordsOf}
 use Rattle.rules.specs.LookUp.{modulesOf, supervisorsOf, eventsOf}
 use Rattle.rules.specs.Check.{IsPlan}
-use Rattle.places.specs.Places.{placesOf, beginOf, recordBy}
+use Rattle.places.specs.Places.{recordBy}
 use Rattle.accepted.specs.Plan.{_∈_, Sound}
 use Rattle.accepted.proofs.Order.{Precedes}
 use Rattle.accepted.proofs.Accepted.{every-plan}
-use Rattle.placed.proofs.Runs.{placeIn}
-use Rattle.placed.proofs.OfKind.{kind-run, ordered, belongs, index-in}
+use Rattle.placed.proofs.OfKind.{Begins, keyAt, kind-run, ordered, belongs, index-in}
 
 -- ---- n numbers that ascend strictly and leave none out
 
@@ -47,6 +45,7 @@ module _ (f : ℕ → ℕ) (n : ℕ) (rises : (i j : ℕ) → i < j → j < n �
       go true r = later (eq-or-lt-of-le (leb-true _ _ r))
       go false r = let z : m < i = leb-false _ _ r in let y = g m z in omega arith
 
+  -- up to a bound b
   below : (b i : ℕ) → i < b → i < n → f i ≡ i
   below zero i h k = absurd (omega arith)
   below (suc b) i h k = go (leb (f i) i) refl (λ j l. below b j (omega arith) (omega arith))
@@ -73,17 +72,18 @@ number-rises k a b (inr (e, inr (f, inr (g, h)))) = absurd (omega arith)
 abbrev Declared : List Record → ℕ → ℕ → Type 0
 Declared rs k e = (r : Record) × (r ∈ rs) × (kindOf r ≡ k) × (keyOf r .first ≡ e)
 
-module _ (s : List ℕ) (accepted : IsPlan s) (k : ℕ) (begins : beginOf (placesOf s) k ≡ placeIn k 0 (walkFrom s 0)) where
+module _ (s : List ℕ) (accepted : IsPlan s) (k : ℕ) (begins : Begins s k) where
+  -- by the form of their keys, and since no number below one of them is left out
   numbers : ((b : List ℕ) → keyOf (recordOf k b) ≡ keyBy k (keyOf (recordOf k b) .first) 0 0)
       → ((b : List ℕ) (e : ℕ) → recordOf k b ∈ recordsOf s → e < keyOf (recordOf k b) .first → Declared (recordsOf s) k e)
-      → (i : ℕ) → i < kind-run s accepted k begins .count → keyOf (recordBy s (placesOf s) k i) .first ≡ i
+      → (i : ℕ) → i < kind-run s accepted k begins .count → keyAt s k i .first ≡ i
   unfolding recordBy
   numbers keyed declared =
-      own-place (λ i. keyOf (recordBy s (placesOf s) k i) .first) (kind-run s accepted k begins .count)
+      own-place (λ i. keyAt s k i .first) (kind-run s accepted k begins .count)
       (λ i j h l. number-rises k _ _ (subst₂ Precedes (keyed _) (keyed _) (ordered s accepted k begins i j h l)))
       (λ i e h l. fill (declared _ e (belongs s accepted k begins i h) l))
     where
-      fill : {e : ℕ} → Declared (recordsOf s) k e → (m : ℕ) × (m < kind-run s accepted k begins .count) × (keyOf (recordBy s (placesOf s) k m) .first ≡ e)
+      fill : {e : ℕ} → Declared (recordsOf s) k e → (m : ℕ) × (m < kind-run s accepted k begins .count) × (keyAt s k m .first ≡ e)
       fill (r, m, q, z) =
           let x = index-in s accepted k begins r m q in
           (x .0, x .1, ap (λ (t : Record). keyOf t .first) (x .2) ∙ z)
@@ -94,8 +94,7 @@ module _ (s : List ℕ) (accepted : IsPlan s) where
   sound : Sound (recordsOf s)
   sound = every-plan s accepted .sound
 
-  pub event-numbers : (begins : beginOf (placesOf s) 0x11 ≡ placeIn 0x11 0 (walkFrom s 0)) (i : ℕ) → i < kind-run s accepted 0x11 begins .count
-      → keyOf (recordBy s (placesOf s) 0x11 i) .first ≡ i
+  pub event-numbers : (begins : Begins s 0x11) (i : ℕ) → i < kind-run s accepted 0x11 begins .count → keyAt s 0x11 i .first ≡ i
   unfolding recordOf keyOf kindOf
   event-numbers begins = numbers s accepted 0x11 begins (λ b. refl) declared
     where
@@ -105,8 +104,7 @@ module _ (s : List ℕ) (accepted : IsPlan s) where
           let t = sound .the-event e (omega arith) in
           (Event e (t .owner) (t .class), t .listed, refl, refl)
 
-  pub module-numbers : (begins : beginOf (placesOf s) 0x12 ≡ placeIn 0x12 0 (walkFrom s 0)) (i : ℕ) → i < kind-run s accepted 0x12 begins .count
-      → keyOf (recordBy s (placesOf s) 0x12 i) .first ≡ i
+  pub module-numbers : (begins : Begins s 0x12) (i : ℕ) → i < kind-run s accepted 0x12 begins .count → keyAt s 0x12 i .first ≡ i
   unfolding recordOf keyOf kindOf
   module-numbers begins = numbers s accepted 0x12 begins (λ b. refl) declared
     where
@@ -116,8 +114,7 @@ module _ (s : List ℕ) (accepted : IsPlan s) where
           let t = sound .the-module e (omega arith) in
           (Module e (t .states) (t .initial), t .listed, refl, refl)
 
-  pub supervisor-numbers : (begins : beginOf (placesOf s) 0x14 ≡ placeIn 0x14 0 (walkFrom s 0)) (i : ℕ) → i < kind-run s accepted 0x14 begins .count
-      → keyOf (recordBy s (placesOf s) 0x14 i) .first ≡ i
+  pub supervisor-numbers : (begins : Begins s 0x14) (i : ℕ) → i < kind-run s accepted 0x14 begins .count → keyAt s 0x14 i .first ≡ i
   unfolding recordOf keyOf kindOf
   supervisor-numbers begins = numbers s accepted 0x14 begins (λ b. refl) declared
     where

@@ -1,13 +1,13 @@
 -- The records of one kind in an accepted plan, and that the look-up of their own keys leads to them.
-use Prim.Native.Nat.{ℕ, zero, suc, _+_, _-_, _*_, _/_, _≤_, _<_}
+use Prim.Native.Nat.{ℕ, suc, _+_, _-_, _*_, _≤_, _<_}
 use native.Mathlib.Nat.{div-eq-of-eq-mul-left, eq-or-lt-of-le}
 use native.Mathlib.Omega.{arith}
-use mathlib.Core.Path.{_≡_, refl, sym, ap, _∙_, subst}
+use mathlib.Core.Path.{_≡_, sym, ap, _∙_, subst}
 use mathlib.Core.Logic.{_⊎_, inl, inr}
-use mathlib.Core.List.{List, [], _∷_, _++_, Memᴰ·append-left, List·Memᴰ·append-cases}
-use mathlib.Core.Bool.{Bool, true, false, cond}
+use mathlib.Core.List.{List, _++_, Memᴰ·append-left, List·Memᴰ·append-cases}
+use mathlib.Core.Bool.{Bool, true, false}
 use lib.ListN.{length}
-use lib.Dec.{eqb, leb}
+use lib.Dec.{eqb}
 use borrow.Author.Tests.{le-leb, eq-eqb}
 use Rattle.records.specs.Kinds.{bodyLen, kindOf}
 use Rattle.records.specs.Key.{keyOf, precedes}
@@ -24,10 +24,23 @@ use Rattle.placed.proofs.Ascending.{Ascends, precedes-true, precedes-fa
 use Rattle.placed.proofs.Runs.{along, from, placeIn, Rest, rest, from-on, place-on, Run, run, recordAt, listed}
 use Rattle.placed.proofs.Listed.{in-listed, index-of, listed-ascends, all-picked}
 
+-- where the records of kind k begin and end
+abbrev pub Begins : List ℕ → ℕ → Type 0
+Begins s k = beginOf (placesOf s) k ≡ placeIn k 0 (walkFrom s 0)
+
+abbrev pub Ends : List ℕ → ℕ → Type 0
+Ends s k = endOf (placesOf s) k ≡ placeIn (suc k) 0 (walkFrom s 0)
+
+-- the key of the i-th of them
+abbrev pub keyAt : List ℕ → ℕ → ℕ → RecordKey
+keyAt s k i = keyOf (recordBy s (placesOf s) k i)
+
+-- what is left of the walk from kind j on
 rest-of : (s : List ℕ) → IsPlan s → (j : ℕ) → Rest s j (walkFrom s 0) (placeIn j 0 (walkFrom s 0)) (from j (walkFrom s 0))
 rest-of s accepted j = rest s j 0 (walkFrom s 0) (along s) (omega arith) (plan-ascends s accepted)
 
-module _ (s : List ℕ) (accepted : IsPlan s) (k : ℕ) (begins : beginOf (placesOf s) k ≡ placeIn k 0 (walkFrom s 0)) where
+module _ (s : List ℕ) (accepted : IsPlan s) (k : ℕ) (begins : Begins s k) where
+  -- the records from kind k on begin with the run of kind k
   pub kind-run : Run s k (beginOf (placesOf s) k) 0 (from k (walkFrom s 0)) (placeIn (suc k) 0 (walkFrom s 0)) (from (suc k) (walkFrom s 0))
   kind-run =
       let w : Walk = walkFrom s 0 in
@@ -37,12 +50,14 @@ module _ (s : List ℕ) (accepted : IsPlan s) (k : ℕ) (begins : beginOf (place
       (subst (λ (p : ℕ). Run s k b 0 (from k w) p (from (suc k) (from k w))) (place-on k (suc k) 0 w (omega arith))
       (run s k b 0 (placeIn k 0 w) (from k w) (sym begins ∙ omega arith) (t .follows) (t .least)))
 
-  pub ordered : (i j : ℕ) → i < j → j < kind-run .count → Precedes (keyOf (recordBy s (placesOf s) k i)) (keyOf (recordBy s (placesOf s) k j))
+  -- they ascend
+  pub ordered : (i j : ℕ) → i < j → j < kind-run .count → Precedes (keyAt s k i) (keyAt s k j)
   unfolding recordBy
   ordered i j h l =
       listed-ascends (recordAt s k (beginOf (placesOf s) k)) 0 (kind-run .count) (recordsIn (from (suc k) (walkFrom s 0)))
       (subst Ascends (kind-run .records) (rest-of s accepted k .ascends)) i j (omega arith) h (omega arith)
 
+  -- each is one of the plan's records
   pub belongs : (i : ℕ) → i < kind-run .count → recordBy s (placesOf s) k i ∈ recordsOf s
   unfolding recordBy
   belongs i h =
@@ -50,14 +65,15 @@ module _ (s : List ℕ) (accepted : IsPlan s) (k : ℕ) (begins : beginOf (place
       (subst (λ (rs : List Record). recordBy s (placesOf s) k i ∈ rs) (sym (kind-run .records))
       (Memᴰ·append-left _ (in-listed (recordAt s k (beginOf (placesOf s) k)) 0 (kind-run .count) i (omega arith) (omega arith))))
 
-  not-before : (i j : ℕ) → i ≤ j → j < kind-run .count → precedes (keyOf (recordBy s (placesOf s) k j)) (keyOf (recordBy s (placesOf s) k i)) ≡ false
+  -- none comes before an earlier one
+  not-before : (i j : ℕ) → i ≤ j → j < kind-run .count → precedes (keyAt s k j) (keyAt s k i) ≡ false
   not-before i j h l = precedes-false _ _ (go (eq-or-lt-of-le h))
     where
-      go : (i ≡ j) ⊎ (i < j) → Precedes (keyOf (recordBy s (placesOf s) k j)) (keyOf (recordBy s (placesOf s) k i)) → ⊥
-      go (inl e) q = precedes-irrefl _ (subst (λ (x : ℕ). Precedes (keyOf (recordBy s (placesOf s) k j)) (keyOf (recordBy s (placesOf s) k x))) e q)
+      go : (i ≡ j) ⊎ (i < j) → Precedes (keyAt s k j) (keyAt s k i) → ⊥
+      go (inl e) q = precedes-irrefl _ (subst (λ (x : ℕ). Precedes (keyAt s k j) (keyAt s k x)) e q)
       go (inr g) q = not-back _ _ (ordered i j g l) q
 
-  -- each record of the kind is one of them
+  -- and each of the plan's records of kind k is one of them
   pub index-in : (r : Record) → r ∈ recordsOf s → kindOf r ≡ k → (i : ℕ) × (i < kind-run .count) × (recordBy s (placesOf s) k i ≡ r)
   unfolding recordBy
   index-in r m e =
@@ -69,7 +85,8 @@ module _ (s : List ℕ) (accepted : IsPlan s) (k : ℕ) (begins : beginOf (place
       go (inl h) = let x = index-of (recordAt s k (beginOf (placesOf s) k)) 0 (kind-run .count) r h in (x .0, (let y = x .1 in omega arith), x .2)
       go (inr h) = let g : suc k ≤ kindOf r = rest-of s accepted (suc k) .least r h in absurd (omega arith)
 
-  module _ (ends : endOf (placesOf s) k ≡ placeIn (suc k) 0 (walkFrom s 0)) where
+  module _ (ends : Ends s k) where
+    -- the count by the places is the run's
     counts : countOf s (placesOf s) k ≡ kind-run .count
     unfolding countOf
     counts =
@@ -81,7 +98,7 @@ module _ (s : List ℕ) (accepted : IsPlan s) (k : ℕ) (begins : beginOf (place
         simp (le-leb (endOf p k) (length s) (omega arith)) (div-eq-of-eq-mul-left (omega arith) q)
 
     -- if the look-up of each one's key leads to it, all are found
-    pub kind-found : ((i : ℕ) → i < kind-run .count → positionOf s (placesOf s) (keyOf (recordBy s (placesOf s) k i)) ≡ i)
+    pub kind-found : ((i : ℕ) → i < kind-run .count → positionOf s (placesOf s) (keyAt s k i) ≡ i)
         → recordsOfKind s (placesOf s) k ++ recordsIn (from (suc k) (walkFrom s 0)) ≡ recordsIn (from k (walkFrom s 0))
     unfolding recordsOfKind recordBy
     kind-found leads =
@@ -92,16 +109,18 @@ module _ (s : List ℕ) (accepted : IsPlan s) (k : ℕ) (begins : beginOf (place
         ∙ sym (kind-run .records)
 
     module _ (kept : (b : List ℕ) → keyOf (recordOf k b) .kind ≡ k) where
-      pub by-number : numbered k ≡ true → ((i : ℕ) → i < kind-run .count → keyOf (recordBy s (placesOf s) k i) .first ≡ i) → (i : ℕ) → i < kind-run .count
-          → positionOf s (placesOf s) (keyOf (recordBy s (placesOf s) k i)) ≡ i
+      -- where their numbers are their places, the look-up leads to them by number
+      pub by-number : numbered k ≡ true → ((i : ℕ) → i < kind-run .count → keyAt s k i .first ≡ i) → (i : ℕ) → i < kind-run .count
+          → positionOf s (placesOf s) (keyAt s k i) ≡ i
       unfolding positionOf recordBy
       by-number e numbers i h = simp (kept, e) (numbers i h)
 
-      pub by-halving : numbered k ≡ false → (i : ℕ) → i < kind-run .count → positionOf s (placesOf s) (keyOf (recordBy s (placesOf s) k i)) ≡ i
+      -- since they ascend, it leads to them by halving
+      pub by-halving : numbered k ≡ false → (i : ℕ) → i < kind-run .count → positionOf s (placesOf s) (keyAt s k i) ≡ i
       unfolding positionOf recordBy
       by-halving e i h =
           let n : ℕ = kind-run .count in
-          let t : ℕ → Bool = λ j. precedes (keyOf (recordBy s (placesOf s) k j)) (keyOf (recordBy s (placesOf s) k i)) in
+          let t : ℕ → Bool = λ j. precedes (keyAt s k j) (keyAt s k i) in
           simp (kept, e)
           (ap (λ (x : ℕ). halved t x 0 x) counts
           ∙ halving-leads t i n (λ j l. precedes-true _ _ (ordered j i l h)) (not-before i) n 0 n (omega arith) (omega arith) (omega arith) (omega arith))

@@ -2,7 +2,7 @@
 use Prim.Native.Nat.{ℕ, suc, _+_, _*_, _≤_, _<_}
 use native.Mathlib.Omega.{arith}
 use mathlib.Core.Path.{_≡_, refl, sym, ap, _∙_}
-use mathlib.Core.List.{List, [], _++_}
+use mathlib.Core.List.{List, _++_}
 use mathlib.Core.Bool.{Bool, true, false}
 use lib.Dec.{leb}
 use borrow.Author.Tests.{leb-true, leb-false}
@@ -17,71 +17,65 @@ use Rattle.places.specs.Places.{placesOf, beginOf, endOf, recordBy, numbered, r
 use Rattle.accepted.proofs.Order.{precedes-irrefl}
 use Rattle.placed.specs.Placed.{AllFound}
 use Rattle.placed.proofs.Runs.{from, placeIn, from-first, from-end, from-none}
-use Rattle.placed.proofs.Noted.{places-noted, end-listed}
-use Rattle.placed.proofs.OfKind.{kind-run, ordered, index-in, kind-found, by-number, by-halving}
+use Rattle.placed.proofs.Noted.{Noted, places-noted, end-listed}
+use Rattle.placed.proofs.OfKind.{Begins, Ends, keyAt, kind-run, ordered, index-in, kind-found, by-number, by-halving}
 use Rattle.placed.proofs.Numbers.{event-numbers, module-numbers, supervisor-numbers}
 
 module _ (s : List ℕ) (accepted : IsPlan s) where
-  -- where the records of a kind begin and end
-  abbrev Begins : ℕ → Type 0
-  Begins k = beginOf (placesOf s) k ≡ placeIn k 0 (walkFrom s 0)
-
-  abbrev Ends : ℕ → Type 0
-  Ends k = endOf (placesOf s) k ≡ placeIn (suc k) 0 (walkFrom s 0)
-
+  -- a look-up finds all the records of kind k
   abbrev Found : ℕ → Type 0
   Found k = recordsOfKind s (placesOf s) k ++ recordsIn (from (suc k) (walkFrom s 0)) ≡ recordsIn (from k (walkFrom s 0))
 
-  -- the kinds found by halving
-  halves : (k : ℕ) → Begins k → Ends k → ((b : List ℕ) → keyOf (recordOf k b) .kind ≡ k) → numbered k ≡ false → Found k
-  halves k b e kept n = kind-found s accepted k b e (by-halving s accepted k b e kept n)
+  -- a record that is read as one of kind k has that kind
+  abbrev Kept : ℕ → Type 0
+  Kept k = (b : List ℕ) → keyOf (recordOf k b) .kind ≡ k
+
+  by-halves : (k : ℕ) → Begins s k → Ends s k → Kept k → numbered k ≡ false → Found k
+  by-halves k b e kept n = kind-found s accepted k b e (by-halving s accepted k b e kept n)
+
+  by-numbers : (k : ℕ) (b : Begins s k) → Ends s k → Kept k → numbered k ≡ true → ((i : ℕ) → i < kind-run s accepted k b .count → keyAt s k i .first ≡ i) → Found k
+  by-numbers k b e kept n own = kind-found s accepted k b e (by-number s accepted k b e kept n own)
+
+  noted : Noted s
+  noted = places-noted s accepted
 
   found-10 : Found 0x10
   unfolding beginOf endOf recordOf keyOf numbered
-  found-10 = halves 0x10 (sym (from-first 0 (walkFrom s 0) .1)) (places-noted s accepted .at-11) (λ b. refl) refl
+  found-10 = by-halves 0x10 (sym (from-first 0 (walkFrom s 0) .1)) (noted .at-11) (λ b. refl) refl
 
   found-11 : Found 0x11
   unfolding beginOf endOf recordOf keyOf numbered
-  found-11 =
-      let b : Begins 0x11 = places-noted s accepted .at-11 in
-      let e : Ends 0x11 = places-noted s accepted .at-12 in
-      kind-found s accepted 0x11 b e (by-number s accepted 0x11 b e (λ b. refl) refl (event-numbers s accepted b))
+  found-11 = by-numbers 0x11 (noted .at-11) (noted .at-12) (λ b. refl) refl (event-numbers s accepted (noted .at-11))
 
   found-12 : Found 0x12
   unfolding beginOf endOf recordOf keyOf numbered
-  found-12 =
-      let b : Begins 0x12 = places-noted s accepted .at-12 in
-      let e : Ends 0x12 = places-noted s accepted .at-13 in
-      kind-found s accepted 0x12 b e (by-number s accepted 0x12 b e (λ b. refl) refl (module-numbers s accepted b))
+  found-12 = by-numbers 0x12 (noted .at-12) (noted .at-13) (λ b. refl) refl (module-numbers s accepted (noted .at-12))
 
   found-13 : Found 0x13
   unfolding beginOf endOf recordOf keyOf numbered
-  found-13 = halves 0x13 (places-noted s accepted .at-13) (places-noted s accepted .at-14) (λ b. refl) refl
+  found-13 = by-halves 0x13 (noted .at-13) (noted .at-14) (λ b. refl) refl
 
   found-14 : Found 0x14
   unfolding beginOf endOf recordOf keyOf numbered
-  found-14 =
-      let b : Begins 0x14 = places-noted s accepted .at-14 in
-      let e : Ends 0x14 = places-noted s accepted .at-15 in
-      kind-found s accepted 0x14 b e (by-number s accepted 0x14 b e (λ b. refl) refl (supervisor-numbers s accepted b))
+  found-14 = by-numbers 0x14 (noted .at-14) (noted .at-15) (λ b. refl) refl (supervisor-numbers s accepted (noted .at-14))
 
   found-15 : Found 0x15
   unfolding beginOf endOf recordOf keyOf numbered
-  found-15 = halves 0x15 (places-noted s accepted .at-15) (places-noted s accepted .at-16) (λ b. refl) refl
+  found-15 = by-halves 0x15 (noted .at-15) (noted .at-16) (λ b. refl) refl
 
   found-16 : Found 0x16
   unfolding beginOf endOf recordOf keyOf numbered
-  found-16 = halves 0x16 (places-noted s accepted .at-16) (places-noted s accepted .at-17) (λ b. refl) refl
+  found-16 = by-halves 0x16 (noted .at-16) (noted .at-17) (λ b. refl) refl
 
   found-17 : Found 0x17
   unfolding beginOf endOf recordOf keyOf numbered
-  found-17 = halves 0x17 (places-noted s accepted .at-17) (places-noted s accepted .at-18) (λ b. refl) refl
+  found-17 = by-halves 0x17 (noted .at-17) (noted .at-18) (λ b. refl) refl
 
   -- ---- the end record
 
-  end-begins : Begins 0x1f
+  end-begins : Begins s 0x1f
   unfolding beginOf
-  end-begins = places-noted s accepted .at-18 ∙ from-end 0 (walkFrom s 0) .1
+  end-begins = noted .at-18 ∙ from-end 0 (walkFrom s 0) .1
 
   -- there is one
   one-end : kind-run s accepted 0x1f end-begins .count ≡ 1
@@ -99,7 +93,7 @@ module _ (s : List ℕ) (accepted : IsPlan s) where
           omega arith
       go false e = absurd (precedes-irrefl (keyOf End) (ordered s accepted 0x1f end-begins 0 1 (omega arith) (leb-false _ _ e)))
 
-  end-ends : Ends 0x1f
+  end-ends : Ends s 0x1f
   unfolding endOf beginOf bodyLen
   end-ends =
       let n : ℕ = kind-run s accepted 0x1f end-begins .count in
@@ -109,7 +103,7 @@ module _ (s : List ℕ) (accepted : IsPlan s) where
 
   found-1f : Found 0x1f
   unfolding recordOf keyOf numbered
-  found-1f = halves 0x1f end-begins end-ends (λ b. refl) refl
+  found-1f = by-halves 0x1f end-begins end-ends (λ b. refl) refl
 
   -- ---- all of them
 

@@ -8,7 +8,7 @@ use mathlib.Core.Bool.{Bool, true, false, cond}
 use native.Mathlib.Numerals.{add-one}
 use lib.ListN.{length, drop, getD}
 use lib.Dec.{leb}
-use borrow.Author.Tests.{leb-true, leb-false, le-leb, lt-leb}
+use borrow.Author.Tests.{leb-true, leb-false, lt-leb}
 use Rattle.records.specs.Kinds.{bodyLen, kindOf, sizeOf}
 use Rattle.records.specs.Key.{keyOf}
 use Rattle.records.specs.declared.Record.{Record}
@@ -17,7 +17,7 @@ use Rattle.reader.specs.Read.{recordOf, readAt}
 use Rattle.reader.specs.Walk.{Walk, more, stop, walkFrom, recordsIn}
 use Rattle.reader.specs.declared.Read.{Read}
 use Rattle.reader.specs.declared.Read.the-variants.{Whole, Unknown, Cut, Nothing}
-use Rattle.reader.proofs.Reading.{Seen, Told, seen, next, walks, kind-kept}
+use Rattle.reader.proofs.Reading.{Seen, seen, next, walks, kind-kept}
 use Rattle.accepted.specs.Plan.{_∈_}
 use Rattle.accepted.proofs.Shape.{key-kind}
 use Rattle.placed.proofs.Ascending.{Ascends, kind-rises}
@@ -29,6 +29,7 @@ pub record Stands (s : List ℕ) (i o : ℕ) (r : Record) : Type 0 where
   pub is : r ≡ recordOf (kindOf r) (drop (suc i) s)
   pub fits : i + sizeOf r ≤ length s
 
+-- from i on
 unfoldable pub Along : List ℕ → ℕ → Walk → Type 0
 Along s i (stop n o) = Unit {0}
 Along s i (more o r w) = Stands s i o r × Along s (i + sizeOf r) w
@@ -73,7 +74,7 @@ placeIn j i (more o r w) = cond (leb j (kindOf r)) i (placeIn j (i + sizeOf r) w
 abbrev pub AtLeast : ℕ → List Record → Type 0
 AtLeast j rs = (r : Record) → r ∈ rs → j ≤ kindOf r
 
--- the walk v from p on is what is left of w so
+-- the walk v, which begins at p, is what is left of w from kind j on
 pub record Rest (s : List ℕ) (j : ℕ) (w : Walk) (p : ℕ) (v : Walk) : Type 0 where
   pub follows : Along s p v
   pub within : p ≤ length s
@@ -118,7 +119,7 @@ rest s j i (more o r w) a h c = go (leb j (kindOf r)) refl (rest s j (i + sizeOf
           part = λ t m. List·Memᴰ·tail (f .part t m);
         }
 
--- what is left from a later kind on
+-- from one kind on and then from a later one is from the later one on
 pub from-on : (j k : ℕ) (w : Walk) → j ≤ k → from k (from j w) ≡ from k w
 unfolding from
 from-on j k (stop n o) h = refl
@@ -189,6 +190,7 @@ unfoldable pub listed : (ℕ → Record) → ℕ → ℕ → List Record
 listed f m zero = []
 listed f m (suc n) = f m ∷ listed f (suc m) n
 
+-- the records of w are count records of kind k, the m-th from b on and so on, and then those of v, which begins at p
 pub record Run (s : List ℕ) (k b m : ℕ) (w : Walk) (p : ℕ) (v : Walk) : Type 0 where
   pub count : ℕ
   pub records : recordsIn w ≡ listed (recordAt s k b) m count ++ recordsIn v
