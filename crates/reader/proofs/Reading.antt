@@ -30,6 +30,13 @@ use Rattle.reader.specs.declared.Found.the-variants.{It, Missing}
 use Rattle.reader.proofs.Read.{the-type}
 use Rattle.reader.proofs.Shape.{the-type as shape-type}
 
+-- past the end
+pub drop-past : (s : List ℕ) (b : ℕ) → length s < b → drop (length s) s ≡ drop b s
+drop-past s b h =
+    let u : length s ≤ length s = omega arith in
+    let w : length s ≤ b = omega arith in
+    drop-of-length-le s u ∙ sym (drop-of-length-le s w)
+
 -- the four cases, forwards
 module _ (s : List ℕ) (i : ℕ) where
   pub shapes-nothing : length s ≤ i → shapeAt s i ≡ NothingThere
@@ -88,40 +95,30 @@ seen s i = go (leb (length s) i) (eqb (bodyLen (getD s i 0)) noLen) (leb (bodyLe
         record { inside = h; known = eqb-false _ _ q; next = refl; fits = omega arith; is = refl }
     go false false false p q r = leb-false _ _ p
 
--- what a shape tells: the kind, the body's offset, and the read
+-- what a shape tells: the kind, and the read
 pub shape-kind : ℕ → Shape → ℕ
 shape-kind d (WholeThere k b n) = k
 shape-kind d UnknownThere = d
 shape-kind d CutThere = d
 shape-kind d NothingThere = d
 
-pub shape-body : ℕ → Shape → ℕ
-shape-body d (WholeThere k b n) = b
-shape-body d UnknownThere = d
-shape-body d CutThere = d
-shape-body d NothingThere = d
-
 module _ (s : List ℕ) (i : ℕ) where
-  parts : shape-kind (getD s i 0) (shapeAt s i) ≡ getD s i 0 × shape-body (i + 1) (shapeAt s i) ≡ i + 1
-  unfolding shapeAt shape-kind shape-body
-  parts = go (leb (length s) i) (eqb (bodyLen (getD s i 0)) noLen) (leb (bodyLen (getD s i 0)) (length s - (i + 1)))
+  kind-of-shape : shape-kind (getD s i 0) (shapeAt s i) ≡ getD s i 0
+  unfolding shapeAt shape-kind
+  kind-of-shape = go (leb (length s) i) (eqb (bodyLen (getD s i 0)) noLen) (leb (bodyLen (getD s i 0)) (length s - (i + 1)))
     where
       shape : Bool → Bool → Bool → Shape
       shape a u w = cond a NothingThere (cond u UnknownThere (cond w (WholeThere (getD s i 0) (i + 1) (i + 1 + bodyLen (getD s i 0))) CutThere))
 
-      go : (a u w : Bool) → shape-kind (getD s i 0) (shape a u w) ≡ getD s i 0 × shape-body (i + 1) (shape a u w) ≡ i + 1
-      go true u w = (refl, refl)
-      go false true w = (refl, refl)
-      go false false true = (refl, refl)
-      go false false false = (refl, refl)
+      go : (a u w : Bool) → shape-kind (getD s i 0) (shape a u w) ≡ getD s i 0
+      go true u w = refl
+      go false true w = refl
+      go false false true = refl
+      go false false false = refl
 
   pub kind-there : {k b n : ℕ} → shapeAt s i ≡ WholeThere k b n → k ≡ getD s i 0
   unfolding shape-kind
-  kind-there e = sym (ap (shape-kind (getD s i 0)) e) ∙ parts .0
-
-  pub body-there : {k b n : ℕ} → shapeAt s i ≡ WholeThere k b n → b ≡ i + 1
-  unfolding shape-body
-  body-there e = sym (ap (shape-body (i + 1)) e) ∙ parts .1
+  kind-there e = sym (ap (shape-kind (getD s i 0)) e) ∙ kind-of-shape
 
 pub reads-by : (s : List ℕ) (i : ℕ) {x : Shape} → x ≡ shapeAt s i → readAt s i ≡ readBy s x
 unfolding readAt
@@ -212,12 +209,6 @@ module _ (s : List ℕ) (i : ℕ) {x : Shape} where
 
   pub known-there : {k b n : ℕ} → x ≡ shapeAt s i → x ≡ WholeThere k b n → bodyLen k ≡ noLen → ⊥
   known-there e g z = told-by s i refl (read-there e g) .known (ap bodyLen (sym (kind-there s i (sym e ∙ g))) ∙ z)
-
-  pub begins-there : {k b n : ℕ} → x ≡ shapeAt s i → x ≡ WholeThere k b n → b ≤ length s
-  begins-there {b = b} e g =
-      let w : i < length s = inside-by s i refl (read-there e g) in
-      let q : b ≡ i + 1 = body-there s i (sym e ∙ g) in
-      omega arith
 
   pub less-there : {k b : ℕ} (n : ℕ) → x ≡ shapeAt s i → x ≡ WholeThere k b n → length s - n < length s - i
   less-there n e g = less-by s i n refl (read-there e g)

@@ -9,11 +9,18 @@ ghost use Rattle.reader.specs.Walk.{recordsOf};
 use records::Record;
 use records::RecordKey;
 
-// The record of a kind of the table whose body begins at an offset of the slice.
-fn record_of(kind: u8, s: &[u8], b: usize) -> Record
-    requires { ⌜ b ≤ length (now s) ⌝ }
+// The offset, or the length where the offset is past the end.
+fn within(s: &[u8], b: usize) -> usize
+    ensures { λ r. ⌜ (r ≤ length (now (s .entry))) × (drop r (now (s .entry)) ≡ drop b (now (s .entry))) ⌝ }
+{
+    if b <= s.len() { b } else { s.len() }
+}
+
+// The record of a kind of the table whose body begins at an offset of the slice; bytes past the end count as 0.
+pub fn record_of(kind: u8, s: &[u8], b: usize) -> Record
     ensures { λ r. ⌜ r ≡ recordOf kind (drop b (now (s .entry))) ⌝ }
 {
+    let b = within(s, b);
     let f0 = words::byte_at(s, b);
     let f1 = words::byte_at(s, b + 1);
     let f2 = words::byte_at(s, b + 2);
@@ -146,11 +153,11 @@ fn key_by(kind: u8, first: u8, second: u8, third: u8) -> RecordKey
     }
 }
 
-// The key of the record of a kind of the table whose body begins at an offset of the slice.
-fn key_at(kind: u8, s: &[u8], b: usize) -> RecordKey
-    requires { ⌜ b ≤ length (now s) ⌝ }
+// The key of that record.
+pub fn key_at(kind: u8, s: &[u8], b: usize) -> RecordKey
     ensures { λ r. ⌜ r ≡ keyOf (recordOf kind (drop b (now (s .entry)))) ⌝ }
 {
+    let b = within(s, b);
     let first = words::byte_at(s, b);
     let second = words::byte_at(s, b + 1);
     let third = words::byte_at(s, b + 2);

@@ -4,7 +4,7 @@ use lib.ListN.{length}
 use borrow.Author.Needs.{needs}
 use Rattle.reader.specs.Walk.{walkFrom, recordsIn, recordsOf}
 use Rattle.reader.specs.Find.{findIn}
-use Rattle.reader.proofs.Reading.{begins-there, missing-by, finds-by, less-there, again-by, passes-by}
+use Rattle.reader.proofs.Reading.{missing-by, finds-by, less-there, again-by, passes-by}
 use Rattle.reader.proofs.find.Statement.{statement}
 use Rattle.reader.proofs.find.Tie as tie
 
@@ -27,13 +27,13 @@ returns : tie.Need-returns Inv-loop μ-loop
 returns c = search missing-by
 
 key-at-requires : tie.Need-key-at-requires Inv-loop μ-loop
-key-at-requires c κs = search begins-there
+key-at-requires c κs = search needs
 
 same-key-requires : tie.Need-same-key-requires Inv-loop μ-loop
 same-key-requires c κs = search needs
 
 record-of-requires : tie.Need-record-of-requires Inv-loop μ-loop
-record-of-requires c κs = search begins-there
+record-of-requires c κs = search needs
 
 returns-2 : tie.Need-returns-2 Inv-loop μ-loop
 returns-2 c = search finds-by

@@ -7,6 +7,9 @@ use borrow.Author.Needs.{needs}
 use Rattle.reader.proofs.key_at.Statement.{statement}
 use Rattle.reader.proofs.key_at.Tie as tie
 
+within-requires : tie.Need-within-requires
+within-requires c κs = search needs
+
 byte-at-requires : tie.Need-byte-at-requires
 byte-at-requires c κs = search needs
 
@@ -51,35 +54,35 @@ key-by-requires-9 c κs = search needs
 
 returns : tie.Need-returns
 unfolding recordOf keyOf
-returns c = rw (c .before .match .keys1) cc
+returns c = rw (← c .before .before .before .before .before .within .ensures .1, c .before .match .keys1) cc
 
 returns-2 : tie.Need-returns-2
 unfolding recordOf keyOf
-returns-2 c = rw (c .before .match .keys2) (simp (getD-drop, add-zero) cc)
+returns-2 c = rw (← c .before .before .before .before .before .within .ensures .1, c .before .match .keys2) (simp (getD-drop, add-zero) cc)
 
 returns-3 : tie.Need-returns-3
 unfolding recordOf keyOf
-returns-3 c = rw (c .before .match .keys3) (simp (getD-drop, add-zero) cc)
+returns-3 c = rw (← c .before .before .before .before .before .within .ensures .1, c .before .match .keys3) (simp (getD-drop, add-zero) cc)
 
 returns-4 : tie.Need-returns-4
 unfolding recordOf keyOf
-returns-4 c = rw (c .before .match .keys4) (simp (getD-drop, add-zero) cc)
+returns-4 c = rw (← c .before .before .before .before .before .within .ensures .1, c .before .match .keys4) (simp (getD-drop, add-zero) cc)
 
 returns-5 : tie.Need-returns-5
 unfolding recordOf keyOf
-returns-5 c = rw (c .before .match .keys5) (simp (getD-drop, add-zero) cc)
+returns-5 c = rw (← c .before .before .before .before .before .within .ensures .1, c .before .match .keys5) (simp (getD-drop, add-zero) cc)
 
 returns-6 : tie.Need-returns-6
 unfolding recordOf keyOf
-returns-6 c = rw (c .before .match .keys6) (simp (getD-drop, add-zero) cc)
+returns-6 c = rw (← c .before .before .before .before .before .within .ensures .1, c .before .match .keys6) (simp (getD-drop, add-zero) cc)
 
 returns-7 : tie.Need-returns-7
 unfolding recordOf keyOf
-returns-7 c = rw (c .before .match .keys7) (simp (getD-drop, add-zero) cc)
+returns-7 c = rw (← c .before .before .before .before .before .within .ensures .1, c .before .match .keys7) (simp (getD-drop, add-zero) cc)
 
 returns-8 : tie.Need-returns-8
 unfolding recordOf keyOf
-returns-8 c = rw (c .before .match .keys8) (simp (getD-drop, add-zero) cc)
+returns-8 c = rw (← c .before .before .before .before .before .within .ensures .1, c .before .match .keys8) (simp (getD-drop, add-zero) cc)
 
 returns-9 : tie.Need-returns-9
 unfolding recordOf keyOf
@@ -100,6 +103,7 @@ pub key-at-spec : {M : Type 1} → statement M
 key-at-spec =
     tie.close
     (tie.spec
+    within-requires
     byte-at-requires
     add-byte-at
     byte-at-requires-2

@@ -1,4 +1,4 @@
-use Rattle.reader.proofs.Reading.{begins-there, whole-there, other-there}
+use Rattle.reader.proofs.Reading.{whole-there, other-there}
 use borrow.Author.Needs.{needs}
 use Rattle.reader.proofs.read_at.Statement.{statement}
 use Rattle.reader.proofs.read_at.Tie as tie
@@ -10,7 +10,7 @@ enum-known-k : tie.Need-enum-known-k
 enum-known-k c = search needs
 
 record-of-requires : tie.Need-record-of-requires
-record-of-requires c κs = search begins-there
+record-of-requires c κs = search needs
 
 enum-told : tie.Need-enum-told
 enum-told c = search needs
