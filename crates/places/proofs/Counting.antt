@@ -1,36 +1,57 @@
--- How many records of a kind there are, from what the code of `count` is told.
+-- How many records of a kind there are, from what the code is told.
 use mathlib.Core.Path.{_≡_, refl, sym, ap, _∙_, subst}
 use mathlib.Core.List.{List}
 use mathlib.Core.Bool.{Bool, true, false, cond}
 use Prim.Native.Nat.{ℕ, suc, _+_, _-_, _*_, _/_, _≤_, _<_}
-use native.Mathlib.Nat.{zero-div}
+use native.Mathlib.Nat.{zero-div, suc-mul, mul-le-mul-right, div-mul-le-self}
 use native.Mathlib.Omega.{arith}
 use lib.ListN.{length}
 use lib.Dec.{leb}
-use borrow.Author.Tests.{le-leb, lt-leb}
+use borrow.Author.Tests.{le-leb, lt-leb, leb-true}
 use Rattle.records.specs.Kinds.{bodyLen}
 use Rattle.places.specs.Places.{beginOf, endOf, countOf}
+use Rattle.places.specs.Runs.{runBy, runOf, Inside}
 use Rattle.places.specs.declared.Places.{Places}
+use Rattle.places.specs.declared.Run.{Run}
 
-module _ (s : List ℕ) (p : Places) (k : ℕ) {e : ℕ} where
-  pub counts-by : {b z : ℕ} → e ≡ endOf p k → b ≡ beginOf p k → z ≡ suc (bodyLen k) → e ≤ length s → (e - b) / z ≡ countOf s p k
-  unfolding countOf
-  counts-by f g h l =
-      let w : endOf p k ≤ length s = subst (λ (x : ℕ). x ≤ length s) f l in
-      simp (f, g, h, le-leb _ _ w)
+module _ (s : List ℕ) (b e z : ℕ) where
+  pub run-whole : e ≤ length s → record { begin = b; size = z; count = (e - b) / z } ≡ runBy s b e z
+  unfolding runBy
+  run-whole l = simp (le-leb _ _ l)
 
-  pub none-in-order : {b : ℕ} → e ≡ endOf p k → b ≡ beginOf p k → e < b → 0 ≡ countOf s p k
-  unfolding countOf
-  none-in-order f g l =
-      let w : endOf p k - beginOf p k ≡ 0 = omega arith in
-      go (leb (endOf p k) (length s)) w
+  pub run-none : e < b → record { begin = b; size = z; count = 0 } ≡ runBy s b e z
+  unfolding runBy
+  run-none l =
+      let w : e - b ≡ 0 = omega arith in
+      rw w (go (leb e (length s)))
     where
-      go : (t : Bool) → endOf p k - beginOf p k ≡ 0 → 0 ≡ cond t ((endOf p k - beginOf p k) / suc (bodyLen k)) 0
-      go true w = simp (w, zero-div)
-      go false w = refl
+      go : (t : Bool) → _≡_ {A = Run} (record { begin = b; size = z; count = 0 }) (record { begin = b; size = z; count = cond t (0 / z) 0 })
+      go true = simp zero-div
+      go false = refl
 
-  pub none-past : e ≡ endOf p k → length s < e → 0 ≡ countOf s p k
-  unfolding countOf
-  none-past f l =
-      let w : length s < endOf p k = subst (λ (x : ℕ). length s < x) f l in
-      simp (lt-leb _ _ w)
+  pub run-past : length s < e → record { begin = b; size = z; count = 0 } ≡ runBy s b e z
+  unfolding runBy
+  run-past l = simp (lt-leb _ _ l)
+
+pub counts : (s : List ℕ) (p : Places) (k : ℕ) {r : Run} → r ≡ runOf s p k → r .count ≡ countOf s p k
+unfolding countOf runOf runBy
+counts s p k e = ap (λ (r : Run). r .count) e
+
+module _ (s : List ℕ) (b e z : ℕ) (l : 0 < z) where
+  inside : (i : ℕ) → i < runBy s b e z .count → b + i * z + z ≤ length s
+  unfolding runBy
+  inside i = go (leb e (length s)) refl
+    where
+      go : (t : Bool) → leb e (length s) ≡ t → i < cond t ((e - b) / z) 0 → b + i * z + z ≤ length s
+      go true w h =
+          let f : e ≤ length s = leb-true _ _ w in
+          let m : suc i * z ≤ (e - b) / z * z = mul-le-mul-right z h in
+          omega (arith, suc-mul i z, div-mul-le-self (e - b) z)
+      go false w h = absurd (omega arith)
+
+-- the records of a kind lie within the image
+pub inside-by : (s : List ℕ) (p : Places) (k : ℕ) {r : Run} → r ≡ runOf s p k → Inside s r
+unfolding runOf runBy
+inside-by s p k e =
+    let l : 0 < suc (bodyLen k) = omega arith in
+    subst (Inside s) (sym e) (record { size = l; within = inside s (beginOf p k) (endOf p k) (suc (bodyLen k)) l })

@@ -1,8 +1,11 @@
 // Where the records of each kind begin in an image, and the look-up by these places: specs/Places.antt.
 ghost use mathlib.Core.Path.{_≡_};
-ghost use Prim.Native.Nat.{suc};
-ghost use Rattle.records.specs.Kinds.{bodyLen};
-ghost use Rattle.places.specs.Places.{nowhere, placeBy, notedAt, beginOf, endOf, countOf};
+ghost use Prim.Native.Nat.{suc, _+_, _*_, _<_};
+ghost use Rattle.reader.specs.Find.{findIn};
+ghost use Rattle.places.specs.Places.{nowhere, placeBy, notedAt, countOf, halved, positionOf, recordsBy};
+ghost use Rattle.places.specs.Runs.{runBy, runOf, Inside, before};
+use reader::Found;
+use records::RecordKey;
 
 // The offsets at which the records of each kind begin; those of a kind end where the next kind's begin. An image that is accepted is shorter
 // than 65,536 bytes.
@@ -60,59 +63,110 @@ pub fn noted(p: Places, last: u8, kind: u8, at: usize) -> Places
     }
 }
 
-// Where the records of a kind begin; 0 for a kind that no record has.
-fn begin_of(p: Places, kind: u8) -> usize
-    ensures { λ r. ⌜ r ≡ beginOf p kind ⌝ }
-{
-    match kind {
-        0x11 => p.k11 as usize,
-        0x12 => p.k12 as usize,
-        0x13 => p.k13 as usize,
-        0x14 => p.k14 as usize,
-        0x15 => p.k15 as usize,
-        0x16 => p.k16 as usize,
-        0x17 => p.k17 as usize,
-        0x1f => p.k1f as usize,
-        _ => 0,
-    }
+// The records of a kind: where they begin, the bytes of each, and how many there are.
+struct Run {
+    begin: usize,
+    size: usize,
+    count: usize,
 }
 
-// Where they end.
-fn end_of(p: Places, kind: u8) -> usize
-    ensures { λ r. ⌜ r ≡ endOf p kind ⌝ }
+fn run_by(image: &[u8], begin: usize, end: usize, size: usize) -> Run
+    requires { ⌜ 0 < size ⌝ }
+    ensures { λ r. ⌜ r ≡ runBy (now (image .entry)) begin end size ⌝ }
 {
-    match kind {
-        0x10 => p.k11 as usize,
-        0x11 => p.k12 as usize,
-        0x12 => p.k13 as usize,
-        0x13 => p.k14 as usize,
-        0x14 => p.k15 as usize,
-        0x15 => p.k16 as usize,
-        0x16 => p.k17 as usize,
-        0x17 => p.k1f as usize,
-        0x1f => p.k1f as usize + 1,
-        _ => 0,
+    let mut count: usize = 0;
+    if end <= image.len() {
+        if begin <= end {
+            count = (end - begin) / size;
+        }
     }
+    Run { begin, size, count }
 }
 
-// The bytes of a record of a kind, with the kind's own.
-fn size_of(kind: u8) -> usize
-    ensures { λ r. ⌜ r ≡ suc (bodyLen kind) ⌝ }
+fn run_of(image: &[u8], p: Places, kind: u8) -> Run
+    ensures { λ r. ⌜ r ≡ runOf (now (image .entry)) p kind ⌝ }
 {
-    words::wide(records::body_len(kind)) + 1
+    match kind {
+        0x10 => run_by(image, 0, p.k11 as usize, 4),
+        0x11 => run_by(image, p.k11 as usize, p.k12 as usize, 4),
+        0x12 => run_by(image, p.k12 as usize, p.k13 as usize, 4),
+        0x13 => run_by(image, p.k13 as usize, p.k14 as usize, 5),
+        0x14 => run_by(image, p.k14 as usize, p.k15 as usize, 12),
+        0x15 => run_by(image, p.k15 as usize, p.k16 as usize, 5),
+        0x16 => run_by(image, p.k16 as usize, p.k17 as usize, 11),
+        0x17 => run_by(image, p.k17 as usize, p.k1f as usize, 12),
+        0x1f => run_by(image, p.k1f as usize, p.k1f as usize + 1, 1),
+        _ => run_by(image, 0, 0, 256),
+    }
 }
 
 // How many records of a kind stand there.
 pub fn count(image: &[u8], p: Places, kind: u8) -> usize
     ensures { λ r. ⌜ r ≡ countOf (now (image .entry)) p kind ⌝ }
 {
-    let end = end_of(p, kind);
-    let begin = begin_of(p, kind);
-    let size = size_of(kind);
-    if end <= image.len() {
-        if begin <= end {
-            return (end - begin) / size;
+    run_of(image, p, kind).count
+}
+
+// Where the body of the i-th record of a run begins.
+fn body_at(image: &[u8], run: Run, i: usize) -> usize
+    requires { ⌜ Inside (now image) run × (i < run .count) ⌝ }
+    ensures { λ r. ⌜ r ≡ suc (run .begin + i * run .size) ⌝ }
+{
+    run.begin + i * run.size + 1
+}
+
+fn precedes_at(image: &[u8], run: Run, key: RecordKey, i: usize) -> bool
+    requires { ⌜ Inside (now image) run × (i < run .count) ⌝ }
+    ensures { λ r. ⌜ r ≡ before (now (image .entry)) run key i ⌝ }
+{
+    let at = body_at(image, run, i);
+    records::precedes(reader::key_at(key.kind, image, at), key)
+}
+
+// Of the records of a run, in the order of keys, the number of the first that does not precede a key.
+fn halve(image: &[u8], run: Run, key: RecordKey) -> usize
+    requires { ⌜ Inside (now image) run ⌝ }
+    ensures { λ r. ⌜ r ≡ halved (before (now (image .entry)) run key) (run .count) 0 (run .count) ⌝ }
+{
+    let mut lo: usize = 0;
+    let mut hi = run.count;
+    while lo < hi {
+        let mid = lo + (hi - lo) / 2;
+        if precedes_at(image, run, key, mid) {
+            lo = mid + 1;
+        } else {
+            hi = mid;
         }
     }
-    0
+    lo
+}
+
+// Where the record with a kind and key stands among those of its kind, if it is there.
+fn position(image: &[u8], p: Places, run: Run, key: RecordKey) -> usize
+    requires { ⌜ run ≡ runOf (now image) p (key .kind) ⌝ }
+    ensures { λ r. ⌜ r ≡ positionOf (now (image .entry)) p key ⌝ }
+{
+    let kind = key.kind;
+    if (kind == 0x11) | (kind == 0x12) | (kind == 0x14) {
+        words::wide(key.first)
+    } else {
+        halve(image, run, key)
+    }
+}
+
+// The record with a kind and key, found by its place.
+pub fn look(image: &[u8], p: Places, key: RecordKey) -> Found
+    ensures { λ r. ⌜ r ≡ findIn key (recordsBy (now (image .entry)) p) ⌝ }
+{
+    let run = run_of(image, p, key.kind);
+    let i = position(image, p, run, key);
+    if run.count <= i {
+        return Found::Missing;
+    }
+    let at = body_at(image, run, i);
+    if records::same_key(reader::key_at(key.kind, image, at), key) {
+        Found::It(reader::record_of(key.kind, image, at))
+    } else {
+        Found::Missing
+    }
 }

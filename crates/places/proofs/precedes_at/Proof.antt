@@ -1,0 +1,20 @@
+use Rattle.places.specs.Runs.{before}
+use borrow.Author.Needs.{needs}
+use Rattle.places.proofs.precedes_at.Statement.{statement}
+use Rattle.places.proofs.precedes_at.Tie as tie
+
+body-at-requires : tie.Need-body-at-requires
+body-at-requires c κs = search needs
+
+key-at-requires : tie.Need-key-at-requires
+key-at-requires c κs = search needs
+
+precedes-requires : tie.Need-precedes-requires
+precedes-requires c κs = search needs
+
+returns : tie.Need-returns
+unfolding before
+returns c = cc
+
+pub precedes-at-spec : {M : Type 1} → statement M
+precedes-at-spec = tie.close (tie.spec body-at-requires key-at-requires precedes-requires returns)

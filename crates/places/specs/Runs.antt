@@ -1,0 +1,30 @@
+-- The records of a kind as the look-up has them: where they begin, the bytes of each, and how many there are.
+use Prim.Native.Nat.{ℕ, suc, _+_, _-_, _*_, _/_, _≤_, _<_}
+use mathlib.Core.List.{List}
+use mathlib.Core.Bool.{Bool, cond}
+use lib.ListN.{length, drop}
+use lib.Dec.{leb}
+use Rattle.records.specs.Kinds.{bodyLen}
+use Rattle.records.specs.Key.{keyOf, precedes}
+use Rattle.records.specs.declared.RecordKey.{RecordKey}
+use Rattle.reader.specs.Read.{recordOf}
+use Rattle.places.specs.Places.{beginOf, endOf}
+use Rattle.places.specs.declared.Places.{Places}
+use Rattle.places.specs.declared.Run.{Run}
+
+-- those of a size between two offsets, and none where they would end past the image
+unfoldable pub runBy : List ℕ → ℕ → ℕ → ℕ → Run
+runBy s b e z = record { begin = b; size = z; count = cond (leb e (length s)) ((e - b) / z) 0 }
+
+-- those of a kind
+unfoldable pub runOf : List ℕ → Places → ℕ → Run
+runOf s p k = runBy s (beginOf p k) (endOf p k) (suc (bodyLen k))
+
+-- they lie within the image
+pub record Inside (s : List ℕ) (r : Run) : Type 0 where
+  pub size : 0 < r .size
+  pub within : (i : ℕ) → i < r .count → r .begin + i * r .size + r .size ≤ length s
+
+-- whether the i-th, as a record of the key's kind, precedes the key
+unfoldable pub before : List ℕ → Run → RecordKey → ℕ → Bool
+before s r q i = precedes (keyOf (recordOf (q .kind) (drop (suc (r .begin + i * r .size)) s))) q
