@@ -50,8 +50,8 @@ module _ (s : List ℕ) (b e z : ℕ) (l : 0 < z) where
       go false w h = absurd (omega arith)
 
 -- the records of a kind lie within the image
-pub inside-by : (s : List ℕ) (p : Places) (k : ℕ) {r : Run} → r ≡ runOf s p k → Inside s r
+pub inside-by : (s : List ℕ) (p : Places) (k : ℕ) {r : Run} → r ≡ runOf s p k → Inside s r k
 unfolding runOf runBy
 inside-by s p k e =
     let l : 0 < suc (bodyLen k) = omega arith in
-    subst (Inside s) (sym e) (record { size = l; within = inside s (beginOf p k) (endOf p k) (suc (bodyLen k)) l })
+    subst (λ (r : Run). Inside s r k) (sym e) (record { size = refl; within = inside s (beginOf p k) (endOf p k) (suc (bodyLen k)) l })

@@ -1,9 +1,10 @@
 -- The records of a kind as the look-up has them: where they begin, the bytes of each, and how many there are.
+use mathlib.Core.Path.{_≡_}
 use Prim.Native.Nat.{ℕ, suc, _+_, _-_, _*_, _/_, _≤_, _<_}
 use mathlib.Core.List.{List}
-use mathlib.Core.Bool.{Bool, cond}
+use mathlib.Core.Bool.{Bool, cond, _&&_, _||_}
 use lib.ListN.{length, drop}
-use lib.Dec.{leb}
+use lib.Dec.{eqb, leb, ltb}
 use Rattle.records.specs.Kinds.{bodyLen}
 use Rattle.records.specs.Key.{keyOf, precedes}
 use Rattle.records.specs.declared.RecordKey.{RecordKey}
@@ -20,11 +21,19 @@ runBy s b e z = record { begin = b; size = z; count = cond (leb e (length s)) ((
 unfoldable pub runOf : List ℕ → Places → ℕ → Run
 runOf s p k = runBy s (beginOf p k) (endOf p k) (suc (bodyLen k))
 
--- they lie within the image
-pub record Inside (s : List ℕ) (r : Run) : Type 0 where
-  pub size : 0 < r .size
+-- records of a kind that lie within the image
+pub record Inside (s : List ℕ) (r : Run) (k : ℕ) : Type 0 where
+  pub size : r .size ≡ suc (bodyLen k)
   pub within : (i : ℕ) → i < r .count → r .begin + i * r .size + r .size ≤ length s
 
--- whether the i-th, as a record of the key's kind, precedes the key
+-- the numbers of a key as one number
+unfoldable pub keyNumber : ℕ → ℕ → ℕ → ℕ
+keyNumber a b c = (a * 256 + b) * 256 + c
+
+-- whether a key with three numbers precedes one of the same kind
+unfoldable pub keyBefore : ℕ → ℕ → ℕ → RecordKey → Bool
+keyBefore a b c q = ltb a (q .first) || (eqb a (q .first) && (ltb b (q .second) || (eqb b (q .second) && ltb c (q .third))))
+
+-- whether the i-th of the key's kind precedes the key
 unfoldable pub before : List ℕ → Run → RecordKey → ℕ → Bool
 before s r q i = precedes (keyOf (recordOf (q .kind) (drop (suc (r .begin + i * r .size)) s))) q

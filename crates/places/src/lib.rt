@@ -1,9 +1,10 @@
 // Where the records of each kind begin in an image, and the look-up by these places: specs/Places.antt.
 ghost use mathlib.Core.Path.{_≡_};
-ghost use Prim.Native.Nat.{suc, _+_, _*_, _<_};
+ghost use Prim.Native.Nat.{suc, _+_, _*_, _≤_, _<_};
+ghost use lib.ListN.{length, getD};
 ghost use Rattle.reader.specs.Find.{findIn};
 ghost use Rattle.places.specs.Places.{nowhere, placeBy, notedAt, countOf, halved, positionOf, recordsBy};
-ghost use Rattle.places.specs.Runs.{runBy, runOf, Inside, before};
+ghost use Rattle.places.specs.Runs.{runBy, runOf, Inside, keyNumber, keyBefore, before};
 use reader::Found;
 use records::RecordKey;
 
@@ -107,25 +108,62 @@ pub fn count(image: &[u8], p: Places, kind: u8) -> usize
     run_of(image, p, kind).count
 }
 
-// Where the body of the i-th record of a run begins.
-fn body_at(image: &[u8], run: Run, i: usize) -> usize
-    requires { ⌜ Inside (now image) run × (i < run .count) ⌝ }
+// Where the body of the i-th record of a run of a kind begins.
+fn body_at(image: &[u8], run: Run, kind: u8, i: usize) -> usize
+    requires { ⌜ Inside (now image) run kind × (i < run .count) ⌝ }
     ensures { λ r. ⌜ r ≡ suc (run .begin + i * run .size) ⌝ }
 {
     run.begin + i * run.size + 1
 }
 
+// The three numbers of a key as one number.
+fn number(first: u8, second: u8, third: u8) -> u32
+    ensures { λ r. ⌜ r ≡ keyNumber first second third ⌝ }
+{
+    (first as u32 * 256 + second as u32) * 256 + third as u32
+}
+
+// Whether a key of the same kind precedes a key: one comparison.
+fn key_before(first: u8, second: u8, third: u8, key: RecordKey) -> bool
+    ensures { λ r. ⌜ r ≡ keyBefore first second third key ⌝ }
+{
+    number(first, second, third) < number(key.first, key.second, key.third)
+}
+
+// The same of the key that the bytes at an offset are: three, or two and 0.
+fn three_before(image: &[u8], at: usize, key: RecordKey) -> bool
+    requires { ⌜ at + 3 ≤ length (now image) ⌝ }
+    ensures { λ r. ⌜ r ≡ keyBefore (getD (now (image .entry)) at 0) (getD (now (image .entry)) (at + 1) 0) (getD (now (image .entry)) (at + 2) 0) key ⌝ }
+{
+    key_before(image[at], image[at + 1], image[at + 2], key)
+}
+
+fn two_before(image: &[u8], at: usize, key: RecordKey) -> bool
+    requires { ⌜ at + 2 ≤ length (now image) ⌝ }
+    ensures { λ r. ⌜ r ≡ keyBefore (getD (now (image .entry)) at 0) (getD (now (image .entry)) (at + 1) 0) 0 key ⌝ }
+{
+    key_before(image[at], image[at + 1], 0, key)
+}
+
+// Whether the i-th record of a run precedes a key. The kinds of which a plan has many records have a way of their own.
 fn precedes_at(image: &[u8], run: Run, key: RecordKey, i: usize) -> bool
-    requires { ⌜ Inside (now image) run × (i < run .count) ⌝ }
+    requires { ⌜ Inside (now image) run (key .kind) × (i < run .count) ⌝ }
     ensures { λ r. ⌜ r ≡ before (now (image .entry)) run key i ⌝ }
 {
-    let at = body_at(image, run, i);
-    records::precedes(reader::key_at(key.kind, image, at), key)
+    let kind = key.kind;
+    let at = body_at(image, run, kind, i);
+    if (kind == 0x13) | (kind == 0x15) {
+        return three_before(image, at, key);
+    }
+    if (kind == 0x16) | (kind == 0x17) {
+        return two_before(image, at, key);
+    }
+    records::precedes(reader::key_at(kind, image, at), key)
 }
 
 // Of the records of a run, in the order of keys, the number of the first that does not precede a key.
 fn halve(image: &[u8], run: Run, key: RecordKey) -> usize
-    requires { ⌜ Inside (now image) run ⌝ }
+    requires { ⌜ Inside (now image) run (key .kind) ⌝ }
     ensures { λ r. ⌜ r ≡ halved (before (now (image .entry)) run key) (run .count) 0 (run .count) ⌝ }
 {
     let mut lo: usize = 0;
@@ -163,7 +201,7 @@ pub fn look(image: &[u8], p: Places, key: RecordKey) -> Found
     if run.count <= i {
         return Found::Missing;
     }
-    let at = body_at(image, run, i);
+    let at = body_at(image, run, key.kind, i);
     if records::same_key(reader::key_at(key.kind, image, at), key) {
         Found::It(reader::record_of(key.kind, image, at))
     } else {
