@@ -1,7 +1,7 @@
 -- Halving: fuel past the distance changes nothing, and what a turn of the loop leaves.
-use mathlib.Core.Path.{_≡_, refl, sym, ap, _∙_, subst}
+use mathlib.Core.Path.{_≡_, refl, sym, _∙_}
 use mathlib.Core.Bool.{Bool, true, false, cond}
-use Prim.Native.Nat.{ℕ, zero, suc, _+_, _-_, _*_, _/_, _≤_, _<_}
+use Prim.Native.Nat.{ℕ, zero, suc, _+_, _-_, _/_, _≤_, _<_}
 use native.Mathlib.Numerals.{add-one}
 use native.Mathlib.Omega.{arith}
 use lib.Dec.{ltb}
@@ -13,7 +13,8 @@ abbrev pub mid : ℕ → ℕ → ℕ
 mid lo hi = lo + (hi - lo) / 2
 
 module _ (t : ℕ → Bool) where
-  fuel : (n m lo hi : ℕ) → hi - lo ≤ n → hi - lo ≤ m → halved t n lo hi ≡ halved t m lo hi
+  -- fuel past the distance changes nothing
+  pub fuel : (n m lo hi : ℕ) → hi - lo ≤ n → hi - lo ≤ m → halved t n lo hi ≡ halved t m lo hi
   unfolding halved
   fuel zero zero lo hi a b = refl
   fuel zero (suc m) lo hi a b = let h : hi ≤ lo = omega arith in simp (le-ltb _ _ h)
@@ -33,7 +34,8 @@ module _ (t : ℕ → Bool) where
           cc
 
   module _ (lo hi : ℕ) (h : lo < hi) where
-    turn : halved t (hi - lo) lo hi ≡ cond (t (mid lo hi)) (halved t (hi - suc (mid lo hi)) (suc (mid lo hi)) hi) (halved t (mid lo hi - lo) lo (mid lo hi))
+    -- one turn, with just the fuel that is needed
+    pub turn : halved t (hi - lo) lo hi ≡ cond (t (mid lo hi)) (halved t (hi - suc (mid lo hi)) (suc (mid lo hi)) hi) (halved t (mid lo hi - lo) lo (mid lo hi))
     unfolding halved
     turn =
         let u = fuel (hi - lo) (hi - suc (mid lo hi)) (suc (mid lo hi)) hi (omega arith) (omega arith) in

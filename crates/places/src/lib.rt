@@ -71,6 +71,7 @@ struct Run {
     count: usize,
 }
 
+// Those of a size between two offsets, and none where they would end past the image.
 fn run_by(image: &[u8], begin: usize, end: usize, size: usize) -> Run
     requires { ⌜ 0 < size ⌝ }
     ensures { λ r. ⌜ r ≡ runBy (now (image .entry)) begin end size ⌝ }
@@ -84,6 +85,7 @@ fn run_by(image: &[u8], begin: usize, end: usize, size: usize) -> Run
     Run { begin, size, count }
 }
 
+// Those of a kind. Sizes that are constants make the division cheap.
 fn run_of(image: &[u8], p: Places, kind: u8) -> Run
     ensures { λ r. ⌜ r ≡ runOf (now (image .entry)) p kind ⌝ }
 {
@@ -116,21 +118,21 @@ fn body_at(image: &[u8], run: Run, kind: u8, i: usize) -> usize
     run.begin + i * run.size + 1
 }
 
-// The three numbers of a key as one number.
+// The numbers of a key as one number.
 fn number(first: u8, second: u8, third: u8) -> u32
     ensures { λ r. ⌜ r ≡ keyNumber first second third ⌝ }
 {
     (first as u32 * 256 + second as u32) * 256 + third as u32
 }
 
-// Whether a key of the same kind precedes a key: one comparison.
+// Whether a key of the same kind precedes a key, by one comparison.
 fn key_before(first: u8, second: u8, third: u8, key: RecordKey) -> bool
     ensures { λ r. ⌜ r ≡ keyBefore first second third key ⌝ }
 {
     number(first, second, third) < number(key.first, key.second, key.third)
 }
 
-// The same of the key that the bytes at an offset are: three, or two and 0.
+// Whether the key of the bytes at an offset, three of them, or two and 0, precedes a key.
 fn three_before(image: &[u8], at: usize, key: RecordKey) -> bool
     requires { ⌜ at + 3 ≤ length (now image) ⌝ }
     ensures { λ r. ⌜ r ≡ keyBefore (getD (now (image .entry)) at 0) (getD (now (image .entry)) (at + 1) 0) (getD (now (image .entry)) (at + 2) 0) key ⌝ }
@@ -145,7 +147,7 @@ fn two_before(image: &[u8], at: usize, key: RecordKey) -> bool
     key_before(image[at], image[at + 1], 0, key)
 }
 
-// Whether the i-th record of a run precedes a key. The kinds of which a plan has many records have a way of their own.
+// Whether the i-th record of a run precedes a key. Of the kinds with many records only the bytes of the key are read.
 fn precedes_at(image: &[u8], run: Run, key: RecordKey, i: usize) -> bool
     requires { ⌜ Inside (now image) run (key .kind) × (i < run .count) ⌝ }
     ensures { λ r. ⌜ r ≡ before (now (image .entry)) run key i ⌝ }
