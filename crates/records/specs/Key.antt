@@ -1,6 +1,6 @@
 -- Document 01, "Plan records": "Records ascend by kind, then strictly by key: the number (11, 12, 14), the first three fields (13, 15),
 -- the first two (16, 17)."
-use Prim.Native.Nat.{ℕ}
+use Prim.Native.Nat.{ℕ, _+_, _*_}
 use mathlib.Core.Bool.{Bool, _&&_, _||_}
 use lib.Dec.{ltb, eqb}
 use Rattle.records.specs.declared.Record.{Record}
@@ -37,3 +37,7 @@ precedes p q =
     || (eqb (p .kind) (q .kind)
     && (ltb (p .first) (q .first)
     || (eqb (p .first) (q .first) && (ltb (p .second) (q .second) || (eqb (p .second) (q .second) && ltb (p .third) (q .third))))))
+
+-- the kind and the key as one number of four bytes, the kind's first
+abbrev pub rankOf : RecordKey → ℕ
+rankOf p = ((p .kind * 256 + p .first) * 256 + p .second) * 256 + p .third

@@ -2,7 +2,7 @@
 ghost use mathlib.Core.Path.{_≡_};
 ghost use Rattle.records.specs.Kinds.{bodyLen, kindOf};
 ghost use Rattle.records.specs.Range.{inRange, operandInRange};
-ghost use Rattle.records.specs.Key.{keyBy, keyOf, sameKey, precedes};
+ghost use Rattle.records.specs.Key.{keyBy, keyOf, sameKey, precedes, rankOf};
 
 // A record of each kind, with its fields in their order.
 pub enum Record {
@@ -238,11 +238,16 @@ pub fn same_key(p: RecordKey, q: RecordKey) -> bool
     (p.kind == q.kind) & (p.first == q.first) & (p.second == q.second) & (p.third == q.third)
 }
 
+// The kind and the key as one number, which ascends as they do.
+fn rank(p: RecordKey) -> u32
+    ensures { λ r. ⌜ r ≡ rankOf p ⌝ }
+{
+    (((p.kind as u32) * 256 + (p.first as u32)) * 256 + (p.second as u32)) * 256 + (p.third as u32)
+}
+
 // Whether p stands before q in the order of records.
 pub fn precedes(p: RecordKey, q: RecordKey) -> bool
     ensures { λ t. ⌜ t ≡ precedes p q ⌝ }
 {
-    let third = (p.second < q.second) | ((p.second == q.second) & (p.third < q.third));
-    let second = (p.first < q.first) | ((p.first == q.first) & third);
-    (p.kind < q.kind) | ((p.kind == q.kind) & second)
+    rank(p) < rank(q)
 }
