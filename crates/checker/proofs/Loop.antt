@@ -1,98 +1,206 @@
 -- One step of the check by what it remembers, by what stands at an offset, and that it agrees with the check over the records before.
-use mathlib.Core.Path.{_≡_, refl, sym, ap, _∙_}
+use mathlib.Core.Path.{_≡_, refl, sym, ap, _∙_, subst}
 use mathlib.Core.List.{List, [], _∷_}
-use mathlib.Core.Bool.{Bool, true, false, cond}
-use Prim.Native.Nat.{ℕ, suc, _-_, _≤_, _<_}
+use mathlib.Core.Bool.{Bool, true, false, cond, not, _&&_}
+use Prim.Native.Nat.{ℕ, suc, _+_, _-_, _≤_, _<_}
+use native.Mathlib.Numerals.{add-one}
 use native.Mathlib.Omega.{arith}
-use lib.ListN.{length}
+use lib.ListN.{length, drop, drop-of-length-le}
 use lib.Dec.{eqb}
 use borrow.Author.Tests.{ne-eqb, eqb-true, lt-ltb, le-ltb}
-use Rattle.records.specs.Kinds.{kindOf}
+use Rattle.bits.specs.Bit.{bit, allBelow}
+use Rattle.records.specs.Kinds.{kindOf, bodyLen}
+use Rattle.records.specs.Key.{keyBy, keyOf, precedes}
+use Rattle.records.specs.Range.{inRange}
 use Rattle.records.specs.declared.Record.{Record}
+use Rattle.records.specs.declared.Record.the-variants.{Head, End}
 use Rattle.records.specs.declared.RecordKey.{RecordKey}
-use Rattle.reader.specs.Read.{readAt}
-use Rattle.reader.specs.Walk.{Walk, more, stop, walkFrom}
+use Rattle.records.proofs.Order.{key-kind}
+use Rattle.reader.specs.Read.{readAt, recordOf}
+use Rattle.reader.specs.Walk.{Walk, more, stop, walkOf, walkFrom}
 use Rattle.reader.specs.declared.Read.{Read}
 use Rattle.reader.specs.declared.Read.the-variants.{Whole}
 use Rattle.reader.proofs.Reading.{next, walks-by, told-by}
+use Rattle.places.specs.Places.{nowhere, placeBy, notedAt, notedIn, placesOf}
+use Rattle.places.specs.declared.Places.{Places}
 use Rattle.rules.specs.Check.{faultOf, endAt, checkWalk, verdictOf, limit}
 use Rattle.rules.specs.Valid.{Valid}
 use Rattle.rules.specs.declared.Verdict.{Verdict}
-use Rattle.rules.specs.declared.Verdict.the-variants.{Refused}
+use Rattle.rules.specs.declared.Verdict.the-variants.{Accepted as VerdictAccepted, Refused as VerdictRefused}
+use Rattle.context.specs.declared.Counts.{Counts}
 use Rattle.context.specs.declared.Events.{Events}
+use Rattle.context.specs.declared.Modules.{Modules}
+use Rattle.context.specs.declared.Supervisors.{Supervisors}
 use Rattle.context.specs.declared.Context.{Context}
-use Rattle.context.specs.Context.{withRecord, start, contextOf}
-use Rattle.judge.specs.Judge.{judgeBy}
-use Rattle.checker.specs.declared.Place.{Place}
-use Rattle.checker.specs.Stretch.{checkBy, withSteps, Reached, Passed}
+use Rattle.context.specs.Context.{countsAfter, eventsAfter, modulesAfter, supervisorsAfter, withRecord, start, contextOf}
+use Rattle.judge.specs.Judge.{indexBy, orderBy, namesBy, rulesBy, allBy, judgeBy}
 use Rattle.judge.proofs.Represents.{judges}
+use Rattle.checker.specs.declared.Fields.{Fields}
+use Rattle.checker.specs.declared.Examined.{Examined}
+use Rattle.checker.specs.declared.Examined.the-variants.{Accepted, Refused}
+use Rattle.checker.specs.Examined.{examinedBy, examinedOf}
+use Rattle.checker.specs.Stretch.{checkBy, Reached, Stretch, Passed, contextBy, eventsBy, modulesBy, supervisorsBy, headed}
+use Rattle.checker.specs.Stretch.{atEvents, atModules, atModuleMoves, atSupervisors, atDisablings, atSteps, standsAt, fieldsAt, endKept}
+use Rattle.checker.proofs.Stretch.{both, stands-there, reads-whole, reads-head}
 
 agree : (n : ℕ) (rs : List Record) (w : Walk) → Valid rs → checkBy n (contextOf rs) w ≡ checkWalk n rs w
 unfolding checkBy checkWalk contextOf Valid
 agree n rs (stop k o) v = refl
 agree n rs (more o r w) v =
-    ap (λ (j : ℕ). cond (eqb j 0) (cond (eqb (kindOf r) 0x1f) (endAt n o) (checkBy n (contextOf (r ∷ rs)) w)) (Refused j o)) (judges rs v r)
+    ap (λ (j : ℕ). cond (eqb j 0) (cond (eqb (kindOf r) 0x1f) (endAt n o) (checkBy n (contextOf (r ∷ rs)) w)) (VerdictRefused j o)) (judges rs v r)
     ∙ go (eqb (faultOf rs r) 0) refl (λ z. agree n (r ∷ rs) w (z, v))
   where
     go : (b : Bool) → eqb (faultOf rs r) 0 ≡ b → (faultOf rs r ≡ 0 → checkBy n (contextOf (r ∷ rs)) w ≡ checkWalk n (r ∷ rs) w)
-        → cond b (cond (eqb (kindOf r) 0x1f) (endAt n o) (checkBy n (contextOf (r ∷ rs)) w)) (Refused (faultOf rs r) o)
-        ≡ cond b (cond (eqb (kindOf r) 0x1f) (endAt n o) (checkWalk n (r ∷ rs) w)) (Refused (faultOf rs r) o)
+        → cond b (cond (eqb (kindOf r) 0x1f) (endAt n o) (checkBy n (contextOf (r ∷ rs)) w)) (VerdictRefused (faultOf rs r) o)
+        ≡ cond b (cond (eqb (kindOf r) 0x1f) (endAt n o) (checkWalk n (r ∷ rs) w)) (VerdictRefused (faultOf rs r) o)
     go true q f = ap (cond (eqb (kindOf r) 0x1f) (endAt n o)) (f (eqb-true (faultOf rs r) 0 q))
     go false q f = refl
 
--- what the loop begins with
-pub begins : (s : List ℕ) {c : Context} → c ≡ start → length s < suc limit → checkBy (length s) c (walkFrom s 0) ≡ verdictOf s
+-- where the check begins
+pub begins : (s : List ℕ) {c : Context} {p : Places} → c ≡ start → p ≡ nowhere → length s < suc limit → Reached s c 0 p
 unfolding verdictOf contextOf Valid
-begins s e h = ap (λ (d : Context). checkBy (length s) d (walkFrom s 0)) e ∙ agree (length s) [] (walkFrom s 0) tt ∙ sym (ap (λ (b : Bool). cond b (Refused 1 0) (checkWalk (length s) [] (walkFrom s 0))) (le-ltb limit (length s) (omega arith)))
+begins s {c} {p} e f h =
+    record {
+      checked =
+          ap (λ (d : Context). checkBy (length s) d (walkFrom s 0)) e ∙ agree (length s) [] (walkFrom s 0) tt
+          ∙ sym (ap (λ (b : Bool). cond b (VerdictRefused 1 0) (checkWalk (length s) [] (walkFrom s 0))) (le-ltb limit (length s) (omega arith)));
+      noted = ap (λ (q : Places). notedIn q (c .last .kind) (walkFrom s 0)) f ∙ ap (λ (d : Context). notedIn nowhere (d .last .kind) (walkFrom s 0)) e;
+    }
 
-pub too-long : (s : List ℕ) → limit < length s → Refused 1 0 ≡ verdictOf s
+-- ---- the answer
+
+refuses : (s : List ℕ) (k i : ℕ) → verdictOf s ≡ VerdictRefused k i → Refused k i ≡ examinedOf s
+unfolding examinedOf examinedBy
+refuses s k i e = sym (ap (examinedBy (placesOf s)) e)
+
+pub too-long : (s : List ℕ) → limit < length s → Refused 1 0 ≡ examinedOf s
 unfolding verdictOf
-too-long s h = sym (ap (λ (b : Bool). cond b (Refused 1 0) (checkWalk (length s) [] (walkFrom s 0))) (lt-ltb limit (length s) h))
+too-long s h = refuses s 1 0 (ap (λ (b : Bool). cond b (VerdictRefused 1 0) (checkWalk (length s) [] (walkFrom s 0))) (lt-ltb limit (length s) h))
 
 -- each way on from an offset, with every fact as a premise
-module _ (s : List ℕ) (c : Context) (i : ℕ) where
-  pub stopped-by : (k : ℕ) {x y : Read} {v : Verdict} → x ≡ readAt s i → x ≡ y → next s i y ≡ stop k i → checkBy (length s) c (walkFrom s i) ≡ v → Refused k i ≡ v
+module _ (s : List ℕ) (c : Context) (i : ℕ) (p : Places) where
+  pub stopped-by : (k : ℕ) {x y : Read} → x ≡ readAt s i → x ≡ y → next s i y ≡ stop k i → Reached s c i p → Refused k i ≡ examinedOf s
   unfolding checkBy
-  stopped-by k e g w h = sym (ap (checkBy (length s) c) (walks-by s i e g ∙ w)) ∙ h
+  stopped-by k e g w h = refuses s k i (sym (h .checked) ∙ ap (checkBy (length s) c) (walks-by s i e g ∙ w))
 
-  pub refused-by : (num : ℕ) {x : Read} {r : Record} {n : ℕ} {v : Verdict} → x ≡ readAt s i → x ≡ Whole r n → num ≡ judgeBy c r → (num ≡ 0 → ⊥)
-      → checkBy (length s) c (walkFrom s i) ≡ v → Refused num i ≡ v
+  pub refused-by : (num : ℕ) {x : Read} {r : Record} {n : ℕ} → x ≡ readAt s i → x ≡ Whole r n → num ≡ judgeBy c r → (num ≡ 0 → ⊥) → Reached s c i p
+      → Refused num i ≡ examinedOf s
   unfolding checkBy
-  refused-by num e g j z h = sym (ap (checkBy (length s) c) (walks-by s i e g) ∙ simp (← j, ne-eqb num 0 z)) ∙ h
+  refused-by num e g j z h = refuses s num i (sym (h .checked) ∙ ap (checkBy (length s) c) (walks-by s i e g) ∙ simp (← j, ne-eqb num 0 z))
 
-  pub ended-by : {x : Read} {r : Record} {n no k : ℕ} {u v : Verdict} → x ≡ readAt s i → x ≡ Whole r n → no ≡ judgeBy c r → no ≡ 0 → k ≡ kindOf r → k ≡ 0x1f
-      → u ≡ endAt (length s) i → checkBy (length s) c (walkFrom s i) ≡ v → u ≡ v
-  unfolding checkBy
-  ended-by e g j z f l u h = u ∙ sym (ap (checkBy (length s) c) (walks-by s i e g) ∙ simp (← j, z, ← f, l)) ∙ h
+  -- past a faultless record
+  module _ {x : Read} {r : Record} {n no k : ℕ} {q : Places} (e : x ≡ readAt s i) (g : x ≡ Whole r n) (j : no ≡ judgeBy c r) (z : no ≡ 0) (f : k ≡ kindOf r)
+      (t : q ≡ notedAt p (c .last .kind) k i) (h : Reached s c i p) where
+    noted-on : notedIn q (kindOf r) (walkFrom s n) ≡ placesOf s
+    unfolding notedIn
+    noted-on =
+        ap (λ (a : Places). notedIn a (kindOf r) (walkFrom s n)) (t ∙ ap (λ (a : ℕ). notedAt p (c .last .kind) a i) f)
+        ∙ sym (ap (notedIn p (c .last .kind)) (walks-by s i e g)) ∙ h .noted
 
-  goes-on : {x : Read} {r : Record} {n no k : ℕ} {v : Verdict} → x ≡ readAt s i → x ≡ Whole r n → no ≡ judgeBy c r → no ≡ 0 → k ≡ kindOf r → (k ≡ 0x1f → ⊥)
-      → checkBy (length s) c (walkFrom s i) ≡ v → checkBy (length s) (withRecord c r) (walkFrom s n) ≡ v
-  unfolding checkBy
-  goes-on {k = k} e g j z f l h = sym (ap (checkBy (length s) c) (walks-by s i e g) ∙ simp (← j, z, ← f, ne-eqb k 0x1f l)) ∙ h
+    ends : k ≡ 0x1f → endAt (length s) i ≡ verdictOf s
+    unfolding checkBy
+    ends l = sym (ap (checkBy (length s) c) (walks-by s i e g) ∙ simp (← j, z, ← f, l)) ∙ h .checked
 
-  pub goes-on-by : (d : Context) (n k : ℕ) {x : Read} {r : Record} {no : ℕ} {v : Verdict} → x ≡ readAt s i → x ≡ Whole r n → no ≡ judgeBy c r → no ≡ 0 → k ≡ kindOf r
-      → (k ≡ 0x1f → ⊥) → d ≡ withRecord c r → checkBy (length s) c (walkFrom s i) ≡ v → checkBy (length s) d (walkFrom s n) ≡ v
-  goes-on-by d n k e g j z f l w h = ap (λ (t : Context). checkBy (length s) t (walkFrom s n)) w ∙ goes-on e g j z f l h
+    pub ended-by : k ≡ 0x1f → {u : Examined} → u ≡ examinedBy q (endAt (length s) i) → u ≡ examinedOf s
+    unfolding examinedOf examinedBy notedIn walkOf
+    ended-by l v = v ∙ go (eqb (suc i) (length s)) refl (ends l)
+      where
+        go : (b : Bool) → eqb (suc i) (length s) ≡ b → cond b VerdictAccepted (VerdictRefused 4 (suc i)) ≡ verdictOf s
+            → examinedBy q (cond b VerdictAccepted (VerdictRefused 4 (suc i))) ≡ examinedOf s
+        go true m w =
+            let a = told-by s i e g in
+            let y : suc i ≡ length s = eqb-true _ _ m in
+            let b : length s ≤ n = omega arith in
+            let d : q ≡ placesOf s = sym (ap (λ (l : List ℕ). notedIn q (kindOf r) (walkOf 0 n l)) (drop-of-length-le s b)) ∙ noted-on in
+            ap Accepted d ∙ ap (examinedBy (placesOf s)) w
+        go false m w = ap (examinedBy (placesOf s)) w
 
--- past the stretch after a record
-pub stretch-past : (s : List ℕ) (d : Context) (n : ℕ) (ev : Events) (q : RecordKey) (m : ℕ) {v : Verdict} → d .begun ≡ true → Reached s d n (withSteps d ev q) m
-    → checkBy (length s) d (walkFrom s n) ≡ v
-    → checkBy (length s) (record { begun = d .begun; last = q; counts = d .counts; events = ev; modules = d .modules; supervisors = d .supervisors }) (walkFrom s m) ≡ v
-unfolding Reached
-stretch-past s d n ev q m b h t =
-    ap (λ (b : Bool). checkBy (length s) (record { begun = b; last = q; counts = d .counts; events = ev; modules = d .modules; supervisors = d .supervisors }) (walkFrom s m)) b
-    ∙ h .1
-    ∙ sym (ap (λ (b : Bool). checkBy (length s) (record { begun = b; last = d .last; counts = d .counts; events = d .events; modules = d .modules; supervisors = d .supervisors }) (walkFrom s n)) b)
-    ∙ t
+    goes-on : (k ≡ 0x1f → ⊥) → Reached s (withRecord c r) n q
+    unfolding checkBy
+    goes-on l =
+        record {
+          checked = sym (ap (checkBy (length s) c) (walks-by s i e g) ∙ simp (← j, z, ← f, ne-eqb k 0x1f l)) ∙ h .checked;
+          noted = ap (λ (a : ℕ). notedIn q a (walkFrom s n)) (key-kind r) ∙ noted-on;
+        }
 
-pub stretch-less : (s : List ℕ) (i : ℕ) (d a : Context) (m : ℕ) {x : Read} {r : Record} {n : ℕ} → x ≡ readAt s i → x ≡ Whole r n → Reached s d n a m → length s - m < length s - i
-unfolding Reached
-stretch-less s i d a m {n = n} e g h = let w = told-by s i e g in let l : n ≤ m = h .0 in omega arith
+-- the same, its premises in an order that tells what they speak of
+pub goes-on-by : (s : List ℕ) (c : Context) (i : ℕ) (p : Places) (d : Context) {x : Read} {r : Record} {n no k : ℕ} {q : Places} → d ≡ withRecord c r → x ≡ Whole r n
+    → x ≡ readAt s i → q ≡ notedAt p (c .last .kind) k i → k ≡ kindOf r → (k ≡ 0x1f → ⊥) → no ≡ judgeBy c r → no ≡ 0 → Reached s c i p → Reached s d n q
+goes-on-by s c i p d {n = n} {q = q} w g e t f l j z h = subst (λ (a : Context). Reached s a n q) (sym w) (goes-on s c i p e g j z f t h l)
 
--- past a record and the stretch after it, where that is of no steps
-pub goes-past-by : (s : List ℕ) (c : Context) (i : ℕ) (d : Context) (p : Place) (k : ℕ) {x : Read} {r : Record} {n no : ℕ} {v : Verdict} → x ≡ readAt s i
-    → x ≡ Whole r n → no ≡ judgeBy c r → no ≡ 0 → k ≡ kindOf r → (k ≡ 0x1f → ⊥) → d ≡ withRecord c r → Passed s d n p → checkBy (length s) c (walkFrom s i) ≡ v
-    → checkBy (length s) (record { begun = d .begun; last = p .last; counts = d .counts; events = d .events; modules = d .modules; supervisors = d .supervisors })
-    (walkFrom s (p .next)) ≡ v
-goes-past-by s c i d p k {n = n} e g j z f l w h t =
-    stretch-past s d n (d .events) (p .last) (p .next) (ap (λ (c : Context). c .begun) w) h (goes-on-by s c i d n k e g j z f l w t)
+-- past a head in its ranges
+pub head-by : (s : List ℕ) {b t : Bool} {f : Fields} → length s < suc limit → b ≡ standsAt s 0 0x10 4 → b ≡ true → f ≡ fieldsAt s 0
+    → t ≡ inRange (Head (f .first) (f .second) (f .third)) → t ≡ true → Reached s (headed (record { modules = f .first; supervisors = f .second; events = f .third })) 4 nowhere
+unfolding judgeBy orderBy indexBy namesBy rulesBy allBy keyOf kindOf countsAfter eventsAfter modulesAfter supervisorsAfter notedAt placeBy
+head-by s {f = f} l e h g i z =
+    goes-on-by s start 0 nowhere _ refl (reads-head s 0 g (stands-there s 0 0x10 4 (sym e ∙ h))) refl refl refl (λ z. absurd (omega arith)) (sym (simp (sym i ∙ z))) refl
+    (begins s refl refl l)
+
+-- past a stretch
+pub past : (s : List ℕ) (k : ℕ) {c d : Context} {i j : ℕ} {p q : Places} → Stretch s k c i d j → q ≡ notedAt p (c .last .kind) (d .last .kind) i → Reached s c i p → Reached s d j q
+past s k {c} {d} {i} {j} {p} {q} h e r =
+    record {
+      checked = h .same ∙ r .checked;
+      noted = ap (λ (a : Places). notedIn a (d .last .kind) (walkFrom s j)) e ∙ h .notes p ∙ r .noted;
+    }
+
+-- ---- all stretches
+
+pub noted-from : (a k i : ℕ) (o : Places) {p q : Places} → q ≡ notedAt p a k i → p ≡ o → q ≡ notedAt o a k i
+noted-from a k i o e f = e ∙ ap (λ (x : Places). notedAt x a k i) f
+
+module _ (s : List ℕ) (n : Counts) (known controllable : ℕ) (owner steps : List ℕ) where
+  -- from the head on
+  pub after-three : (q eq mq vq : RecordKey) (i e m v : ℕ) (vs : Supervisors) (modules : ℕ) (owner₀ states₀ states : List ℕ) {p ep mp vp : Places}
+      → Reached s (contextBy q n (eventsBy 0 0 owner₀ steps) (modulesBy 0 states₀) vs) i p
+      → Passed s 0x11 (atEvents q n 0 0 owner₀) i (atEvents eq n known controllable owner) e → ep ≡ notedAt p (q .kind) (eq .kind) i
+      → Passed s 0x12 (atModules eq n 0 states₀) e (atModules mq n modules states) m → mp ≡ notedAt ep (eq .kind) (mq .kind) e
+      → Passed s 0x13 (atModuleMoves mq n known owner modules states) m (atModuleMoves vq n known owner modules states) v → vp ≡ notedAt mp (mq .kind) (vq .kind) m
+      → Reached s (contextBy vq n (eventsBy known controllable owner steps) (modulesBy modules states) vs) v vp
+  unfolding Passed atEvents atModules atModuleMoves
+  after-three q eq mq vq i e m v vs modules owner₀ states₀ states h a x b y c z =
+      let r : Context = contextBy (keyBy 0 0 0 0) n (eventsBy known controllable owner steps) (modulesBy modules states) vs in
+      past s 0x13 (c r) z
+      (past s 0x12 (b r) y (past s 0x11 (a (contextBy (keyBy 0 0 0 0) n (eventsBy known controllable owner steps) (modulesBy 0 states₀) vs)) x h))
+
+  -- from the supervisors on
+  pub after-seven : (q vq mq dq sq : RecordKey) (i v m d x : ℕ) (ms : Modules) (supervisors : ℕ) (states₀ alphabet₀ states alphabet counts : List ℕ) {p vp mp dp sp : Places}
+      → Reached s (contextBy q n (eventsBy known controllable owner steps) ms (supervisorsBy 0 states₀ alphabet₀)) i p
+      → Passed s 0x14 (atSupervisors q n known 0 states₀ alphabet₀) i (atSupervisors vq n known supervisors states alphabet) v → vp ≡ notedAt p (q .kind) (vq .kind) i
+      → Passed s 0x15 (atSupervisors vq n known supervisors states alphabet) v (atSupervisors mq n known supervisors states alphabet) m
+      → mp ≡ notedAt vp (vq .kind) (mq .kind) v
+      → Passed s 0x16 (atDisablings mq n known controllable supervisors states alphabet) m (atDisablings dq n known controllable supervisors states alphabet) d
+      → dp ≡ notedAt mp (mq .kind) (dq .kind) m
+      → Passed s 0x17 (atSteps dq n known controllable owner steps) d (atSteps sq n known controllable owner counts) x → sp ≡ notedAt dp (dq .kind) (sq .kind) d
+      → Reached s (contextBy sq n (eventsBy known controllable owner counts) ms (supervisorsBy supervisors states alphabet)) x sp
+  unfolding Passed atSupervisors atDisablings atSteps
+  after-seven q vq mq dq sq i v m t x ms supervisors states₀ alphabet₀ states alphabet counts h a w b u c y d z =
+      let r : Context = contextBy (keyBy 0 0 0 0) n (eventsBy known controllable owner steps) ms (supervisorsBy supervisors states alphabet) in
+      past s 0x17 (d r) z (past s 0x16 (c r) y (past s 0x15 (b r) u (past s 0x14 (a r) w h)))
+
+-- ---- the end record where the stretches stop
+
+end-stands : (s : List ℕ) (i : ℕ) (q : RecordKey) (n : Counts) (a b c : ℕ) {t : Bool} → t ≡ endKept s i q n a b c → t ≡ true → standsAt s i 0x1f 1 ≡ true
+end-stands s i q n a b c e h =
+    both (standsAt s i 0x1f 1) (precedes q (keyBy 0x1f 0 0 0))
+    (both (standsAt s i 0x1f 1 && precedes q (keyBy 0x1f 0 0 0)) (allBelow (bit a) (n .modules) && allBelow (bit b) (n .supervisors) && allBelow (bit c) (n .events)) (sym e ∙ h) .0)
+    .0
+
+pub end-inside : (s : List ℕ) (i : ℕ) (q : RecordKey) (n : Counts) (a b c : ℕ) {t : Bool} → t ≡ endKept s i q n a b c → t ≡ true → i < length s
+end-inside s i q n a b c e h = stands-there s i 0x1f 1 (end-stands s i q n a b c e h) .inside
+
+module _ (s : List ℕ) (q : RecordKey) (n : Counts) (ev : Events) (ms : Modules) (vs : Supervisors) (i : ℕ) {t : Bool}
+    (e : t ≡ endKept s i q n (ms .known) (vs .known) (ev .known)) (h : t ≡ true) where
+  end-judged : judgeBy (contextBy q n ev ms vs) End ≡ 0
+  unfolding judgeBy orderBy indexBy namesBy rulesBy allBy inRange keyOf
+  end-judged =
+      let declared : Bool = allBelow (bit (ms .known)) (n .modules) && allBelow (bit (vs .known)) (n .supervisors) && allBelow (bit (ev .known)) (n .events) in
+      let b = both (standsAt s i 0x1f 1 && precedes q (keyBy 0x1f 0 0 0)) declared (sym e ∙ h) in
+      simp (both (standsAt s i 0x1f 1) (precedes q (keyBy 0x1f 0 0 0)) (b .0) .1, b .1)
+
+  pub end-by : {p p' : Places} {u : Examined} → Reached s (contextBy q n ev ms vs) i p → p' ≡ notedAt p (q .kind) 0x1f i → u ≡ examinedBy p' (endAt (length s) i) → u ≡ examinedOf s
+  unfolding recordOf bodyLen kindOf
+  end-by {p} r g u =
+      let w = stands-there s i 0x1f 1 (end-stands s i q n (ms .known) (vs .known) (ev .known) e h) in
+      let d : readAt s i ≡ Whole End (i + 1) = reads-whole s i 0x1f 1 w (λ z. absurd (omega arith)) refl in
+      ended-by s (contextBy q n ev ms vs) i p refl d (sym end-judged) refl refl g r refl u

@@ -1,5 +1,6 @@
--- A stretch of records of one kind: each record that is passed is whole and not faulty, and leaves the context but for its last key.
+-- A stretch of records of one kind: each record that is passed is whole and not faulty.
 use mathlib.Core.Path.{_≡_, refl, sym, ap, _∙_, subst}
+use mathlib.Core.Logic.{_⊎_, inl, inr}
 use mathlib.Core.List.{List}
 use mathlib.Core.Bool.{Bool, true, false, cond, not, _&&_, _||_, false≢true}
 use Prim.Native.Nat.{ℕ, _+_, _-_, _%_, _^_, _≤_, _<_}
@@ -8,44 +9,46 @@ use native.Mathlib.Omega.{arith}
 use lib.ListN.{length, getD, set, drop}
 use lib.Seq.{getD-drop}
 use lib.Dec.{eqb, leb, ltb}
-use borrow.Author.Tests.{not-false, lt-ltb, ltb-true, leb-true, eqb-true, ne-eqb}
+use borrow.Author.Tests.{not-false, lt-ltb, ltb-true, leb-true, eqb-true, ne-eqb, lt-leb}
 use lib.Bits.{bitAnd}
-use Rattle.bits.specs.Bit.{bit, everyEvent}
+use Rattle.bits.specs.Bit.{bit, everyEvent, putBit}
 use Rattle.words.specs.Word.{wordAt}
 use Rattle.words.proofs.Laws.{word-drop}
 use Rattle.records.specs.Kinds.{kindOf, bodyLen, noLen}
 use Rattle.records.specs.Key.{keyBy, keyOf, precedes}
 use Rattle.records.specs.Range.{inRange}
 use Rattle.records.specs.declared.Record.{Record}
-use Rattle.records.specs.declared.Record.the-variants.{ModuleMove, SupervisorMove, Disabling, Step}
+use Rattle.records.specs.declared.Record.the-variants.{Head, Event, Module, ModuleMove, Supervisor, SupervisorMove, Disabling, Step}
 use Rattle.records.specs.declared.RecordKey.{RecordKey}
 use Rattle.reader.specs.Read.{recordOf, readAt}
 use Rattle.reader.specs.Walk.{walkFrom}
 use Rattle.reader.specs.declared.Read.the-variants.{Whole}
 use Rattle.reader.proofs.Reading.{walks-by, shapes-whole, reads-by}
+use Rattle.places.specs.Places.{placeBy, notedAt, notedIn}
+use Rattle.places.specs.declared.Places.{Places}
 use Rattle.context.specs.declared.Counts.{Counts}
 use Rattle.context.specs.declared.Events.{Events}
 use Rattle.context.specs.declared.Context.{Context}
-use Rattle.context.specs.Context.{withEntry, countsAfter, eventsAfter, modulesAfter, supervisorsAfter, withRecord, ownerAt, stepsAt}
+use Rattle.context.specs.Context.{withEntry, withBit, countsAfter, eventsAfter, modulesAfter, supervisorsAfter, withRecord, ownerAt, stepsAt}
 use Rattle.judge.specs.Judge.{indexBy, orderBy, namesBy, rulesBy, allBy, judgeBy}
 use Rattle.checker.specs.declared.Fields.{Fields}
-use Rattle.checker.specs.declared.Place.{Place}
-use Rattle.checker.specs.Stretch.{checkBy, withLast, withSteps, Reached, standsAt, fieldsAt, moveNamed, disablingNamed, respondFits, stepKept}
+use Rattle.checker.specs.Stretch.{checkBy, Stretch, Passed, atEvents, atModules, atModuleMoves, atSupervisors, atDisablings, atSteps}
+use Rattle.checker.specs.Stretch.{standsAt, fieldsAt, eventKept, moduleKept, supervisorKept, moveNamed, disablingNamed, respondFits, stepKept}
 
-both : (a b : Bool) → (a && b) ≡ true → (a ≡ true) × (b ≡ true)
+pub both : (a b : Bool) → (a && b) ≡ true → (a ≡ true) × (b ≡ true)
 both true b e = (refl, e)
 both false b e = absurd (false≢true e)
 
 -- ---- what stands at an offset
 
-record Whole-there (s : List ℕ) (i k n : ℕ) : Type 0 where
+pub record Whole-there (s : List ℕ) (i k n : ℕ) : Type 0 where
   pub kind : getD s i 0 ≡ k
   pub fits : i + n ≤ length s
   pub inside : i < length s
 
-stands-told : (s : List ℕ) (i k n : ℕ) {t : Bool} → t ≡ standsAt s i k n → not t ≡ false → Whole-there s i k n
+pub stands-there : (s : List ℕ) (i k n : ℕ) → standsAt s i k n ≡ true → Whole-there s i k n
 unfolding standsAt
-stands-told s i k n e h = go (ltb i (length s)) refl (sym e ∙ not-false _ h)
+stands-there s i k n e = go (ltb i (length s)) refl e
   where
     go : (b : Bool) → ltb i (length s) ≡ b → cond b (leb n (length s - i) && eqb (getD s i 0) k) false ≡ true → Whole-there s i k n
     go true p q =
@@ -55,12 +58,15 @@ stands-told s i k n e h = go (ltb i (length s)) refl (sym e ∙ not-false _ h)
         record { kind = eqb-true _ _ (b .1); fits = omega arith; inside = l }
     go false p q = absurd (false≢true q)
 
+stands-told : (s : List ℕ) (i k n : ℕ) {t : Bool} → t ≡ standsAt s i k n → not t ≡ false → Whole-there s i k n
+stands-told s i k n e h = stands-there s i k n (sym e ∙ not-false _ h)
+
 module _ (s : List ℕ) (i k n : ℕ) {t : Bool} (e : t ≡ standsAt s i k n) (h : not t ≡ false) where
   pub room-by : i + n ≤ length s
   room-by = stands-told s i k n e h .fits
 
-  -- of a record that has as many fields as a move, or more
-  pub fields-by : 5 ≤ n → i + 5 ≤ length s
+  -- of a record that has three fields, or more
+  pub fields-by : 4 ≤ n → i + 4 ≤ length s
   fields-by l = let r : i + n ≤ length s = room-by in omega arith
 
   -- a field's offset
@@ -70,10 +76,10 @@ module _ (s : List ℕ) (i k n : ℕ) {t : Bool} (e : t ≡ standsAt s i k n) (h
   pub fits-by : length s < 2 ^ 64 → i + n < 2 ^ 64
   fits-by l = lt-of-le-of-lt room-by l
 
-  pub further-by : 5 ≤ n → length s - (i + n) < length s - i
+  pub further-by : 4 ≤ n → length s - (i + n) < length s - i
   further-by l = let r : i + n ≤ length s = room-by in omega arith
 
-reads-whole : (s : List ℕ) (i k n : ℕ) → Whole-there s i k n → (bodyLen k ≡ noLen → ⊥) → n ≡ 1 + bodyLen k
+pub reads-whole : (s : List ℕ) (i k n : ℕ) → Whole-there s i k n → (bodyLen k ≡ noLen → ⊥) → n ≡ 1 + bodyLen k
     → readAt s i ≡ Whole (recordOf k (drop (i + 1) s)) (i + n)
 reads-whole s i k n w u e =
     let g : getD s i 0 ≡ k = w .kind in
@@ -91,12 +97,40 @@ word-at s j a b e = word-drop (j + 1) s a ∙ ap (wordAt s) (omega arith)
 
 -- the record of each kind, by its fields
 module _ (s : List ℕ) (j : ℕ) {f : Fields} (g : f ≡ fieldsAt s j) where
+  pub reads-head : Whole-there s j 0x10 4 → readAt s j ≡ Whole (Head (f .first) (f .second) (f .third)) (j + 4)
+  unfolding recordOf bodyLen
+  reads-head w =
+      reads-whole s j 0x10 4 w (λ q. absurd (omega arith)) refl
+      ∙ simp (field-at s j 0 1 refl, field-at s j 1 2 refl, field-at s j 2 3 refl)
+      (ap (λ (x : Fields). Whole (Head (x .first) (x .second) (x .third)) (j + 4)) (sym g))
+
+  reads-event : Whole-there s j 0x11 4 → readAt s j ≡ Whole (Event (f .first) (f .second) (f .third)) (j + 4)
+  unfolding recordOf bodyLen
+  reads-event w =
+      reads-whole s j 0x11 4 w (λ q. absurd (omega arith)) refl
+      ∙ simp (field-at s j 0 1 refl, field-at s j 1 2 refl, field-at s j 2 3 refl)
+      (ap (λ (x : Fields). Whole (Event (x .first) (x .second) (x .third)) (j + 4)) (sym g))
+
+  reads-module : Whole-there s j 0x12 4 → readAt s j ≡ Whole (Module (f .first) (f .second) (f .third)) (j + 4)
+  unfolding recordOf bodyLen
+  reads-module w =
+      reads-whole s j 0x12 4 w (λ q. absurd (omega arith)) refl
+      ∙ simp (field-at s j 0 1 refl, field-at s j 1 2 refl, field-at s j 2 3 refl)
+      (ap (λ (x : Fields). Whole (Module (x .first) (x .second) (x .third)) (j + 4)) (sym g))
+
   reads-module-move : Whole-there s j 0x13 5 → readAt s j ≡ Whole (ModuleMove (f .first) (f .second) (f .third) (f .fourth)) (j + 5)
   unfolding recordOf bodyLen
   reads-module-move w =
       reads-whole s j 0x13 5 w (λ q. absurd (omega arith)) refl
       ∙ simp (field-at s j 0 1 refl, field-at s j 1 2 refl, field-at s j 2 3 refl, field-at s j 3 4 refl)
       (ap (λ (x : Fields). Whole (ModuleMove (x .first) (x .second) (x .third) (x .fourth)) (j + 5)) (sym g))
+
+  reads-supervisor : Whole-there s j 0x14 12 → readAt s j ≡ Whole (Supervisor (f .first) (f .second) (f .third) (wordAt s (j + 4))) (j + 12)
+  unfolding recordOf bodyLen
+  reads-supervisor w =
+      reads-whole s j 0x14 12 w (λ q. absurd (omega arith)) refl
+      ∙ simp (field-at s j 0 1 refl, field-at s j 1 2 refl, field-at s j 2 3 refl, word-at s j 3 4 refl)
+      (ap (λ (x : Fields). Whole (Supervisor (x .first) (x .second) (x .third) (wordAt s (j + 4))) (j + 12)) (sym g))
 
   reads-supervisor-move : Whole-there s j 0x15 5 → readAt s j ≡ Whole (SupervisorMove (f .first) (f .second) (f .third) (f .fourth)) (j + 5)
   unfolding recordOf bodyLen
@@ -119,124 +153,208 @@ module _ (s : List ℕ) (j : ℕ) {f : Fields} (g : f ≡ fieldsAt s j) where
       ∙ simp (field-at s j 0 1 refl, field-at s j 1 2 refl, field-at s j 2 3 refl, word-at s j 3 4 refl)
       (ap (λ (x : Fields). Whole (Step (x .first) (x .second) (x .third) (wordAt s (j + 4))) (j + 12)) (sym g))
 
+-- ---- the places
+
+none-between : (k j : ℕ) → (ltb k j && leb j k) ≡ false
+none-between k j = go (ltb k j) refl
+  where
+    go : (b : Bool) → ltb k j ≡ b → (b && leb j k) ≡ false
+    go true e = lt-leb j k (ltb-true k j e)
+    go false e = refl
+
+-- a record of the last one's kind begins no kind
+noted-same : (p : Places) (k at : ℕ) → notedAt p k k at ≡ p
+unfolding notedAt placeBy
+noted-same p k at = simp none-between
+
+-- a stretch and one record more of its kind
+noted-again : (p : Places) (a b k i j : ℕ) → (b ≡ k) ⊎ ((i ≡ j) × (b ≡ a)) → notedAt (notedAt p a b i) b k j ≡ notedAt p a k i
+noted-again p a b k i j (inl e) = ap (λ (x : ℕ). notedAt (notedAt p a x i) x k j) e ∙ noted-same (notedAt p a k i) k j
+noted-again p a b k i j (inr e) =
+    ap (λ (x : ℕ). notedAt (notedAt p a x i) x k j) (e .1)
+    ∙ ap (λ (q : Places). notedAt q a k j) (noted-same p a i)
+    ∙ ap (λ (x : ℕ). notedAt p a k x) (sym (e .0))
+
 -- ---- one record more
 
-module _ (s : List ℕ) (c : Context) (i : ℕ) where
-  pub begins-stretch : Reached s c i (withLast c (c .last)) i
-  unfolding Reached
-  begins-stretch = (le-refl i, refl)
+pub begins-stretch : (s : List ℕ) (k : ℕ) (c : Context → Context) (i : ℕ) → Passed s k c i c i
+unfolding Passed
+begins-stretch s k c i r =
+    record {
+      further = le-refl i;
+      same = refl;
+      notes = λ p. ap (λ (q : Places). notedIn q (c r .last .kind) (walkFrom s i)) (noted-same p (c r .last .kind) i);
+      some = inr (refl, refl);
+    }
 
-  reaches : (d : Context) (j m : ℕ) {r : Record} → readAt s j ≡ Whole r m → j ≤ m → judgeBy d r ≡ 0 → (kindOf r ≡ 0x1f → ⊥)
-      → Reached s c i d j → Reached s c i (withRecord d r) m
-  unfolding Reached checkBy
-  reaches d j m e l z f h =
-      let a : i ≤ j = h .0 in
-      ((omega arith), sym (ap (checkBy (length s) d) (walks-by s j refl e) ∙ simp (z, ne-eqb _ _ f)) ∙ h .1)
+module _ (s : List ℕ) (k : ℕ) {c d : Context} {i j : ℕ} where
+  reaches : (m : ℕ) {r : Record} → readAt s j ≡ Whole r m → j ≤ m → judgeBy d r ≡ 0 → kindOf r ≡ k → keyOf r .kind ≡ k → (k ≡ 0x1f → ⊥)
+      → Stretch s k c i d j → Stretch s k c i (withRecord d r) m
+  unfolding checkBy notedIn
+  reaches m {r} e l z f g u h =
+      let w = walks-by s j refl e in
+      let a : i ≤ j = h .further in
+      let v : kindOf r ≡ 0x1f → ⊥ = λ q. u (sym f ∙ q) in
+      let t : (p : Places) → notedAt (notedAt p (c .last .kind) (d .last .kind) i) (d .last .kind) k j ≡ notedAt p (c .last .kind) k i = λ p.
+      noted-again p (c .last .kind) (d .last .kind) k i j (h .some)
+      in
+      record {
+        further = omega arith;
+        same = sym (ap (checkBy (length s) d) w ∙ simp (z, ne-eqb _ _ v)) ∙ h .same;
+        notes = λ p.
+            ap (λ (x : ℕ). notedIn (notedAt p (c .last .kind) x i) x (walkFrom s m)) g
+            ∙ ap (λ (q : Places). notedIn q k (walkFrom s m)) (sym (t p))
+            ∙ ap (λ (x : ℕ). notedIn (notedAt (notedAt p (c .last .kind) (d .last .kind) i) (d .last .kind) x j) x (walkFrom s m)) (sym f)
+            ∙ sym (ap (notedIn (notedAt p (c .last .kind) (d .last .kind) i) (d .last .kind)) w)
+            ∙ h .notes p;
+        some = inl g;
+      }
 
-  module _ (p : RecordKey) (j : ℕ) {b : Bool} {f : Fields} {k : ℕ} {o named : Bool} (g : f ≡ fieldsAt s j) (k1 : k ≡ f .first) where
-    pub module-step : b ≡ standsAt s j 0x13 5 → not b ≡ false → f .first < 16 → f .third < 64 → {y : ℕ} → y ≡ f .third
-        → named ≡ moveNamed f (c .counts .modules) (c .modules .known) (getD (c .modules .states) k 0) (c .counts .events) (c .events .known)
-        → o ≡ precedes p (keyBy 0x13 (f .first) (f .second) (f .third)) → not ((o && named) && eqb (getD (c .events .owner) y 0) (f .first)) ≡ false
-        → Reached s c i (withLast c p) j → Reached s c i (withLast c (keyBy 0x13 (f .first) (f .second) (f .third))) (j + 5)
-    unfolding judgeBy orderBy indexBy namesBy rulesBy allBy inRange keyOf kindOf countsAfter eventsAfter modulesAfter supervisorsAfter
-    module-step e b1 l t {y} y1 n1 o1 a h =
-        let w : Bool = eqb (getD (c .events .owner) y 0) (f .first) in
-        let q = both (o && named) w (not-false _ a) in
-        let r = both o named (q .0) in
-        let n2 : moveNamed f (c .counts .modules) (c .modules .known) (getD (c .modules .states) (f .first) 0) (c .counts .events) (c .events .known) ≡ named = cc in
-        let w2 : eqb (getD (c .events .owner) (f .third) 0) (f .first) ≡ w = cc in
-        reaches (withLast c p) j (j + 5) (reads-module-move s j g (stands-told s j 0x13 5 e b1)) (omega arith)
-        (simp (sym o1 ∙ r .0, n2 ∙ r .1, w2 ∙ q .1)) (λ q. absurd (omega arith)) h
+-- what a respond step names
+module _ (n : Counts) (ev : Events) (e x : ℕ) where
+  abbrev same : ℕ → Bool
+  same y = eqb (getD (ev .owner) y 0) (getD (ev .owner) e 0)
 
-    pub supervisor-step : b ≡ standsAt s j 0x15 5 → not b ≡ false → f .first < 32
-        → named ≡ moveNamed f (c .counts .supervisors) (c .supervisors .known) (getD (c .supervisors .states) k 0) (c .counts .events) (c .events .known)
-        → o ≡ precedes p (keyBy 0x15 (f .first) (f .second) (f .third)) → {w : Bool} → w ≡ bit (getD (c .supervisors .alphabet) k 0) (f .third)
-        → not ((o && named) && w) ≡ false
-        → Reached s c i (withLast c p) j → Reached s c i (withLast c (keyBy 0x15 (f .first) (f .second) (f .third))) (j + 5)
-    unfolding judgeBy orderBy indexBy namesBy rulesBy allBy inRange keyOf kindOf countsAfter eventsAfter modulesAfter supervisorsAfter
-    supervisor-step e b1 l n1 o1 {w} w1 a h =
-        let q = both (o && named) w (not-false _ a) in
-        let r = both o named (q .0) in
-        let n2 : moveNamed f (c .counts .supervisors) (c .supervisors .known) (getD (c .supervisors .states) (f .first) 0) (c .counts .events) (c .events .known) ≡ named = cc in
-        let w2 : bit (getD (c .supervisors .alphabet) (f .first) 0) (f .third) ≡ w = cc in
-        reaches (withLast c p) j (j + 5) (reads-supervisor-move s j g (stands-told s j 0x15 5 e b1)) (omega arith)
-        (simp (sym o1 ∙ r .0, n2 ∙ r .1, w2 ∙ q .1)) (λ q. absurd (omega arith)) h
+  abbrev known : Bool
+  known = ltb x (n .events) && bit (ev .known) x
 
-    pub disabling-step : b ≡ standsAt s j 0x16 11 → not b ≡ false → f .first < 32 → {mask : ℕ} → mask ≡ wordAt s (j + 3)
-        → named ≡ disablingNamed f mask (c .counts .supervisors) (c .supervisors .known) (getD (c .supervisors .states) k 0) (c .events .known)
-        → o ≡ precedes p (keyBy 0x16 (f .first) (f .second) 0)
-        → {w : Bool} → w ≡ everyEvent mask (bit (bitAnd (c .events .controllable) (getD (c .supervisors .alphabet) k 0)))
-        → not (((o && not (eqb mask 0)) && named) && w) ≡ false
-        → Reached s c i (withLast c p) j → Reached s c i (withLast c (keyBy 0x16 (f .first) (f .second) 0)) (j + 11)
-    unfolding judgeBy orderBy indexBy namesBy rulesBy allBy inRange keyOf kindOf countsAfter eventsAfter modulesAfter supervisorsAfter
-    disabling-step e b1 l {mask} m1 n1 o1 {w} w1 a h =
-        let q = both ((o && not (eqb mask 0)) && named) w (not-false _ a) in
-        let r = both (o && not (eqb mask 0)) named (q .0) in
-        let t = both o (not (eqb mask 0)) (r .0) in
-        let n2 : disablingNamed f mask (c .counts .supervisors) (c .supervisors .known) (getD (c .supervisors .states) (f .first) 0) (c .events .known) ≡ named = cc in
-        let w2 : everyEvent mask (bit (bitAnd (c .events .controllable) (getD (c .supervisors .alphabet) (f .first) 0))) ≡ w = cc in
-        reaches (withLast c p) j (j + 11)
-        (reads-disabling s j g (stands-told s j 0x16 11 e b1) ∙ ap (λ (x : ℕ). Whole (Disabling (f .first) (f .second) x) (j + 11)) (sym m1)) (omega arith)
-        (simp (sym o1 ∙ t .0, t .1, n2 ∙ r .1, w2 ∙ q .1)) (λ q. absurd (omega arith)) h
+  abbrev uncontrollable : Bool
+  uncontrollable = not (bit (ev .controllable) x)
 
-  -- what a respond step names
-  module _ (n : Counts) (ev : Events) (e x : ℕ) where
-    abbrev same : ℕ → Bool
-    same y = eqb (getD (ev .owner) y 0) (getD (ev .owner) e 0)
+  respond-told : (b : Bool) → (not b || respondFits x (n .events) (ev .known) (ev .controllable) (same (x % 64))) ≡ true
+      → ((not b || cond (ltb x 64) known false) ≡ true) × ((not b || cond (ltb x 64) (uncontrollable && eqb (ownerAt ev x) (ownerAt ev e)) false) ≡ true)
+  respond-told false h = (refl, refl)
+  respond-told true h = go (ltb x 64) refl h
+    where
+      go : (t : Bool) → ltb x 64 ≡ t → cond t (known && (uncontrollable && same (x % 64))) false ≡ true
+          → (cond t known false ≡ true) × (cond t (uncontrollable && eqb (ownerAt ev x) (ownerAt ev e)) false ≡ true)
+      go true p q =
+          let r = both known (uncontrollable && same (x % 64)) q in
+          let m : x % 64 ≡ x = mod-eq-of-lt (ltb-true x 64 p) in
+          (r .0, subst (λ (y : ℕ). uncontrollable && same y ≡ true) m (r .1))
+      go false p q = absurd (false≢true q)
 
-    abbrev known : Bool
-    known = ltb x (n .events) && bit (ev .known) x
+module _ (s : List ℕ) (c : Context → Context) (i : ℕ) (n : Counts) (p : RecordKey) (j : ℕ) {b : Bool} {f : Fields} {k : ℕ} {o kept : Bool} (g : f ≡ fieldsAt s j) (k1 : k ≡ f .first) where
+  pub event-step : (known controllable : ℕ) (owner : List ℕ) {a t : ℕ} → b ≡ standsAt s j 0x11 4 → not b ≡ false → f .first < 64
+      → kept ≡ eventKept f n → o ≡ precedes p (keyBy 0x11 (f .first) 0 0) → not (o && kept) ≡ false
+      → a ≡ putBit known (f .first) true → t ≡ putBit controllable (f .first) (eqb (f .third) 1)
+      → Passed s 0x11 c i (atEvents p n known controllable owner) j
+      → Passed s 0x11 c i (atEvents (keyBy 0x11 (f .first) 0 0) n a t (set owner k (f .second))) (j + 4)
+  unfolding Passed atEvents judgeBy orderBy indexBy namesBy rulesBy allBy keyOf kindOf countsAfter eventsAfter modulesAfter supervisorsAfter withEntry withBit
+  event-step known controllable owner {a} {t} e b1 l n1 o1 h a1 t1 v r =
+      let q = both o kept (not-false _ h) in
+      let m = both (inRange (Event (f .first) (f .second) (f .third))) (ltb (f .first) (n .events) && ltb (f .second) (n .modules)) (sym n1 ∙ q .1) in
+      let d = reaches s 0x11 (j + 4) (reads-event s j g (stands-told s j 0x11 4 e b1)) (omega arith)
+      (simp (sym o1 ∙ q .0, m .0, m .1)) refl refl (λ z. absurd (omega arith)) (v r)
+      in
+      let w : withRecord (atEvents p n known controllable owner r) (Event (f .first) (f .second) (f .third)) ≡ atEvents (keyBy 0x11 (f .first) 0 0) n a t (set owner k (f .second)) r =
+      simp (lt-ltb (f .first) 64 l) cc
+      in
+      subst (λ (x : Context). Stretch s 0x11 (c r) i x (j + 4)) w d
 
-    abbrev uncontrollable : Bool
-    uncontrollable = not (bit (ev .controllable) x)
+  pub module-step : (known : ℕ) (states : List ℕ) {a : ℕ} → b ≡ standsAt s j 0x12 4 → not b ≡ false → f .first < 16
+      → kept ≡ moduleKept f n → o ≡ precedes p (keyBy 0x12 (f .first) 0 0) → not (o && kept) ≡ false → a ≡ putBit known (f .first) true
+      → Passed s 0x12 c i (atModules p n known states) j
+      → Passed s 0x12 c i (atModules (keyBy 0x12 (f .first) 0 0) n a (set states k (f .second))) (j + 4)
+  unfolding Passed atModules judgeBy orderBy indexBy namesBy rulesBy allBy keyOf kindOf countsAfter eventsAfter modulesAfter supervisorsAfter withEntry withBit
+  module-step known states {a} e b1 l n1 o1 h a1 v r =
+      let q = both o kept (not-false _ h) in
+      let m = both (inRange (Module (f .first) (f .second) (f .third))) (ltb (f .first) (n .modules) && ltb (f .third) (f .second)) (sym n1 ∙ q .1) in
+      let d = reaches s 0x12 (j + 4) (reads-module s j g (stands-told s j 0x12 4 e b1)) (omega arith)
+      (simp (sym o1 ∙ q .0, m .0, m .1)) refl refl (λ z. absurd (omega arith)) (v r)
+      in
+      let w : withRecord (atModules p n known states r) (Module (f .first) (f .second) (f .third)) ≡ atModules (keyBy 0x12 (f .first) 0 0) n a (set states k (f .second)) r =
+      simp (lt-ltb (f .first) 16 l) cc
+      in
+      subst (λ (x : Context). Stretch s 0x12 (c r) i x (j + 4)) w d
 
-    respond-told : (b : Bool) → (not b || respondFits x (n .events) (ev .known) (ev .controllable) (same (x % 64))) ≡ true
-        → ((not b || cond (ltb x 64) known false) ≡ true) × ((not b || cond (ltb x 64) (uncontrollable && eqb (ownerAt ev x) (ownerAt ev e)) false) ≡ true)
-    respond-told false h = (refl, refl)
-    respond-told true h = go (ltb x 64) refl h
-      where
-        go : (t : Bool) → ltb x 64 ≡ t → cond t (known && (uncontrollable && same (x % 64))) false ≡ true
-            → (cond t known false ≡ true) × (cond t (uncontrollable && eqb (ownerAt ev x) (ownerAt ev e)) false ≡ true)
-        go true p q =
-            let r = both known (uncontrollable && same (x % 64)) q in
-            let m : x % 64 ≡ x = mod-eq-of-lt (ltb-true x 64 p) in
-            (r .0, subst (λ (y : ℕ). uncontrollable && same y ≡ true) m (r .1))
-        go false p q = absurd (false≢true q)
+  pub supervisor-step : (events known : ℕ) (states alphabet : List ℕ) {a x : ℕ} → b ≡ standsAt s j 0x14 12 → not b ≡ false → f .first < 32 → x ≡ wordAt s (j + 4)
+      → kept ≡ supervisorKept f x n events → o ≡ precedes p (keyBy 0x14 (f .first) 0 0) → not (o && kept) ≡ false → a ≡ putBit known (f .first) true
+      → Passed s 0x14 c i (atSupervisors p n events known states alphabet) j
+      → Passed s 0x14 c i (atSupervisors (keyBy 0x14 (f .first) 0 0) n events a (set states k (f .second)) (set alphabet k x)) (j + 12)
+  unfolding Passed atSupervisors judgeBy orderBy indexBy namesBy rulesBy allBy keyOf kindOf countsAfter eventsAfter modulesAfter supervisorsAfter withEntry withBit
+  supervisor-step events known states alphabet {a} {x} e b1 l x1 n1 o1 h a1 v r =
+      let q = both o kept (not-false _ h) in
+      let m = both (inRange (Supervisor (f .first) (f .second) (f .third) x)) (ltb (f .first) (n .supervisors) && ltb (f .third) (f .second) && everyEvent x (bit events))
+      (sym n1 ∙ q .1)
+      in
+      let d = reaches s 0x14 (j + 12)
+      (reads-supervisor s j g (stands-told s j 0x14 12 e b1) ∙ ap (λ (y : ℕ). Whole (Supervisor (f .first) (f .second) (f .third) y) (j + 12)) (sym x1)) (omega arith)
+      (simp (sym o1 ∙ q .0, m .0, m .1)) refl refl (λ z. absurd (omega arith)) (v r)
+      in
+      let w : withRecord (atSupervisors p n events known states alphabet r) (Supervisor (f .first) (f .second) (f .third) x)
+      ≡ atSupervisors (keyBy 0x14 (f .first) 0 0) n events a (set states k (f .second)) (set alphabet k x) r = simp (lt-ltb (f .first) 32 l) cc
+      in
+      subst (λ (x : Context). Stretch s 0x14 (c r) i x (j + 12)) w d
 
-  pub step-step : (ev : Events) (p : RecordKey) (j : ℕ) {b : Bool} {f : Fields} {k x y u : ℕ} {o kept : Bool}
-      → b ≡ standsAt s j 0x17 12 → not b ≡ false → f ≡ fieldsAt s j → x ≡ wordAt s (j + 4) → f .first < 64 → k ≡ f .first → y ≡ x % 64
-      → kept ≡ stepKept f x (c .counts .events) (ev .known) (ev .controllable) (eqb (getD (ev .owner) y 0) (getD (ev .owner) k 0))
-      → o ≡ precedes p (keyBy 0x17 (f .first) (f .second) 0) → not ((o && eqb (f .second) (getD (ev .steps) k 0)) && kept) ≡ false
-      → u ≡ (f .second + 1) % 256 → Reached s c i (withSteps c ev p) j
-      → Reached s c i
-      (withSteps c (record { known = ev .known; controllable = ev .controllable; owner = ev .owner; steps = set (ev .steps) k u }) (keyBy 0x17 (f .first) (f .second) 0)) (j + 12)
-  unfolding judgeBy orderBy indexBy namesBy rulesBy allBy keyOf kindOf countsAfter eventsAfter modulesAfter supervisorsAfter withEntry
-  step-step ev p j {b} {f} {k} {x} {y} {u} {o} {kept} e b1 g x1 l k1 y1 n1 o1 a u1 h =
-      let w : Bool = eqb (f .second) (getD (ev .steps) k 0) in
-      let q = both (o && w) kept (not-false _ a) in
-      let r = both o w (q .0) in
-      let n2 : stepKept f x (c .counts .events) (ev .known) (ev .controllable) (eqb (getD (ev .owner) (x % 64) 0) (getD (ev .owner) (f .first) 0)) ≡ kept = cc in
-      let w1 : eqb (f .second) (getD (ev .steps) (f .first) 0) ≡ w = cc in
-      let w2 : eqb (f .second) (stepsAt ev (f .first)) ≡ true = w1 ∙ r .1 in
+  pub module-move-step : (events : ℕ) (owner : List ℕ) (known : ℕ) (states : List ℕ) {y : ℕ} → b ≡ standsAt s j 0x13 5 → not b ≡ false → f .first < 16 → f .third < 64
+      → y ≡ f .third → kept ≡ moveNamed f (n .modules) known (getD states k 0) (n .events) events → o ≡ precedes p (keyBy 0x13 (f .first) (f .second) (f .third))
+      → not ((o && kept) && eqb (getD owner y 0) (f .first)) ≡ false → Passed s 0x13 c i (atModuleMoves p n events owner known states) j
+      → Passed s 0x13 c i (atModuleMoves (keyBy 0x13 (f .first) (f .second) (f .third)) n events owner known states) (j + 5)
+  unfolding Passed atModuleMoves judgeBy orderBy indexBy namesBy rulesBy allBy inRange keyOf kindOf countsAfter eventsAfter modulesAfter supervisorsAfter
+  module-move-step events owner known states {y} e b1 l l2 y1 n1 o1 h v r =
+      let w : Bool = eqb (getD owner y 0) (f .first) in
+      let q = both (o && kept) w (not-false _ h) in
+      let m = both o kept (q .0) in
+      let n2 : moveNamed f (n .modules) known (getD states (f .first) 0) (n .events) events ≡ kept = cc in
+      let w2 : eqb (getD owner (f .third) 0) (f .first) ≡ w = cc in
+      reaches s 0x13 (j + 5) (reads-module-move s j g (stands-told s j 0x13 5 e b1)) (omega arith)
+      (simp (sym o1 ∙ m .0, n2 ∙ m .1, w2 ∙ q .1)) refl refl (λ z. absurd (omega arith)) (v r)
+
+  pub supervisor-move-step : (events known : ℕ) (states alphabet : List ℕ) {w : Bool} → b ≡ standsAt s j 0x15 5 → not b ≡ false → f .first < 32
+      → kept ≡ moveNamed f (n .supervisors) known (getD states k 0) (n .events) events → o ≡ precedes p (keyBy 0x15 (f .first) (f .second) (f .third))
+      → w ≡ bit (getD alphabet k 0) (f .third) → not ((o && kept) && w) ≡ false → Passed s 0x15 c i (atSupervisors p n events known states alphabet) j
+      → Passed s 0x15 c i (atSupervisors (keyBy 0x15 (f .first) (f .second) (f .third)) n events known states alphabet) (j + 5)
+  unfolding Passed atSupervisors judgeBy orderBy indexBy namesBy rulesBy allBy inRange keyOf kindOf countsAfter eventsAfter modulesAfter supervisorsAfter
+  supervisor-move-step events known states alphabet {w} e b1 l n1 o1 w1 h v r =
+      let q = both (o && kept) w (not-false _ h) in
+      let m = both o kept (q .0) in
+      let n2 : moveNamed f (n .supervisors) known (getD states (f .first) 0) (n .events) events ≡ kept = cc in
+      let w2 : bit (getD alphabet (f .first) 0) (f .third) ≡ w = cc in
+      reaches s 0x15 (j + 5) (reads-supervisor-move s j g (stands-told s j 0x15 5 e b1)) (omega arith)
+      (simp (sym o1 ∙ m .0, n2 ∙ m .1, w2 ∙ q .1)) refl refl (λ z. absurd (omega arith)) (v r)
+
+  pub disabling-step : (events controllable known : ℕ) (states alphabet : List ℕ) {x : ℕ} {w : Bool} → b ≡ standsAt s j 0x16 11 → not b ≡ false → f .first < 32
+      → x ≡ wordAt s (j + 3) → kept ≡ disablingNamed f x (n .supervisors) known (getD states k 0) events → o ≡ precedes p (keyBy 0x16 (f .first) (f .second) 0)
+      → w ≡ everyEvent x (bit (bitAnd controllable (getD alphabet k 0))) → not (((o && not (eqb x 0)) && kept) && w) ≡ false
+      → Passed s 0x16 c i (atDisablings p n events controllable known states alphabet) j
+      → Passed s 0x16 c i (atDisablings (keyBy 0x16 (f .first) (f .second) 0) n events controllable known states alphabet) (j + 11)
+  unfolding Passed atDisablings judgeBy orderBy indexBy namesBy rulesBy allBy inRange keyOf kindOf countsAfter eventsAfter modulesAfter supervisorsAfter
+  disabling-step events controllable known states alphabet {x} {w} e b1 l x1 n1 o1 w1 h v r =
+      let q = both ((o && not (eqb x 0)) && kept) w (not-false _ h) in
+      let m = both (o && not (eqb x 0)) kept (q .0) in
+      let t = both o (not (eqb x 0)) (m .0) in
+      let n2 : disablingNamed f x (n .supervisors) known (getD states (f .first) 0) events ≡ kept = cc in
+      let w2 : everyEvent x (bit (bitAnd controllable (getD alphabet (f .first) 0))) ≡ w = cc in
+      reaches s 0x16 (j + 11)
+      (reads-disabling s j g (stands-told s j 0x16 11 e b1) ∙ ap (λ (y : ℕ). Whole (Disabling (f .first) (f .second) y) (j + 11)) (sym x1)) (omega arith)
+      (simp (sym o1 ∙ t .0, t .1, n2 ∙ m .1, w2 ∙ q .1)) refl refl (λ z. absurd (omega arith)) (v r)
+
+  pub step-step : (known controllable : ℕ) (owner counts : List ℕ) {x u : ℕ} {t : Bool} → b ≡ standsAt s j 0x17 12 → not b ≡ false → x ≡ wordAt s (j + 4) → f .first < 64
+      → t ≡ eqb (getD owner (x % 64) 0) (getD owner (f .first) 0) → kept ≡ stepKept f x (n .events) known controllable t → o ≡ precedes p (keyBy 0x17 (f .first) (f .second) 0)
+      → not ((o && eqb (f .second) (getD counts k 0)) && kept) ≡ false → u ≡ (f .second + 1) % 256 → Passed s 0x17 c i (atSteps p n known controllable owner counts) j
+      → Passed s 0x17 c i (atSteps (keyBy 0x17 (f .first) (f .second) 0) n known controllable owner (set counts k u)) (j + 12)
+  unfolding Passed atSteps judgeBy orderBy indexBy namesBy rulesBy allBy keyOf kindOf countsAfter eventsAfter modulesAfter supervisorsAfter withEntry
+  step-step known controllable owner counts {x} {u} e b1 x1 l y1 n1 o1 h u1 v r =
+      let ev : Events = record { known = known; controllable = controllable; owner = owner; steps = counts } in
+      let w : Bool = eqb (f .second) (getD counts k 0) in
+      let q = both (o && w) kept (not-false _ h) in
+      let m = both o w (q .0) in
+      let own : Bool = eqb (getD owner (x % 64) 0) (getD owner (f .first) 0) in
+      let n2 : stepKept f x (n .events) known controllable own ≡ kept = cc in
+      let w1 : eqb (f .second) (getD counts (f .first) 0) ≡ w = cc in
+      let w2 : eqb (f .second) (stepsAt ev (f .first)) ≡ true = w1 ∙ m .1 in
       let ranged : Bool = inRange (Step (f .first) (f .second) (f .third) x) in
-      let known : Bool = ltb (f .first) (c .counts .events) && bit (ev .known) (f .first) in
-      let own : Bool = eqb (getD (ev .owner) (x % 64) 0) (getD (ev .owner) (f .first) 0) in
-      let t = both (ranged && known && bit (ev .controllable) (f .first))
-      (not (eqb (f .third) 5) || respondFits x (c .counts .events) (ev .known) (ev .controllable) own) (n2 ∙ q .1)
+      let known1 : Bool = ltb (f .first) (n .events) && bit known (f .first) in
+      let t = both (ranged && known1 && bit controllable (f .first)) (not (eqb (f .third) 5) || respondFits x (n .events) known controllable own) (n2 ∙ q .1) in
+      let t1 = both (ranged && known1) (bit controllable (f .first)) (t .0) in
+      let t2 = both ranged known1 (t1 .0) in
+      let z = respond-told n ev (f .first) x (eqb (f .third) 5) (t .1) in
+      let d = reaches s 0x17 (j + 12)
+      (reads-step s j g (stands-told s j 0x17 12 e b1) ∙ ap (λ (y : ℕ). Whole (Step (f .first) (f .second) (f .third) y) (j + 12)) (sym x1)) (omega arith)
+      (simp (sym o1 ∙ m .0, w2, t2 .0, t2 .1, t1 .1, z .0, z .1)) refl refl (λ z. absurd (omega arith)) (v r)
       in
-      let t1 = both (ranged && known) (bit (ev .controllable) (f .first)) (t .0) in
-      let t2 = both ranged known (t1 .0) in
-      let v = respond-told (c .counts) ev (f .first) x (eqb (f .third) 5) (t .1) in
-      let z : judgeBy (withSteps c ev p) (Step (f .first) (f .second) (f .third) x) ≡ 0 =
-      simp (sym o1 ∙ r .0, w2, t2 .0, t2 .1, t1 .1, v .0, v .1)
+      let g2 : withRecord (atSteps p n known controllable owner counts r) (Step (f .first) (f .second) (f .third) x)
+      ≡ atSteps (keyBy 0x17 (f .first) (f .second) 0) n known controllable owner (set counts k u) r = simp (lt-ltb (f .first) 64 l) cc
       in
-      let d = reaches (withSteps c ev p) j (j + 12)
-      (reads-step s j g (stands-told s j 0x17 12 e b1) ∙ ap (λ (x : ℕ). Whole (Step (f .first) (f .second) (f .third) x) (j + 12)) (sym x1)) (omega arith)
-      z (λ q. absurd (omega arith)) h
-      in
-      let t3 : set (ev .steps) (f .first) ((f .second + 1) % 256) ≡ set (ev .steps) k u = cc in
-      let t4 : withEntry 64 (ev .steps) (f .first) ((f .second + 1) % 256) ≡ set (ev .steps) k u = simp (lt-ltb _ _ l) t3 in
-      subst
-      (λ t. Reached s c i
-      (withSteps c (record { known = ev .known; controllable = ev .controllable; owner = ev .owner; steps = t }) (keyBy 0x17 (f .first) (f .second) 0)) (j + 12))
-      t4 d
+      subst (λ (x : Context). Stretch s 0x17 (c r) i x (j + 12)) g2 d

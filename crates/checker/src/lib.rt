@@ -1,11 +1,20 @@
-// The check of a plan image, in one pass over its records.
+// The check of a plan image, in one pass over its records: those of each kind in a loop of their own, and the judge where these stop.
 ghost use mathlib.Core.Path.{_≡_};
+ghost use lib.ListN.{length, getD, replicate};
+ghost use lib.Dec.{eqb};
+ghost use Prim.Native.Nat.{_+_, _%_, _≤_, _<_};
 ghost use Rattle.rules.specs.Check.{verdictOf, endAt};
-ghost use lib.ListN.{length};
-ghost use Prim.Native.Nat.{_+_, _≤_, _<_};
-ghost use Rattle.checker.specs.Stretch.{Passed, Stepped, standsAt, fieldsAt, moveNamed, disablingNamed, respondFits, stepKept};
+ghost use Rattle.places.specs.Places.{nowhere};
+ghost use Rattle.checker.specs.Examined.{examinedBy, examinedOf};
+ghost use Rattle.checker.specs.Stretch.{Reached, Passed, contextBy, eventsBy, modulesBy, supervisorsBy, headed};
+ghost use Rattle.checker.specs.Stretch.{atEvents, atModules, atModuleMoves, atSupervisors, atDisablings, atSteps};
+ghost use Rattle.checker.specs.Stretch.{standsAt, fieldsAt, eventKept, moduleKept, supervisorKept, moveNamed, disablingNamed, respondFits, stepKept, endKept};
 use context::Context;
+use context::Counts;
 use context::Events;
+use context::Modules;
+use context::Supervisors;
+use places::Places;
 use reader::Read;
 use records::Record;
 use records::RecordKey;
@@ -14,15 +23,29 @@ use rules::Verdict;
 // The longest image, in bytes.
 pub const LIMIT: usize = 49152;
 
+// Accepted, with the places of the plan's records, or the number and the offset.
+pub enum Examined {
+    Accepted(Places),
+    Refused(u8, usize),
+}
+
 // Where a stretch of records ends: the last record's kind and key, and the next offset.
 struct Place {
     last: RecordKey,
     next: usize,
 }
 
-// The same after steps, and the events with their counts of steps.
-struct PlaceOfSteps {
-    events: Events,
+// The same after modules or supervisors, and the numbers declared.
+struct PlaceOfNumbers {
+    known: u64,
+    last: RecordKey,
+    next: usize,
+}
+
+// The same after events, and those of them that are controllable.
+struct PlaceOfEvents {
+    known: u64,
+    controllable: u64,
     last: RecordKey,
     next: usize,
 }
@@ -47,15 +70,50 @@ fn stands(image: &[u8], at: usize, kind: u8, n: usize) -> bool
 }
 
 fn fields_at(image: &[u8], at: usize) -> Fields
-    requires { ⌜ at + 5 ≤ length (now image) ⌝ }
+    requires { ⌜ at + 4 ≤ length (now image) ⌝ }
     ensures { λ f. ⌜ f ≡ fieldsAt (now (image .entry)) at ⌝ }
 {
     Fields {
         first: image[at + 1],
         second: image[at + 2],
         third: image[at + 3],
-        fourth: image[at + 4],
+        fourth: words::byte_at(image, at + 4),
     }
+}
+
+fn event_kept(f: Fields, n: Counts) -> bool
+    ensures { λ t. ⌜ t ≡ eventKept f n ⌝ }
+{
+    let r = Record::Event {
+        number: f.first,
+        owner: f.second,
+        class: f.third,
+    };
+    records::in_range(r) & ((f.first < n.events) & (f.second < n.modules))
+}
+
+fn module_kept(f: Fields, n: Counts) -> bool
+    ensures { λ t. ⌜ t ≡ moduleKept f n ⌝ }
+{
+    let r = Record::Module {
+        number: f.first,
+        states: f.second,
+        initial: f.third,
+    };
+    records::in_range(r) & ((f.first < n.modules) & (f.third < f.second))
+}
+
+fn supervisor_kept(f: Fields, x: u64, n: Counts, events: u64) -> bool
+    ensures { λ t. ⌜ t ≡ supervisorKept f x n events ⌝ }
+{
+    let r = Record::Supervisor {
+        number: f.first,
+        states: f.second,
+        initial: f.third,
+        alphabet: x,
+    };
+    records::in_range(r)
+        & ((f.first < n.supervisors) & (f.third < f.second) & bits::within(x, events))
 }
 
 fn move_named(f: Fields, n: u8, known: u64, states: u8, events: u8, named: u64) -> bool
@@ -100,16 +158,141 @@ fn step_kept(f: Fields, x: u64, events: u8, named: u64, controllable: u64, same:
         & ((f.third != 5) | respond_fits(x, events, named, controllable, same))
 }
 
-// Passes the module moves from an offset on, up to a faulty one or a record of another kind.
-fn module_moves(image: &[u8], from: usize, c: Context) -> Place
-    ensures { λ p. ⌜ Passed (now (image .entry)) c from p ⌝ }
+// Whether the event that a respond step names is of the same module.
+fn same_module(owner: &[u8; 64], event: u8, operand: u64) -> bool
+    requires { ⌜ event < 64 ⌝ }
+    ensures { λ t. ⌜ t ≡ eqb (getD (now (owner .entry)) (operand % 64) 0) (getD (now (owner .entry)) event 0) ⌝ }
 {
-    let ev = c.events;
-    let ms = c.modules;
-    let mut last = c.last;
+    let k = words::wide(event);
+    let j = (operand % 64) as usize;
+    owner[j] == owner[k]
+}
+
+// Passes the events from an offset on, up to a faulty one or a record of another kind, and notes the module of each.
+fn events(
+    image: &[u8],
+    from: usize,
+    before: RecordKey,
+    n: Counts,
+    owner: &mut [u8; 64],
+) -> PlaceOfEvents
+    ensures { λ p. ⌜ Passed (now (image .entry)) 0x11 (atEvents before n 0 0 (now (owner .entry))) from (atEvents (p .last) n (p .known) (p .controllable) (now (owner .exit))) (p .next) ⌝ }
+{
+    let mut known: u64 = 0;
+    let mut controllable: u64 = 0;
+    let mut last = before;
     let mut i = from;
     loop {
-        let n = c.counts;
+        if !stands(image, i, 0x11, 4) {
+            return PlaceOfEvents {
+                known,
+                controllable,
+                last,
+                next: i,
+            };
+        }
+        let f = fields_at(image, i);
+        let e = f.first;
+        if 64 <= e {
+            return PlaceOfEvents {
+                known,
+                controllable,
+                last,
+                next: i,
+            };
+        }
+        let key = RecordKey {
+            kind: 0x11,
+            first: e,
+            second: 0,
+            third: 0,
+        };
+        let kept = event_kept(f, n);
+        if !(records::precedes(last, key) & kept) {
+            return PlaceOfEvents {
+                known,
+                controllable,
+                last,
+                next: i,
+            };
+        }
+        let k = words::wide(e);
+        known = bits::put(known, e, true);
+        controllable = bits::put(controllable, e, f.third == 1);
+        owner[k] = f.second;
+        last = key;
+        i = i + 4;
+    }
+}
+
+// Passes the modules from an offset on, in the same way, and notes how many states each has.
+fn modules(
+    image: &[u8],
+    from: usize,
+    before: RecordKey,
+    n: Counts,
+    states: &mut [u8; 16],
+) -> PlaceOfNumbers
+    ensures { λ p. ⌜ Passed (now (image .entry)) 0x12 (atModules before n 0 (now (states .entry))) from (atModules (p .last) n (p .known) (now (states .exit))) (p .next) ⌝ }
+{
+    let mut known: u64 = 0;
+    let mut last = before;
+    let mut i = from;
+    loop {
+        if !stands(image, i, 0x12, 4) {
+            return PlaceOfNumbers {
+                known,
+                last,
+                next: i,
+            };
+        }
+        let f = fields_at(image, i);
+        let m = f.first;
+        if 16 <= m {
+            return PlaceOfNumbers {
+                known,
+                last,
+                next: i,
+            };
+        }
+        let key = RecordKey {
+            kind: 0x12,
+            first: m,
+            second: 0,
+            third: 0,
+        };
+        let kept = module_kept(f, n);
+        if !(records::precedes(last, key) & kept) {
+            return PlaceOfNumbers {
+                known,
+                last,
+                next: i,
+            };
+        }
+        let k = words::wide(m);
+        known = bits::put(known, m, true);
+        states[k] = f.second;
+        last = key;
+        i = i + 4;
+    }
+}
+
+// Passes the module moves from an offset on, in the same way.
+fn module_moves(
+    image: &[u8],
+    from: usize,
+    before: RecordKey,
+    n: Counts,
+    events: u64,
+    owner: &[u8; 64],
+    known: u64,
+    states: &[u8; 16],
+) -> Place
+    ensures { λ p. ⌜ Passed (now (image .entry)) 0x13 (atModuleMoves before n events (now (owner .entry)) known (now (states .entry))) from (atModuleMoves (p .last) n events (now (owner .entry)) known (now (states .entry))) (p .next) ⌝ }
+{
+    let mut last = before;
+    let mut i = from;
+    loop {
         if !stands(image, i, 0x13, 5) {
             return Place { last, next: i };
         }
@@ -123,17 +306,17 @@ fn module_moves(image: &[u8], from: usize, c: Context) -> Place
             return Place { last, next: i };
         }
         let k = words::wide(m);
-        let states = ms.states[k];
+        let count = states[k];
         let j = words::wide(e);
-        let owner = ev.owner[j];
+        let of = owner[j];
         let key = RecordKey {
             kind: 0x13,
             first: m,
             second: f.second,
             third: e,
         };
-        let named = move_named(f, n.modules, ms.known, states, n.events, ev.known);
-        if !(records::precedes(last, key) & named & (owner == m)) {
+        let named = move_named(f, n.modules, known, count, n.events, events);
+        if !(records::precedes(last, key) & named & (of == m)) {
             return Place { last, next: i };
         }
         last = key;
@@ -141,16 +324,78 @@ fn module_moves(image: &[u8], from: usize, c: Context) -> Place
     }
 }
 
-// Passes the supervisor moves from an offset on, up to a faulty one or a record of another kind.
-fn supervisor_moves(image: &[u8], from: usize, c: Context) -> Place
-    ensures { λ p. ⌜ Passed (now (image .entry)) c from p ⌝ }
+// Passes the supervisors from an offset on, in the same way, and notes the states and the alphabet of each.
+fn supervisors(
+    image: &[u8],
+    from: usize,
+    before: RecordKey,
+    n: Counts,
+    events: u64,
+    states: &mut [u8; 32],
+    alphabet: &mut [u64; 32],
+) -> PlaceOfNumbers
+    ensures { λ p. ⌜ Passed (now (image .entry)) 0x14 (atSupervisors before n events 0 (now (states .entry)) (now (alphabet .entry))) from (atSupervisors (p .last) n events (p .known) (now (states .exit)) (now (alphabet .exit))) (p .next) ⌝ }
 {
-    let ev = c.events;
-    let vs = c.supervisors;
-    let mut last = c.last;
+    let mut known: u64 = 0;
+    let mut last = before;
     let mut i = from;
     loop {
-        let n = c.counts;
+        if !stands(image, i, 0x14, 12) {
+            return PlaceOfNumbers {
+                known,
+                last,
+                next: i,
+            };
+        }
+        let f = fields_at(image, i);
+        let x = words::word_at(image, i + 4);
+        let v = f.first;
+        if 32 <= v {
+            return PlaceOfNumbers {
+                known,
+                last,
+                next: i,
+            };
+        }
+        let key = RecordKey {
+            kind: 0x14,
+            first: v,
+            second: 0,
+            third: 0,
+        };
+        let kept = supervisor_kept(f, x, n, events);
+        if !(records::precedes(last, key) & kept) {
+            return PlaceOfNumbers {
+                known,
+                last,
+                next: i,
+            };
+        }
+        let k = words::wide(v);
+        known = bits::put(known, v, true);
+        states[k] = f.second;
+        alphabet[k] = x;
+        last = key;
+        i = i + 12;
+    }
+}
+
+// Passes the supervisor moves from an offset on, in the same way.
+fn supervisor_moves(
+    image: &[u8],
+    from: usize,
+    before: RecordKey,
+    n: Counts,
+    events: u64,
+    known: u64,
+    states: &[u8; 32],
+    alphabet: &[u64; 32],
+) -> Place
+    ensures { λ p. ⌜ Passed (now (image .entry)) 0x15 (atSupervisors before n events known (now (states .entry)) (now (alphabet .entry))) from (atSupervisors (p .last) n events known (now (states .entry)) (now (alphabet .entry))) (p .next) ⌝ }
+{
+    let mut last = before;
+    let mut i = from;
+    loop {
         if !stands(image, i, 0x15, 5) {
             return Place { last, next: i };
         }
@@ -160,16 +405,16 @@ fn supervisor_moves(image: &[u8], from: usize, c: Context) -> Place
             return Place { last, next: i };
         }
         let k = words::wide(v);
-        let states = vs.states[k];
-        let alphabet = vs.alphabet[k];
+        let count = states[k];
+        let own = alphabet[k];
         let key = RecordKey {
             kind: 0x15,
             first: v,
             second: f.second,
             third: f.third,
         };
-        let named = move_named(f, n.supervisors, vs.known, states, n.events, ev.known);
-        if !(records::precedes(last, key) & named & bits::has(alphabet, f.third)) {
+        let named = move_named(f, n.supervisors, known, count, n.events, events);
+        if !(records::precedes(last, key) & named & bits::has(own, f.third)) {
             return Place { last, next: i };
         }
         last = key;
@@ -178,15 +423,22 @@ fn supervisor_moves(image: &[u8], from: usize, c: Context) -> Place
 }
 
 // Passes the disablings from an offset on, in the same way.
-fn disablings(image: &[u8], from: usize, c: Context) -> Place
-    ensures { λ p. ⌜ Passed (now (image .entry)) c from p ⌝ }
+fn disablings(
+    image: &[u8],
+    from: usize,
+    before: RecordKey,
+    n: Counts,
+    events: u64,
+    controllable: u64,
+    known: u64,
+    states: &[u8; 32],
+    alphabet: &[u64; 32],
+) -> Place
+    ensures { λ p. ⌜ Passed (now (image .entry)) 0x16 (atDisablings before n events controllable known (now (states .entry)) (now (alphabet .entry))) from (atDisablings (p .last) n events controllable known (now (states .entry)) (now (alphabet .entry))) (p .next) ⌝ }
 {
-    let ev = c.events;
-    let vs = c.supervisors;
-    let mut last = c.last;
+    let mut last = before;
     let mut i = from;
     loop {
-        let n = c.counts;
         if !stands(image, i, 0x16, 11) {
             return Place { last, next: i };
         }
@@ -197,16 +449,16 @@ fn disablings(image: &[u8], from: usize, c: Context) -> Place
             return Place { last, next: i };
         }
         let k = words::wide(v);
-        let states = vs.states[k];
-        let alphabet = vs.alphabet[k];
+        let count = states[k];
+        let own = alphabet[k];
         let key = RecordKey {
             kind: 0x16,
             first: v,
             second: f.second,
             third: 0,
         };
-        let named = disabling_named(f, mask, n.supervisors, vs.known, states, ev.known);
-        let kept = bits::within(mask, ev.controllable & alphabet);
+        let named = disabling_named(f, mask, n.supervisors, known, count, events);
+        let kept = bits::within(mask, controllable & own);
         if !(records::precedes(last, key) & (mask != 0) & named & kept) {
             return Place { last, next: i };
         }
@@ -215,137 +467,269 @@ fn disablings(image: &[u8], from: usize, c: Context) -> Place
     }
 }
 
-// Passes the steps from an offset on, in the same way, and counts them.
-fn steps(image: &[u8], from: usize, c: Context) -> PlaceOfSteps
-    ensures { λ p. ⌜ Stepped (now (image .entry)) c from p ⌝ }
+// Passes the steps from an offset on, in the same way, and counts those of each event.
+fn steps(
+    image: &[u8],
+    from: usize,
+    before: RecordKey,
+    n: Counts,
+    known: u64,
+    controllable: u64,
+    owner: &[u8; 64],
+    counts: &mut [u8; 64],
+) -> Place
+    ensures { λ p. ⌜ Passed (now (image .entry)) 0x17 (atSteps before n known controllable (now (owner .entry)) (now (counts .entry))) from (atSteps (p .last) n known controllable (now (owner .entry)) (now (counts .exit))) (p .next) ⌝ }
 {
-    let mut events = c.events;
-    let mut last = c.last;
+    let mut last = before;
     let mut i = from;
     loop {
-        let n = c.counts;
         if !stands(image, i, 0x17, 12) {
-            return PlaceOfSteps {
-                events,
-                last,
-                next: i,
-            };
+            return Place { last, next: i };
         }
         let f = fields_at(image, i);
         let x = words::word_at(image, i + 4);
         let e = f.first;
         if 64 <= e {
-            return PlaceOfSteps {
-                events,
-                last,
-                next: i,
-            };
+            return Place { last, next: i };
         }
         let k = words::wide(e);
-        let owner = events.owner[k];
-        let count = events.steps[k];
-        let y = (x % 64) as u8;
-        let j = words::wide(y);
-        let other = events.owner[j];
+        let count = counts[k];
+        let same = same_module(owner, e, x);
         let key = RecordKey {
             kind: 0x17,
             first: e,
             second: f.second,
             third: 0,
         };
-        let kept = step_kept(
-            f,
-            x,
-            n.events,
-            events.known,
-            events.controllable,
-            other == owner,
-        );
+        let kept = step_kept(f, x, n.events, known, controllable, same);
         if !(records::precedes(last, key) & (f.second == count) & kept) {
-            return PlaceOfSteps {
-                events,
-                last,
-                next: i,
-            };
+            return Place { last, next: i };
         }
-        events.steps[k] = std::num::wrapping_add_u8(f.second, 1);
+        counts[k] = std::num::wrapping_add_u8(f.second, 1);
         last = key;
         i = i + 12;
     }
 }
 
-// Passes the records of a kind of which a plan has many; steps have `steps`. Of any other kind there is no stretch to pass.
-fn pass(image: &[u8], kind: u8, from: usize, c: Context) -> Place
-    ensures { λ p. ⌜ Passed (now (image .entry)) c from p ⌝ }
+// Whether a faultless end record stands at an offset.
+fn end_kept(
+    image: &[u8],
+    at: usize,
+    last: RecordKey,
+    n: Counts,
+    modules: u64,
+    supervisors: u64,
+    events: u64,
+) -> bool
+    ensures { λ t. ⌜ t ≡ endKept (now (image .entry)) at last n modules supervisors events ⌝ }
 {
-    match kind {
-        0x13 => module_moves(image, from, c),
-        0x15 => supervisor_moves(image, from, c),
-        0x16 => disablings(image, from, c),
-        _ => {
-            let last = c.last;
-            Place { last, next: from }
+    let key = RecordKey {
+        kind: 0x1f,
+        first: 0,
+        second: 0,
+        third: 0,
+    };
+    (stands(image, at, 0x1f, 1) & records::precedes(last, key))
+        & (bits::has_below(modules, n.modules)
+            & bits::has_below(supervisors, n.supervisors)
+            & bits::has_below(events, n.events))
+}
+
+// A faultless end record at an offset: nothing may follow it.
+fn end_at(image: &[u8], at: usize, p: Places) -> Examined
+    requires { ⌜ at < length (now image) ⌝ }
+    ensures { λ x. ⌜ x ≡ examinedBy p (endAt (length (now (image .entry))) at) ⌝ }
+{
+    let after = at + 1;
+    if after == image.len() {
+        Examined::Accepted(p)
+    } else {
+        Examined::Refused(4, after)
+    }
+}
+
+// Judges the records one by one, from an offset on.
+fn judged(image: &[u8], from: usize, before: Context, found: Places) -> Examined
+    requires { ⌜ Reached (now image) before from found ⌝ }
+    ensures { λ x. ⌜ x ≡ examinedOf (now (image .entry)) ⌝ }
+{
+    let mut c = before;
+    let mut p = found;
+    let mut i = from;
+    loop {
+        match reader::read_at(image, i) {
+            Read::Nothing => {
+                return Examined::Refused(3, i);
+            }
+            Read::Cut => {
+                return Examined::Refused(3, i);
+            }
+            Read::Unknown => {
+                return Examined::Refused(2, i);
+            }
+            Read::Whole(r, next) => {
+                let n = judge::judge(c, r);
+                if n != 0 {
+                    return Examined::Refused(n, i);
+                }
+                let k = records::kind_of(r);
+                let last = c.last;
+                p = places::noted(p, last.kind, k, i);
+                if k == 0x1f {
+                    return end_at(image, i, p);
+                }
+                c = context::with_record(c, r);
+                i = next;
+            }
         }
     }
 }
 
-// A faultless end record at an offset: nothing may follow it.
-fn end_at(image: &[u8], at: usize) -> Verdict
-    requires { ⌜ at < length (now image) ⌝ }
-    ensures { λ v. ⌜ v ≡ endAt (length (now (image .entry))) at ⌝ }
+// After the module moves: the records from the supervisors on. `sizes` has the states of each module.
+fn after_modules(
+    image: &[u8],
+    from: usize,
+    before: RecordKey,
+    n: Counts,
+    found: Places,
+    known: u64,
+    controllable: u64,
+    owner: &[u8; 64],
+    modules: u64,
+    sizes: &[u8; 16],
+) -> Examined
+    requires { ⌜ Reached (now image) (contextBy before n (eventsBy known controllable (now owner) (replicate 64 0)) (modulesBy modules (now sizes)) (supervisorsBy 0 (replicate 32 0) (replicate 32 0))) from found ⌝ }
+    ensures { λ x. ⌜ x ≡ examinedOf (now (image .entry)) ⌝ }
 {
-    let after = at + 1;
-    if after == image.len() {
-        Verdict::Accepted
-    } else {
-        Verdict::Refused(4, after)
+    let mut states = [0u8; 32];
+    let mut alphabet = [0u64; 32];
+    let mut counts = [0u8; 64];
+    let v = supervisors(image, from, before, n, known, &mut states, &mut alphabet);
+    let vq = v.last;
+    let vp = places::noted(found, before.kind, vq.kind, from);
+    let m = supervisor_moves(image, v.next, vq, n, known, v.known, &states, &alphabet);
+    let mq = m.last;
+    let mp = places::noted(vp, vq.kind, mq.kind, v.next);
+    let d = disablings(
+        image,
+        m.next,
+        mq,
+        n,
+        known,
+        controllable,
+        v.known,
+        &states,
+        &alphabet,
+    );
+    let dq = d.last;
+    let dp = places::noted(mp, mq.kind, dq.kind, m.next);
+    let s = steps(
+        image,
+        d.next,
+        dq,
+        n,
+        known,
+        controllable,
+        owner,
+        &mut counts,
+    );
+    let sq = s.last;
+    let sp = places::noted(dp, dq.kind, sq.kind, d.next);
+    if end_kept(image, s.next, sq, n, modules, v.known, known) {
+        let p = places::noted(sp, sq.kind, 0x1f, s.next);
+        return end_at(image, s.next, p);
     }
+    let c = Context {
+        begun: true,
+        last: sq,
+        counts: n,
+        events: Events {
+            known,
+            controllable,
+            owner: *owner,
+            steps: counts,
+        },
+        modules: Modules {
+            known: modules,
+            states: *sizes,
+        },
+        supervisors: Supervisors {
+            known: v.known,
+            states,
+            alphabet,
+        },
+    };
+    judged(image, s.next, c, sp)
+}
+
+// After the head: the records from the events on.
+fn after_head(image: &[u8], n: Counts) -> Examined
+    requires { ⌜ Reached (now image) (headed n) 4 nowhere ⌝ }
+    ensures { λ x. ⌜ x ≡ examinedOf (now (image .entry)) ⌝ }
+{
+    let head = RecordKey {
+        kind: 0x10,
+        first: 0,
+        second: 0,
+        third: 0,
+    };
+    let mut owner = [0u8; 64];
+    let mut states = [0u8; 16];
+    let e = events(image, 4, head, n, &mut owner);
+    let eq = e.last;
+    let ep = places::noted(places::nowhere(), 0x10, eq.kind, 4);
+    let m = modules(image, e.next, eq, n, &mut states);
+    let mq = m.last;
+    let mp = places::noted(ep, eq.kind, mq.kind, e.next);
+    let v = module_moves(image, m.next, mq, n, e.known, &owner, m.known, &states);
+    let vq = v.last;
+    let vp = places::noted(mp, mq.kind, vq.kind, m.next);
+    after_modules(
+        image,
+        v.next,
+        vq,
+        n,
+        vp,
+        e.known,
+        e.controllable,
+        &owner,
+        m.known,
+        &states,
+    )
+}
+
+// Accepted, with the places of the records, or the number and the offset.
+pub fn examine(image: &[u8]) -> Examined
+    ensures { λ x. ⌜ x ≡ examinedOf (now (image .entry)) ⌝ }
+{
+    if LIMIT < image.len() {
+        return Examined::Refused(1, 0);
+    }
+    if stands(image, 0, 0x10, 4) {
+        let f = fields_at(image, 0);
+        let r = Record::Head {
+            modules: f.first,
+            supervisors: f.second,
+            events: f.third,
+        };
+        if records::in_range(r) {
+            let n = Counts {
+                modules: f.first,
+                supervisors: f.second,
+                events: f.third,
+            };
+            return after_head(image, n);
+        }
+    }
+    judged(image, 0, context::started(), places::nowhere())
 }
 
 // Accepted, or the number and the offset.
 pub fn check(image: &[u8]) -> Verdict
     ensures { λ v. ⌜ v ≡ verdictOf (now (image .entry)) ⌝ }
 {
-    if LIMIT < image.len() {
-        return Verdict::Refused(1, 0);
-    }
-    let mut c = context::started();
-    let mut i: usize = 0;
-    loop {
-        match reader::read_at(image, i) {
-            Read::Nothing => {
-                return Verdict::Refused(3, i);
-            }
-            Read::Cut => {
-                return Verdict::Refused(3, i);
-            }
-            Read::Unknown => {
-                return Verdict::Refused(2, i);
-            }
-            Read::Whole(r, next) => {
-                let n = judge::judge(c, r);
-                if n != 0 {
-                    return Verdict::Refused(n, i);
-                }
-                let k = records::kind_of(r);
-                if k == 0x1f {
-                    return end_at(image, i);
-                }
-                c = context::with_record(c, r);
-                if k == 0x17 {
-                    let p = steps(image, next, c);
-                    let events = p.events;
-                    let last = p.last;
-                    c.events = events;
-                    c.last = last;
-                    i = p.next;
-                } else {
-                    let p = pass(image, k, next, c);
-                    let last = p.last;
-                    c.last = last;
-                    i = p.next;
-                }
-            }
-        }
+    match examine(image) {
+        Examined::Accepted(_) => Verdict::Accepted,
+        Examined::Refused(n, o) => Verdict::Refused(n, o),
     }
 }

@@ -2,16 +2,16 @@ use borrow.Author.Needs.{needs}
 use Prim.Native.Nat.{_-_}
 use lib.ListN.{length}
 use lib.Dec.{lit≤}
-use Rattle.checker.specs.Stretch.{withLast, Reached}
+use Rattle.checker.specs.Stretch.{Passed, atDisablings}
 use Rattle.checker.proofs.Stretch.{begins-stretch, fields-by, inside-by, fits-by, further-by, disabling-step}
 use Rattle.checker.proofs.disablings.Statement.{statement}
 use Rattle.checker.proofs.disablings.Tie as tie
 
 abbrev Inv-loop : tie.InvT-loop
-Inv-loop image from c ev vs last₀ i₀ last i = Reached image c from (withLast c last) i
+Inv-loop image from n events controllable known states alphabet last₀ i₀ last i = Passed image 0x16 (atDisablings last₀ n events controllable known states alphabet) from (atDisablings last n events controllable known states alphabet) i
 
 abbrev μ-loop : tie.MeasureT-loop
-μ-loop image from c ev vs last₀ i₀ last i = length image - i
+μ-loop image from n events controllable known states alphabet last₀ i₀ last i = length image - i
 
 loop-holds : tie.Need-loop-holds Inv-loop μ-loop
 loop-holds c = search begins-stretch
@@ -37,14 +37,14 @@ returns-2 c = search needs
 wide-requires : tie.Need-wide-requires Inv-loop μ-loop
 wide-requires c κs = search needs
 
-element-copy-out-states : tie.Need-element-copy-out-states Inv-loop μ-loop
-element-copy-out-states c = search needs
+element-copy-out-count : tie.Need-element-copy-out-count Inv-loop μ-loop
+element-copy-out-count c = search needs
 
-mul-alphabet : tie.Need-mul-alphabet Inv-loop μ-loop
-mul-alphabet c = search needs
+mul-own : tie.Need-mul-own Inv-loop μ-loop
+mul-own c = search needs
 
-element-copy-out-alphabet : tie.Need-element-copy-out-alphabet Inv-loop μ-loop
-element-copy-out-alphabet c = search needs
+element-copy-out-own : tie.Need-element-copy-out-own Inv-loop μ-loop
+element-copy-out-own c = search needs
 
 disabling-named-requires : tie.Need-disabling-named-requires Inv-loop μ-loop
 disabling-named-requires c κs = search needs
@@ -81,9 +81,9 @@ disablings-spec =
     word-at-requires
     returns-2
     wide-requires
-    element-copy-out-states
-    mul-alphabet
-    element-copy-out-alphabet
+    element-copy-out-count
+    mul-own
+    element-copy-out-own
     disabling-named-requires
     within-requires
     precedes-requires

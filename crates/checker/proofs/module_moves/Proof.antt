@@ -2,16 +2,16 @@ use borrow.Author.Needs.{needs}
 use Prim.Native.Nat.{_-_}
 use lib.ListN.{length}
 use lib.Dec.{lit≤}
-use Rattle.checker.specs.Stretch.{withLast, Reached}
-use Rattle.checker.proofs.Stretch.{begins-stretch, fields-by, fits-by, further-by, module-step}
+use Rattle.checker.specs.Stretch.{Passed, atModuleMoves}
+use Rattle.checker.proofs.Stretch.{begins-stretch, fields-by, fits-by, further-by, module-move-step}
 use Rattle.checker.proofs.module_moves.Statement.{statement}
 use Rattle.checker.proofs.module_moves.Tie as tie
 
 abbrev Inv-loop : tie.InvT-loop
-Inv-loop image from c ev ms last₀ i₀ last i = Reached image c from (withLast c last) i
+Inv-loop image from n events owner known states last₀ i₀ last i = Passed image 0x13 (atModuleMoves last₀ n events owner known states) from (atModuleMoves last n events owner known states) i
 
 abbrev μ-loop : tie.MeasureT-loop
-μ-loop image from c ev ms last₀ i₀ last i = length image - i
+μ-loop image from n events owner known states last₀ i₀ last i = length image - i
 
 loop-holds : tie.Need-loop-holds Inv-loop μ-loop
 loop-holds c = search begins-stretch
@@ -34,14 +34,14 @@ returns-3 c = search needs
 wide-requires : tie.Need-wide-requires Inv-loop μ-loop
 wide-requires c κs = search needs
 
-element-copy-out-states : tie.Need-element-copy-out-states Inv-loop μ-loop
-element-copy-out-states c = search needs
+element-copy-out-count : tie.Need-element-copy-out-count Inv-loop μ-loop
+element-copy-out-count c = search needs
 
 wide-requires-2 : tie.Need-wide-requires-2 Inv-loop μ-loop
 wide-requires-2 c κs = search needs
 
-element-copy-out-owner : tie.Need-element-copy-out-owner Inv-loop μ-loop
-element-copy-out-owner c = search needs
+element-copy-out-of : tie.Need-element-copy-out-of Inv-loop μ-loop
+element-copy-out-of c = search needs
 
 move-named-requires : tie.Need-move-named-requires Inv-loop μ-loop
 move-named-requires c κs = search needs
@@ -59,7 +59,7 @@ loop-less : tie.Need-loop-less Inv-loop μ-loop
 loop-less c = search (further-by, lit≤)
 
 loop-again : tie.Need-loop-again Inv-loop μ-loop
-loop-again c = search module-step
+loop-again c = search module-move-step
 
 pub module-moves-spec : {M : Type 1} → statement M
 module-moves-spec =
@@ -74,9 +74,9 @@ module-moves-spec =
     returns-2
     returns-3
     wide-requires
-    element-copy-out-states
+    element-copy-out-count
     wide-requires-2
-    element-copy-out-owner
+    element-copy-out-of
     move-named-requires
     precedes-requires
     returns-4

@@ -2,16 +2,16 @@ use borrow.Author.Needs.{needs}
 use Prim.Native.Nat.{_-_}
 use lib.ListN.{length}
 use lib.Dec.{lit≤}
-use Rattle.checker.specs.Stretch.{withSteps, Reached}
+use Rattle.checker.specs.Stretch.{Passed, atSteps}
 use Rattle.checker.proofs.Stretch.{begins-stretch, fields-by, inside-by, fits-by, further-by, step-step}
 use Rattle.checker.proofs.steps.Statement.{statement}
 use Rattle.checker.proofs.steps.Tie as tie
 
 abbrev Inv-loop : tie.InvT-loop
-Inv-loop image from c events₀ last₀ i₀ events last i = Reached image c from (withSteps c events last) i
+Inv-loop image from n known controllable owner counts₀ last₀ i₀ counts last i = Passed image 0x17 (atSteps last₀ n known controllable owner counts₀) from (atSteps last n known controllable owner counts) i
 
 abbrev μ-loop : tie.MeasureT-loop
-μ-loop image from c events₀ last₀ i₀ events last i = length image - i
+μ-loop image from n known controllable owner counts₀ last₀ i₀ counts last i = length image - i
 
 loop-holds : tie.Need-loop-holds Inv-loop μ-loop
 loop-holds c = search begins-stretch
@@ -37,20 +37,11 @@ returns-2 c = search needs
 wide-requires : tie.Need-wide-requires Inv-loop μ-loop
 wide-requires c κs = search needs
 
-element-copy-out-owner : tie.Need-element-copy-out-owner Inv-loop μ-loop
-element-copy-out-owner c = search needs
-
 element-copy-out-count : tie.Need-element-copy-out-count Inv-loop μ-loop
 element-copy-out-count c = search needs
 
-cast-y : tie.Need-cast-y Inv-loop μ-loop
-cast-y c = search needs
-
-wide-requires-2 : tie.Need-wide-requires-2 Inv-loop μ-loop
-wide-requires-2 c κs = search needs
-
-element-copy-out-other : tie.Need-element-copy-out-other Inv-loop μ-loop
-element-copy-out-other c = search needs
+same-module-requires : tie.Need-same-module-requires Inv-loop μ-loop
+same-module-requires c κs = search needs
 
 step-kept-requires : tie.Need-step-kept-requires Inv-loop μ-loop
 step-kept-requires c κs = search needs
@@ -64,8 +55,8 @@ returns-3 c = search needs
 wrapping-add-u8-requires : tie.Need-wrapping-add-u8-requires Inv-loop μ-loop
 wrapping-add-u8-requires c κs = search needs
 
-element-write-events : tie.Need-element-write-events Inv-loop μ-loop
-element-write-events c = search needs
+element-write-counts : tie.Need-element-write-counts Inv-loop μ-loop
+element-write-counts c = search needs
 
 add-i : tie.Need-add-i Inv-loop μ-loop
 add-i c = search (needs, fits-by)
@@ -90,16 +81,13 @@ steps-spec =
     word-at-requires
     returns-2
     wide-requires
-    element-copy-out-owner
     element-copy-out-count
-    cast-y
-    wide-requires-2
-    element-copy-out-other
+    same-module-requires
     step-kept-requires
     precedes-requires
     returns-3
     wrapping-add-u8-requires
-    element-write-events
+    element-write-counts
     add-i
     loop-less
     loop-again)

@@ -2,16 +2,16 @@ use borrow.Author.Needs.{needs}
 use Prim.Native.Nat.{_-_}
 use lib.ListN.{length}
 use lib.Dec.{lit≤}
-use Rattle.checker.specs.Stretch.{withLast, Reached}
-use Rattle.checker.proofs.Stretch.{begins-stretch, fields-by, fits-by, further-by, supervisor-step}
+use Rattle.checker.specs.Stretch.{Passed, atSupervisors}
+use Rattle.checker.proofs.Stretch.{begins-stretch, fields-by, fits-by, further-by, supervisor-move-step}
 use Rattle.checker.proofs.supervisor_moves.Statement.{statement}
 use Rattle.checker.proofs.supervisor_moves.Tie as tie
 
 abbrev Inv-loop : tie.InvT-loop
-Inv-loop image from c ev vs last₀ i₀ last i = Reached image c from (withLast c last) i
+Inv-loop image from n events known states alphabet last₀ i₀ last i = Passed image 0x15 (atSupervisors last₀ n events known states alphabet) from (atSupervisors last n events known states alphabet) i
 
 abbrev μ-loop : tie.MeasureT-loop
-μ-loop image from c ev vs last₀ i₀ last i = length image - i
+μ-loop image from n events known states alphabet last₀ i₀ last i = length image - i
 
 loop-holds : tie.Need-loop-holds Inv-loop μ-loop
 loop-holds c = search begins-stretch
@@ -31,14 +31,14 @@ returns-2 c = search needs
 wide-requires : tie.Need-wide-requires Inv-loop μ-loop
 wide-requires c κs = search needs
 
-element-copy-out-states : tie.Need-element-copy-out-states Inv-loop μ-loop
-element-copy-out-states c = search needs
+element-copy-out-count : tie.Need-element-copy-out-count Inv-loop μ-loop
+element-copy-out-count c = search needs
 
-mul-alphabet : tie.Need-mul-alphabet Inv-loop μ-loop
-mul-alphabet c = search needs
+mul-own : tie.Need-mul-own Inv-loop μ-loop
+mul-own c = search needs
 
-element-copy-out-alphabet : tie.Need-element-copy-out-alphabet Inv-loop μ-loop
-element-copy-out-alphabet c = search needs
+element-copy-out-own : tie.Need-element-copy-out-own Inv-loop μ-loop
+element-copy-out-own c = search needs
 
 move-named-requires : tie.Need-move-named-requires Inv-loop μ-loop
 move-named-requires c κs = search needs
@@ -59,7 +59,7 @@ loop-less : tie.Need-loop-less Inv-loop μ-loop
 loop-less c = search (further-by, lit≤)
 
 loop-again : tie.Need-loop-again Inv-loop μ-loop
-loop-again c = search supervisor-step
+loop-again c = search supervisor-move-step
 
 pub supervisor-moves-spec : {M : Type 1} → statement M
 supervisor-moves-spec =
@@ -73,9 +73,9 @@ supervisor-moves-spec =
     fields-at-requires
     returns-2
     wide-requires
-    element-copy-out-states
-    mul-alphabet
-    element-copy-out-alphabet
+    element-copy-out-count
+    mul-own
+    element-copy-out-own
     move-named-requires
     precedes-requires
     has-requires

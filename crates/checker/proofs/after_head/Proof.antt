@@ -1,0 +1,52 @@
+use borrow.Author.Needs.{needs}
+use Rattle.checker.proofs.Loop.{after-three, noted-from}
+use Rattle.checker.proofs.after_head.Statement.{statement}
+use Rattle.checker.proofs.after_head.Tie as tie
+
+events-requires : tie.Need-events-requires
+events-requires c κs = search needs
+
+nowhere-requires : tie.Need-nowhere-requires
+nowhere-requires c κs = search needs
+
+noted-requires : tie.Need-noted-requires
+noted-requires c κs = search needs
+
+modules-requires : tie.Need-modules-requires
+modules-requires c κs = search needs
+
+noted-requires-2 : tie.Need-noted-requires-2
+noted-requires-2 c κs = search needs
+
+module-moves-requires : tie.Need-module-moves-requires
+module-moves-requires c κs = search needs
+
+noted-requires-3 : tie.Need-noted-requires-3
+noted-requires-3 c κs = search needs
+
+after-modules-requires : tie.Need-after-modules-requires
+after-modules-requires c κs =
+    let v = c .before .before in
+    let m = v .before .before .before .before .before in
+    let e = m .before .before .before .before in
+    let a = e .before .before .before in
+    after-three _ _ _ _ _ _ _ _ _ _ _ _ _ _ _ _ _ _ _ (a .before .before .before .pre) (a .events .ensures)
+    (noted-from _ _ _ _ (e .noted .ensures) (e .before .nowhere .ensures))
+    (m .before .before .modules .ensures) (m .noted2 .ensures) (v .before .before .module-moves .ensures) (v .noted3 .ensures)
+
+returns : tie.Need-returns
+returns c = search needs
+
+pub after-head-spec : {M : Type 1} → statement M
+after-head-spec =
+    tie.close
+    (tie.spec
+    events-requires
+    nowhere-requires
+    noted-requires
+    modules-requires
+    noted-requires-2
+    module-moves-requires
+    noted-requires-3
+    after-modules-requires
+    returns)

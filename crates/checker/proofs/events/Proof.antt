@@ -1,0 +1,81 @@
+use borrow.Author.Needs.{needs}
+use Prim.Native.Nat.{_-_}
+use lib.ListN.{length}
+use lib.Dec.{lit≤}
+use Rattle.checker.specs.Stretch.{Passed, atEvents}
+use Rattle.checker.proofs.Stretch.{begins-stretch, fields-by, fits-by, further-by, event-step}
+use Rattle.checker.proofs.events.Statement.{statement}
+use Rattle.checker.proofs.events.Tie as tie
+
+abbrev Inv-loop : tie.InvT-loop
+Inv-loop image from n owner₀ known₀ controllable₀ last₀ i₀ owner known controllable last i = Passed image 0x11 (atEvents last₀ n 0 0 owner₀) from (atEvents last n known controllable owner) i
+
+abbrev μ-loop : tie.MeasureT-loop
+μ-loop image from n owner₀ known₀ controllable₀ last₀ i₀ owner known controllable last i = length image - i
+
+loop-holds : tie.Need-loop-holds Inv-loop μ-loop
+loop-holds c = search begins-stretch
+
+stands-requires : tie.Need-stands-requires Inv-loop μ-loop
+stands-requires c κs = search needs
+
+returns : tie.Need-returns Inv-loop μ-loop
+returns c = search needs
+
+fields-at-requires : tie.Need-fields-at-requires Inv-loop μ-loop
+fields-at-requires c κs = search (fields-by, lit≤)
+
+returns-2 : tie.Need-returns-2 Inv-loop μ-loop
+returns-2 c = search needs
+
+event-kept-requires : tie.Need-event-kept-requires Inv-loop μ-loop
+event-kept-requires c κs = search needs
+
+precedes-requires : tie.Need-precedes-requires Inv-loop μ-loop
+precedes-requires c κs = search needs
+
+returns-3 : tie.Need-returns-3 Inv-loop μ-loop
+returns-3 c = search needs
+
+wide-requires : tie.Need-wide-requires Inv-loop μ-loop
+wide-requires c κs = search needs
+
+put-requires : tie.Need-put-requires Inv-loop μ-loop
+put-requires c κs = search needs
+
+put-requires-2 : tie.Need-put-requires-2 Inv-loop μ-loop
+put-requires-2 c κs = search needs
+
+element-write-owner : tie.Need-element-write-owner Inv-loop μ-loop
+element-write-owner c = search needs
+
+add-i : tie.Need-add-i Inv-loop μ-loop
+add-i c = search (needs, fits-by)
+
+loop-less : tie.Need-loop-less Inv-loop μ-loop
+loop-less c = search (further-by, lit≤)
+
+loop-again : tie.Need-loop-again Inv-loop μ-loop
+loop-again c = search event-step
+
+pub events-spec : {M : Type 1} → statement M
+events-spec =
+    tie.close
+    (tie.spec
+    Inv-loop
+    μ-loop
+    loop-holds
+    stands-requires
+    returns
+    fields-at-requires
+    returns-2
+    event-kept-requires
+    precedes-requires
+    returns-3
+    wide-requires
+    put-requires
+    put-requires-2
+    element-write-owner
+    add-i
+    loop-less
+    loop-again)

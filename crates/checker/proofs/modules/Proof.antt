@@ -1,0 +1,77 @@
+use borrow.Author.Needs.{needs}
+use Prim.Native.Nat.{_-_}
+use lib.ListN.{length}
+use lib.Dec.{lit≤}
+use Rattle.checker.specs.Stretch.{Passed, atModules}
+use Rattle.checker.proofs.Stretch.{begins-stretch, fields-by, fits-by, further-by, module-step}
+use Rattle.checker.proofs.modules.Statement.{statement}
+use Rattle.checker.proofs.modules.Tie as tie
+
+abbrev Inv-loop : tie.InvT-loop
+Inv-loop image from n states₀ known₀ last₀ i₀ states known last i = Passed image 0x12 (atModules last₀ n 0 states₀) from (atModules last n known states) i
+
+abbrev μ-loop : tie.MeasureT-loop
+μ-loop image from n states₀ known₀ last₀ i₀ states known last i = length image - i
+
+loop-holds : tie.Need-loop-holds Inv-loop μ-loop
+loop-holds c = search begins-stretch
+
+stands-requires : tie.Need-stands-requires Inv-loop μ-loop
+stands-requires c κs = search needs
+
+returns : tie.Need-returns Inv-loop μ-loop
+returns c = search needs
+
+fields-at-requires : tie.Need-fields-at-requires Inv-loop μ-loop
+fields-at-requires c κs = search (fields-by, lit≤)
+
+returns-2 : tie.Need-returns-2 Inv-loop μ-loop
+returns-2 c = search needs
+
+module-kept-requires : tie.Need-module-kept-requires Inv-loop μ-loop
+module-kept-requires c κs = search needs
+
+precedes-requires : tie.Need-precedes-requires Inv-loop μ-loop
+precedes-requires c κs = search needs
+
+returns-3 : tie.Need-returns-3 Inv-loop μ-loop
+returns-3 c = search needs
+
+wide-requires : tie.Need-wide-requires Inv-loop μ-loop
+wide-requires c κs = search needs
+
+put-requires : tie.Need-put-requires Inv-loop μ-loop
+put-requires c κs = search needs
+
+element-write-states : tie.Need-element-write-states Inv-loop μ-loop
+element-write-states c = search needs
+
+add-i : tie.Need-add-i Inv-loop μ-loop
+add-i c = search (needs, fits-by)
+
+loop-less : tie.Need-loop-less Inv-loop μ-loop
+loop-less c = search (further-by, lit≤)
+
+loop-again : tie.Need-loop-again Inv-loop μ-loop
+loop-again c = search module-step
+
+pub modules-spec : {M : Type 1} → statement M
+modules-spec =
+    tie.close
+    (tie.spec
+    Inv-loop
+    μ-loop
+    loop-holds
+    stands-requires
+    returns
+    fields-at-requires
+    returns-2
+    module-kept-requires
+    precedes-requires
+    returns-3
+    wide-requires
+    put-requires
+    element-write-states
+    add-i
+    loop-less
+    loop-again)

@@ -1,0 +1,93 @@
+use borrow.Author.Needs.{needs}
+use Prim.Native.Nat.{_-_}
+use lib.ListN.{length}
+use lib.Dec.{lit≤}
+use Rattle.checker.specs.Stretch.{Passed, atSupervisors}
+use Rattle.checker.proofs.Stretch.{begins-stretch, fields-by, inside-by, fits-by, further-by, supervisor-step}
+use Rattle.checker.proofs.supervisors.Statement.{statement}
+use Rattle.checker.proofs.supervisors.Tie as tie
+
+abbrev Inv-loop : tie.InvT-loop
+Inv-loop image from n events states₀ alphabet₀ known₀ last₀ i₀ states alphabet known last i = Passed image 0x14 (atSupervisors last₀ n events 0 states₀ alphabet₀) from (atSupervisors last n events known states alphabet) i
+
+abbrev μ-loop : tie.MeasureT-loop
+μ-loop image from n events states₀ alphabet₀ known₀ last₀ i₀ states alphabet known last i = length image - i
+
+loop-holds : tie.Need-loop-holds Inv-loop μ-loop
+loop-holds c = search begins-stretch
+
+stands-requires : tie.Need-stands-requires Inv-loop μ-loop
+stands-requires c κs = search needs
+
+returns : tie.Need-returns Inv-loop μ-loop
+returns c = search needs
+
+fields-at-requires : tie.Need-fields-at-requires Inv-loop μ-loop
+fields-at-requires c κs = search (fields-by, lit≤)
+
+add-word-at : tie.Need-add-word-at Inv-loop μ-loop
+add-word-at c = search (needs, inside-by, lit≤)
+
+word-at-requires : tie.Need-word-at-requires Inv-loop μ-loop
+word-at-requires c κs = search needs
+
+returns-2 : tie.Need-returns-2 Inv-loop μ-loop
+returns-2 c = search needs
+
+supervisor-kept-requires : tie.Need-supervisor-kept-requires Inv-loop μ-loop
+supervisor-kept-requires c κs = search needs
+
+precedes-requires : tie.Need-precedes-requires Inv-loop μ-loop
+precedes-requires c κs = search needs
+
+returns-3 : tie.Need-returns-3 Inv-loop μ-loop
+returns-3 c = search needs
+
+wide-requires : tie.Need-wide-requires Inv-loop μ-loop
+wide-requires c κs = search needs
+
+put-requires : tie.Need-put-requires Inv-loop μ-loop
+put-requires c κs = search needs
+
+element-write-states : tie.Need-element-write-states Inv-loop μ-loop
+element-write-states c = search needs
+
+mul-alphabet : tie.Need-mul-alphabet Inv-loop μ-loop
+mul-alphabet c = search needs
+
+element-write-alphabet : tie.Need-element-write-alphabet Inv-loop μ-loop
+element-write-alphabet c = search needs
+
+add-i : tie.Need-add-i Inv-loop μ-loop
+add-i c = search (needs, fits-by)
+
+loop-less : tie.Need-loop-less Inv-loop μ-loop
+loop-less c = search (further-by, lit≤)
+
+loop-again : tie.Need-loop-again Inv-loop μ-loop
+loop-again c = search supervisor-step
+
+pub supervisors-spec : {M : Type 1} → statement M
+supervisors-spec =
+    tie.close
+    (tie.spec
+    Inv-loop
+    μ-loop
+    loop-holds
+    stands-requires
+    returns
+    fields-at-requires
+    add-word-at
+    word-at-requires
+    returns-2
+    supervisor-kept-requires
+    precedes-requires
+    returns-3
+    wide-requires
+    put-requires
+    element-write-states
+    mul-alphabet
+    element-write-alphabet
+    add-i
+    loop-less
+    loop-again)
