@@ -30,7 +30,7 @@ use Rattle.modules.specs.Turn.{turnOf, emptyOwn}
 use Rattle.modules.specs.Fits.{ownFits, ownEmpty}
 use Rattle.device_states.specs.declared.Device.{Device}
 use Rattle.device.specs.declared.Turning.the-variants.{Turned as DeviceTurned}
-use Rattle.supervisor_records.specs.Looks.{listFrom}
+use Rattle.plan.specs.Lists.{listFrom}
 use Rattle.device_states.specs.States.{ownAt, stateAt, ownSlotFits, stateSlotFits, deviceFits, shownBy, stateAfterTurn, withOwn}
 use Rattle.device.specs.Device.{turned, afterTurn, deviceNumber, turnIn, turnBy, replyIn, replyBy}
 use Rattle.protocol.specs.Generic.{update}

@@ -1,6 +1,6 @@
 // What the simulation prints of what a line of its script got, and the rows of events: specs/AnswerLines.antt.
 ghost use mathlib.Core.Path.{_≡_};
-ghost use Rattle.reader.specs.Walk.{recordsOf};
+ghost use Rattle.places.specs.Places.{recordsBy};
 ghost use Rattle.messages.specs.Message.{messageBytes};
 ghost use Rattle.script.specs.Text.{textOf};
 ghost use Rattle.script.specs.SimulationLines.{sentLine, deliveredLine};
@@ -10,6 +10,7 @@ use messages::Message;
 use modules::Called;
 use modules::Turn;
 use permits::Stepped;
+use places::Places;
 use script::Text;
 use simulation::Answer;
 
@@ -81,13 +82,13 @@ pub fn fired(a: Answer) -> Maybe
 }
 
 // The command, if the event that fired is one.
-pub fn command(image: &[u8], a: Answer) -> Maybe
-    ensures { λ r. ⌜ r ≡ command (recordsOf (now (image .entry))) a ⌝ }
+pub fn command(image: &[u8], places: Places, a: Answer) -> Maybe
+    ensures { λ r. ⌜ r ≡ command (recordsBy (now (image .entry)) places) a ⌝ }
 {
     let Maybe::Just(e) = fired(a) else {
         return Maybe::Nothing;
     };
-    if plan::controllable(image, e) {
+    if plan::controllable(image, places, e) {
         Maybe::Just(e)
     } else {
         Maybe::Nothing

@@ -11,7 +11,12 @@ use Rattle.records.specs.declared.Record.{Record}
 use Rattle.reader.specs.Walk.{recordsOf}
 use Rattle.rules.specs.Check.{verdictOf}
 use Rattle.rules.specs.declared.Verdict.{Verdict}
-use Rattle.rules.specs.declared.Verdict.the-variants.{Accepted, Refused}
+use Rattle.places.specs.declared.Places.{Places}
+use Rattle.places.specs.Places.{recordsBy}
+use Rattle.checker.specs.Examined.{examinedOf}
+use Rattle.checker.specs.declared.Examined.{Examined}
+use Rattle.checker.specs.declared.Examined.the-variants.{Accepted, Refused}
+use Rattle.checker.proofs.Examining.{call-by, refused-call}
 use Rattle.modules.specs.declared.Turn.{Turn}
 use Rattle.modules.specs.declared.Turn.the-variants.{Event, Stray, Nothing}
 use Rattle.modules.specs.declared.Turned.{Turned}
@@ -22,9 +27,11 @@ use Rattle.device_states.specs.declared.Device.{Device}
 use Rattle.device.specs.declared.DeviceTurned.{DeviceTurned}
 use Rattle.device.specs.declared.DeviceCalled.{DeviceCalled}
 use Rattle.device.specs.declared.Turning.the-variants.{Turned as Turns, Refused as TurnRefused}
-use Rattle.supervisor_records.specs.Looks.{listFrom}
-use Rattle.device_states.specs.States.{stateOf, stateAfterTurn, withOwn, statesAfter, emptyDevice, startDevice}
-use Rattle.device.specs.Device.{turned, afterTurn, deviceNumber, turnRefused, turnIn, turnBy, turnCall, callRefused, replyIn, replyBy, startBy, startCall}
+use Rattle.plan.specs.Lists.{listFrom}
+use Rattle.modules.specs.Procedure.{respondOf, tickOf}
+use Rattle.water.specs.declared.Flow.{Flow}
+use Rattle.device_states.specs.States.{ownAt, stateOf, stateAfterTurn, withOwn, statesAfter, emptyDevice, startDevice}
+use Rattle.device.specs.Device.{turned, afterTurn, deviceNumber, turnRefused, turnIn, turnBy, turnCall, callRefused, replyIn, replyBy, respondCall, tickCall, startBy, startCall}
 use Rattle.device_states.proofs.Slots.{same-slots}
 
 -- ---- the state after a turn
@@ -78,24 +85,36 @@ module _ (rs : List Record) (d : Device) (m n : ℕ) (e : n ≡ deviceNumber rs 
       go zero q = absurd (q refl)
       go (suc k) q = refl
 
--- ---- the image's verdict
+-- ---- the image as it was examined
 
-module _ (s : List ℕ) {v : Verdict} (e : v ≡ verdictOf s) where
+module _ (s : List ℕ) {v : Examined} (e : v ≡ examinedOf s) where
   module _ (d : Device) (m : ℕ) where
-    pub turn-accepted : {c : DeviceTurned} → v ≡ Accepted → c ≡ turnIn (recordsOf s) d m (deviceNumber (recordsOf s) d m) → c ≡ turnCall s d m
-    turn-accepted q g = g ∙ (unfold turnBy in ap (λ (x : Verdict). turnBy x (recordsOf s) d m) (sym q ∙ e))
+    pub turn-accepted : {p : Places} {c : DeviceTurned} → v ≡ Accepted p → c ≡ turnIn (recordsBy s p) d m (deviceNumber (recordsBy s p) d m) → c ≡ turnCall s d m
+    unfolding turnBy
+    turn-accepted q g = g ∙ call-by s e (λ w rs. turnBy w rs d m) q
 
     pub turn-refused : (n o : ℕ) → v ≡ Refused n o → turnRefused d n o ≡ turnCall s d m
-    turn-refused n o q = unfold turnBy in ap (λ (x : Verdict). turnBy x (recordsOf s) d m) (sym q ∙ e)
+    unfolding turnBy
+    turn-refused n o q = refused-call s e (λ w rs. turnBy w rs d m) q
 
-    pub reply-accepted : (x : Replied) {c : DeviceCalled} → v ≡ Accepted → c ≡ replyIn d m (deviceNumber (recordsOf s) d m) x → c ≡ replyBy (verdictOf s) (recordsOf s) d m x
-    reply-accepted x q g = g ∙ (unfold replyBy in ap (λ (y : Verdict). replyBy y (recordsOf s) d m x) (sym q ∙ e))
+    pub respond-accepted : (k : ℕ) {p : Places} {c : DeviceCalled} → v ≡ Accepted p
+        → c ≡ replyIn d m (deviceNumber (recordsBy s p) d m) (respondOf (recordsBy s p) m k (ownAt d m)) → c ≡ respondCall s d m k
+    unfolding replyBy
+    respond-accepted k q g = g ∙ call-by s e (λ w rs. replyBy w rs d m (respondOf rs m k (ownAt d m))) q
+
+    pub tick-accepted : (f : Flow) {p : Places} {c : DeviceCalled} → v ≡ Accepted p
+        → c ≡ replyIn d m (deviceNumber (recordsBy s p) d m) (tickOf (recordsBy s p) f (ownAt d m)) → c ≡ tickCall s d m f
+    unfolding replyBy
+    tick-accepted f q g = g ∙ call-by s e (λ w rs. replyBy w rs d m (tickOf rs f (ownAt d m))) q
 
     pub reply-refused : (n o : ℕ) (x : Replied) {c : DeviceCalled} → v ≡ Refused n o → c ≡ callRefused d n o → c ≡ replyBy (verdictOf s) (recordsOf s) d m x
-    reply-refused n o x q g = g ∙ (unfold replyBy in ap (λ (y : Verdict). replyBy y (recordsOf s) d m x) (sym q ∙ e))
+    unfolding replyBy
+    reply-refused n o x q g = g ∙ refused-call s e (λ w rs. replyBy w rs d m x) q
 
-  pub start-accepted : {d : Device} → v ≡ Accepted → d ≡ startDevice (recordsOf s) → record { answer = Done; device = d } ≡ startCall s
-  start-accepted q g = ap (λ (x : Device). record { answer = Done; device = x }) g ∙ (unfold startBy in ap (λ (y : Verdict). startBy y (recordsOf s)) (sym q ∙ e))
+  pub start-accepted : {p : Places} {d : Device} → v ≡ Accepted p → d ≡ startDevice (recordsBy s p) → record { answer = Done; device = d } ≡ startCall s
+  unfolding startBy
+  start-accepted q g = ap (λ (x : Device). record { answer = Done; device = x }) g ∙ call-by s e startBy q
 
   pub start-refused : (n o : ℕ) {d : Device} {c : DeviceCalled} → v ≡ Refused n o → d ≡ emptyDevice → c ≡ callRefused d n o → c ≡ startCall s
-  start-refused n o q g h = h ∙ ap (λ (x : Device). callRefused x n o) g ∙ (unfold startBy in ap (λ (y : Verdict). startBy y (recordsOf s)) (sym q ∙ e))
+  unfolding startBy
+  start-refused n o q g h = h ∙ ap (λ (x : Device). callRefused x n o) g ∙ refused-call s e startBy q

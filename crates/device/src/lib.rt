@@ -1,15 +1,16 @@
 // The calls of the one-device controller. specs/Device.antt says what each gives.
 ghost use mathlib.Core.Path.{_≡_};
-ghost use Rattle.reader.specs.Walk.{recordsOf};
+ghost use Rattle.places.specs.Places.{recordsBy};
 ghost use Rattle.modules.specs.Procedure.{respondOf, tickOf};
 ghost use Rattle.device_states.specs.States.{ownAt};
 ghost use Rattle.device.specs.Device.{turned, afterTurn, deviceNumber, turnIn, turnCall, callRefused, replyIn, respondCall, tickCall, startCall};
+use checker::Examined;
 use device_states::Device;
 use modules::Called;
 use modules::Replied;
 use modules::Turn;
 use modules::Turned;
-use rules::Verdict;
+use places::Places;
 use water::Flow;
 
 // What a turn got.
@@ -30,8 +31,8 @@ pub struct DeviceCalled {
     pub device: Device,
 }
 
-fn after_turn(image: &[u8], d: Device, m: u8, t: Turned) -> Device
-    ensures { λ r. ⌜ r ≡ afterTurn (recordsOf (now (image .entry))) d m t ⌝ }
+fn after_turn(image: &[u8], places: Places, d: Device, m: u8, t: Turned) -> Device
+    ensures { λ r. ⌜ r ≡ afterTurn (recordsBy (now (image .entry)) places) d m t ⌝ }
 {
     let own = t.own;
     let mut next = device_states::with_own(d, m, own);
@@ -40,41 +41,45 @@ fn after_turn(image: &[u8], d: Device, m: u8, t: Turned) -> Device
     let Turn::Event(e) = did else {
         return next;
     };
-    let moved = device_states::states_after(image, states, e);
+    let moved = device_states::states_after(image, places, states, e);
     next.supervisors = moved;
     next
 }
 
 // 9 for a state that does not fit, 11 for a module that the plan lacks, and 0 where neither applies.
-fn number(image: &[u8], d: Device, m: u8) -> u8
-    ensures { λ r. ⌜ r ≡ deviceNumber (recordsOf (now (image .entry))) d m ⌝ }
+fn number(image: &[u8], places: Places, d: Device, m: u8) -> u8
+    ensures { λ r. ⌜ r ≡ deviceNumber (recordsBy (now (image .entry)) places) d m ⌝ }
 {
-    if device_states::fits(image, d) {
-        if m < plan::modules_of(image) { 0 } else { 11 }
+    if device_states::fits(image, places, d) {
+        if m < plan::modules_of(image, places) {
+            0
+        } else {
+            11
+        }
     } else {
         9
     }
 }
 
 // A module's turn over the masks shown.
-fn turned(image: &[u8], d: Device, m: u8) -> Turned
-    ensures { λ r. ⌜ r ≡ turned (recordsOf (now (image .entry))) d m ⌝ }
+fn turned(image: &[u8], places: Places, d: Device, m: u8) -> Turned
+    ensures { λ r. ⌜ r ≡ turned (recordsBy (now (image .entry)) places) d m ⌝ }
 {
     let states = d.supervisors;
-    let n = plan::supervisors_of(image);
-    let k = device_states::shown_by(image, states, n);
+    let n = plan::supervisors_of(image, places);
+    let k = device_states::shown_by(image, places, states, n);
     let own = device_states::own_of(d, m);
-    turns::turn(image, m, k, own)
+    turns::turn(image, places, m, k, own)
 }
 
 // A turn of a plan that is accepted.
-fn turn_in(image: &[u8], d: Device, m: u8) -> DeviceTurned
-    ensures { λ r. ⌜ r ≡ turnIn (recordsOf (now (image .entry))) d m (deviceNumber (recordsOf (now (image .entry))) d m) ⌝ }
+fn turn_in(image: &[u8], places: Places, d: Device, m: u8) -> DeviceTurned
+    ensures { λ r. ⌜ r ≡ turnIn (recordsBy (now (image .entry)) places) d m (deviceNumber (recordsBy (now (image .entry)) places) d m) ⌝ }
 {
-    let n = number(image, d, m);
+    let n = number(image, places, d, m);
     if n == 0 {
-        let t = turned(image, d, m);
-        let next = after_turn(image, d, m, t);
+        let t = turned(image, places, d, m);
+        let next = after_turn(image, places, d, m, t);
         let did = t.turn;
         DeviceTurned {
             answer: Turning::Turned(did),
@@ -92,9 +97,9 @@ fn turn_in(image: &[u8], d: Device, m: u8) -> DeviceTurned
 pub fn turn(image: &[u8], d: Device, m: u8) -> DeviceTurned
     ensures { λ r. ⌜ r ≡ turnCall (now (image .entry)) d m ⌝ }
 {
-    match checker::check(image) {
-        Verdict::Accepted => turn_in(image, d, m),
-        Verdict::Refused(n, o) => DeviceTurned {
+    match checker::examine(image) {
+        Examined::Accepted(places) => turn_in(image, places, d, m),
+        Examined::Refused(n, o) => DeviceTurned {
             answer: Turning::Refused(n, o),
             device: d,
         },
@@ -123,13 +128,13 @@ fn replied(d: Device, m: u8, r: Replied) -> DeviceCalled
     }
 }
 
-fn respond_in(image: &[u8], d: Device, m: u8, e: u8) -> DeviceCalled
-    ensures { λ r. ⌜ r ≡ replyIn d m (deviceNumber (recordsOf (now (image .entry))) d m) (respondOf (recordsOf (now (image .entry))) m e (ownAt d m)) ⌝ }
+fn respond_in(image: &[u8], places: Places, d: Device, m: u8, e: u8) -> DeviceCalled
+    ensures { λ r. ⌜ r ≡ replyIn d m (deviceNumber (recordsBy (now (image .entry)) places) d m) (respondOf (recordsBy (now (image .entry)) places) m e (ownAt d m)) ⌝ }
 {
-    let n = number(image, d, m);
+    let n = number(image, places, d, m);
     if n == 0 {
         let own = device_states::own_of(d, m);
-        let r = modules::respond(image, m, e, own);
+        let r = modules::respond(image, places, m, e, own);
         replied(d, m, r)
     } else {
         refused(d, n, 0)
@@ -140,19 +145,19 @@ fn respond_in(image: &[u8], d: Device, m: u8, e: u8) -> DeviceCalled
 pub fn respond(image: &[u8], d: Device, m: u8, e: u8) -> DeviceCalled
     ensures { λ r. ⌜ r ≡ respondCall (now (image .entry)) d m e ⌝ }
 {
-    match checker::check(image) {
-        Verdict::Accepted => respond_in(image, d, m, e),
-        Verdict::Refused(n, o) => refused(d, n, o),
+    match checker::examine(image) {
+        Examined::Accepted(places) => respond_in(image, places, d, m, e),
+        Examined::Refused(n, o) => refused(d, n, o),
     }
 }
 
-fn tick_in(image: &[u8], d: Device, m: u8, f: Flow) -> DeviceCalled
-    ensures { λ r. ⌜ r ≡ replyIn d m (deviceNumber (recordsOf (now (image .entry))) d m) (tickOf (recordsOf (now (image .entry))) f (ownAt d m)) ⌝ }
+fn tick_in(image: &[u8], places: Places, d: Device, m: u8, f: Flow) -> DeviceCalled
+    ensures { λ r. ⌜ r ≡ replyIn d m (deviceNumber (recordsBy (now (image .entry)) places) d m) (tickOf (recordsBy (now (image .entry)) places) f (ownAt d m)) ⌝ }
 {
-    let n = number(image, d, m);
+    let n = number(image, places, d, m);
     if n == 0 {
         let own = device_states::own_of(d, m);
-        let r = modules::tick(image, f, own);
+        let r = modules::tick(image, places, f, own);
         replied(d, m, r)
     } else {
         refused(d, n, 0)
@@ -163,9 +168,9 @@ fn tick_in(image: &[u8], d: Device, m: u8, f: Flow) -> DeviceCalled
 pub fn tick(image: &[u8], d: Device, m: u8, f: Flow) -> DeviceCalled
     ensures { λ r. ⌜ r ≡ tickCall (now (image .entry)) d m f ⌝ }
 {
-    match checker::check(image) {
-        Verdict::Accepted => tick_in(image, d, m, f),
-        Verdict::Refused(n, o) => refused(d, n, o),
+    match checker::examine(image) {
+        Examined::Accepted(places) => tick_in(image, places, d, m, f),
+        Examined::Refused(n, o) => refused(d, n, o),
     }
 }
 
@@ -173,11 +178,11 @@ pub fn tick(image: &[u8], d: Device, m: u8, f: Flow) -> DeviceCalled
 pub fn start(image: &[u8]) -> DeviceCalled
     ensures { λ r. ⌜ r ≡ startCall (now (image .entry)) ⌝ }
 {
-    match checker::check(image) {
-        Verdict::Accepted => DeviceCalled {
+    match checker::examine(image) {
+        Examined::Accepted(places) => DeviceCalled {
             answer: Called::Done,
-            device: device_states::started(image),
+            device: device_states::started(image, places),
         },
-        Verdict::Refused(n, o) => refused(device_states::empty(), n, o),
+        Examined::Refused(n, o) => refused(device_states::empty(), n, o),
     }
 }

@@ -12,7 +12,7 @@ use Rattle.bits.specs.Bit.{allBelow}
 use Rattle.messages.specs.Message.{putAt}
 use Rattle.messages.proofs.Writing.{put-sets}
 use Rattle.modules.specs.declared.Own.{Own}
-use Rattle.supervisor_records.specs.Looks.{listFrom}
+use Rattle.plan.specs.Lists.{listFrom}
 use Rattle.device_states.specs.declared.Device.{Device}
 use Rattle.device_states.proofs.Slots.{all-on, one-fails, filled, fill-on, fill-done}
 use Rattle.fields.proofs.Writing.{join}

@@ -17,7 +17,7 @@ use Rattle.roundtrip.specs.Fits.{Bytes, Byte}
 use Rattle.rules.specs.LookUp.{modulesOf}
 use Rattle.modules.specs.declared.Own.{Own}
 use Rattle.modules.specs.Fits.{ownFits, ownEmpty}
-use Rattle.supervisor_records.specs.Looks.{listFrom}
+use Rattle.plan.specs.Lists.{listFrom}
 use Rattle.device_states.specs.States.{ownSlotFits, stateSlotFits, deviceFits}
 use Rattle.device_states.specs.declared.Device.{Device}
 use Rattle.device_states.proofs.Slots.{one-fails, same-slots}

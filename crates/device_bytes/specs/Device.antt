@@ -10,7 +10,7 @@ use Rattle.records.specs.declared.Record.{Record}
 use Rattle.roundtrip.specs.Fits.{Bytes}
 use Rattle.messages.specs.Message.{written}
 use Rattle.modules.specs.declared.Own.{Own}
-use Rattle.supervisor_records.specs.Looks.{listFrom}
+use Rattle.plan.specs.Lists.{listFrom}
 use Rattle.device_states.specs.States.{deviceFits}
 use Rattle.device_states.specs.declared.Device.{Device}
 use Rattle.own_bytes.specs.Own.{ownBytes, ownOf, isOwn, unfitOwn, OwnHeld}

@@ -4,7 +4,7 @@ ghost use Prim.Native.Nat.{_+_, _*_, _≤_, _<_};
 ghost use lib.ListN.{length};
 ghost use lib.Seq.{sets};
 ghost use Rattle.bits.specs.Bit.{allBelow};
-ghost use Rattle.supervisor_records.specs.Looks.{listFrom};
+ghost use Rattle.plan.specs.Lists.{listFrom};
 ghost use Rattle.own_bytes.specs.Own.{ownBytes};
 ghost use Rattle.device_bytes.specs.Device.{ownsBytes, devicePut, slotOf, stateOf, isSlot, unfitDevice, deviceOf};
 use device_states::Device;

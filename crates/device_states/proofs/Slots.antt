@@ -5,22 +5,17 @@ use native.Mathlib.Numerals.{add-one}
 use native.Mathlib.Omega.{arith}
 use mathlib.Core.Path.{_≡_, refl, sym, ap, ap₂, _∙_, subst}
 use mathlib.Core.List.{List, [], _∷_, _++_, append-assoc, append-nil}
-use mathlib.Core.Bool.{Bool, true, false, cond, _&&_, true≢false}
+use mathlib.Core.Bool.{Bool, true, false, _&&_, true≢false}
 use lib.ListN.{length, getD, set, replicate, length-append}
 use lib.Bits.{bitOr}
 use lib.Seq.{set-append-seam}
-use Rattle.bits.specs.Bit.{bit, allBelow}
+use Rattle.bits.specs.Bit.{allBelow}
 use Rattle.records.specs.declared.Record.{Record}
-use Rattle.rules.specs.LookUp.{alphabetOf}
 use Rattle.plan.specs.Plan.{shown, supervisorAfter}
-use Rattle.supervisor_records.specs.Looks.{looksOf}
-use Rattle.supervisor_records.specs.declared.Looks.{Looks}
-use Rattle.supervisor_records.proofs.Meaning.{from-length}
-use Rattle.supervisor_records.proofs.Supervisors.{alphabet-in, shown-at, after-at}
 use Rattle.modules.specs.declared.Turn.{Turn}
 use Rattle.modules.specs.declared.Turn.the-variants.{Event}
 use Rattle.device_states.specs.declared.Device.{Device}
-use Rattle.supervisor_records.specs.Looks.{listFrom}
+use Rattle.plan.specs.Lists.{listFrom}
 use Rattle.device_states.specs.States.{stateOf, ownSlotFits, stateSlotFits, shownBy, stateAfterTurn, statesAfter}
 
 -- ---- every slot below i passes
@@ -45,6 +40,11 @@ all-done p n i h k a = let e : i ≡ n = omega arith in sym a ∙ ap (allBelow p
 -- ---- a list filled from its start: f 0, f 1, .. up to i, and d in the other slots
 
 module _ {A : Type 0} (f : ℕ → A) where
+  pub from-length : (i n : ℕ) → length (listFrom f i n) ≡ n
+  unfolding listFrom
+  from-length i zero = refl
+  from-length i (suc n) = ap suc (from-length (suc i) n)
+
   from-snoc : (i n : ℕ) → listFrom f i (suc n) ≡ listFrom f i n ++ (f (i + n) ∷ [])
   unfolding listFrom
   from-snoc i zero = ap (λ (k : ℕ). f k ∷ []) (sym (add-zero i))
@@ -59,7 +59,7 @@ module _ {A : Type 0} (f : ℕ → A) where
         let one : n - i ≡ suc (n - (i + 1)) = omega arith in
         let z : List A = replicate (n - (i + 1)) d in
         ap₂ (λ (k : List A) (y : A). set k i y) (e ∙ ap (λ (k : ℕ). listFrom f 0 i ++ replicate k d) one) g
-        ∙ ap (λ (k : ℕ). set (listFrom f 0 i ++ d ∷ z) k (f i)) (sym (from-length f 0 i))
+        ∙ ap (λ (k : ℕ). set (listFrom f 0 i ++ d ∷ z) k (f i)) (sym (from-length 0 i))
         ∙ set-append-seam (listFrom f 0 i) d z (f i)
         ∙ sym (append-assoc (listFrom f 0 i) (f i ∷ []) z)
         ∙ ap (λ (k : ℕ). (listFrom f 0 i ++ (f k ∷ [])) ++ z) (sym (zero-add i))
@@ -123,35 +123,3 @@ module _ (rs : List Record) (states : List ℕ) where
 
   pub moved-on : (e i v : ℕ) {x : ℕ} {l : List ℕ} → v ≡ i → x ≡ supervisorAfter rs v (stateOf states i) e → i < 32 → l ≡ filled (moved e) 0 32 i → set l i x ≡ filled (moved e) 0 32 (i + 1)
   moved-on e i v {x} w g h k = fill-on (moved e) 0 32 i k (g ∙ ap (λ (j : ℕ). supervisorAfter rs j (stateOf states i) e) w ∙ (unfold stateAfterTurn in refl)) h
-
--- ---- the supervisors, from the look-ups of all
-
-module _ (rs : List Record) (v : ℕ) {i : ℕ} (w : i ≡ v) (h : v < 32) where
-  pub mask-in : {l : Looks} {st : ℕ} (states : List ℕ) → l ≡ looksOf 0x16 states 0 rs → st ≡ stateOf states v → getD (l .words) i 0 ≡ shown rs v st
-  mask-in {l} states e g = ap (λ (j : ℕ). getD (l .words) j 0) w ∙ shown-at rs v states e h ∙ ap (shown rs v) (sym g)
-
-  -- where the event leads the supervisor, by whether its alphabet has it and the move is listed
-  module _ (e : ℕ) {alphabets moves : Looks} {st : ℕ} {a b : Bool} (f : a ≡ bit (getD (alphabets .words) i 0) e) (g : b ≡ bit (moves .found) v) where
-    after-in : (states : List ℕ) (t : Bool) → (a && b) ≡ t → alphabets ≡ looksOf 0x14 (replicate 32 0) 0 rs → moves ≡ looksOf 0x15 states e rs → st ≡ getD states v 0
-        → cond t (getD (moves .fourths) i 0) st ≡ supervisorAfter rs v st e
-    after-in states t q x y z =
-        let k : (a && b) ≡ (bit (alphabetOf rs v) e && bit (moves .found) v) = ap₂ _&&_ (f ∙ ap (λ (m : ℕ). bit m e) (alphabet-in rs v x w h)) g in
-        ap₂ (λ (r : Bool) (j : ℕ). cond r (getD (moves .fourths) j 0) st) (sym q ∙ k) w
-        ∙ ap (λ (m : ℕ). cond (bit (alphabetOf rs v) e && bit (moves .found) v) (getD (moves .fourths) v 0) m) z
-        ∙ after-at rs v states e refl y h ∙ ap (λ (m : ℕ). supervisorAfter rs v m e) (sym z)
-
--- the same, of every list of records and of states
-module _ (v e : ℕ) {i : ℕ} {alphabets moves : Looks} {st : ℕ} {a b : Bool} (w : i ≡ v) (h : v < 32) (f : a ≡ bit (getD (alphabets .words) i 0) e) (g : b ≡ bit (moves .found) v) where
-  pub moves-by : (a && b) ≡ true → (rs : List Record) (states : List ℕ) → alphabets ≡ looksOf 0x14 (replicate 32 0) 0 rs → moves ≡ looksOf 0x15 states e rs → st ≡ getD states v 0
-      → getD (moves .fourths) i 0 ≡ supervisorAfter rs v st e
-  moves-by t rs states = after-in rs v w h e f g states true t
-
-  pub stays-by : (a && b) ≡ false → (rs : List Record) (states : List ℕ) → alphabets ≡ looksOf 0x14 (replicate 32 0) 0 rs → moves ≡ looksOf 0x15 states e rs → st ≡ getD states v 0
-      → st ≡ supervisorAfter rs v st e
-  stays-by t rs states = after-in rs v w h e f g states false t
-
--- one supervisor more, in the loops over them
-module _ (rs : List Record) (states : List ℕ) where
-  pub union-on : (v : ℕ) {k x st : ℕ} {l : Looks} → st ≡ stateOf states v → ((s : List ℕ) → l ≡ looksOf 0x16 s 0 rs → st ≡ stateOf s v → x ≡ shown rs v st) → l ≡ looksOf 0x16 states 0 rs
-      → k ≡ shownBy rs (stateOf states) v → bitOr k x ≡ shownBy rs (stateOf states) (v + 1)
-  union-on v e f g h = shown-on rs states v e (f states g e) h

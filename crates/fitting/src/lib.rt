@@ -4,12 +4,13 @@ ghost use mathlib.Core.Bool.{cond};
 ghost use Prim.Native.Nat.{_≤_};
 ghost use lib.Dec.{eqb, ltb};
 ghost use lib.ListN.{take, drop};
-ghost use Rattle.reader.specs.Walk.{recordsOf};
+ghost use Rattle.places.specs.Places.{recordsBy};
 ghost use Rattle.plan.specs.Plan.{ownUncontrollable};
 ghost use Rattle.water.specs.Water.{waterZero, running};
 ghost use Rattle.modules.specs.Fits.{every, queueFits, idleFits, stepFits, procedureFits, ownFits, ownEmpty};
 use modules::Own;
 use modules::Procedure;
+use places::Places;
 use water::Water;
 
 // Whether the places from n on hold 0.
@@ -27,13 +28,13 @@ fn zeros_from(q: [u8; 8], n: usize) -> bool
 }
 
 // Whether the first n places hold uncontrollable events of module m.
-fn responses_fit(image: &[u8], m: u8, q: [u8; 8], n: usize) -> bool
+fn responses_fit(image: &[u8], places: Places, m: u8, q: [u8; 8], n: usize) -> bool
     requires { ⌜ n ≤ 8 ⌝ }
-    ensures { λ r. ⌜ r ≡ every (ownUncontrollable (recordsOf (now (image .entry))) m) (take n q) ⌝ }
+    ensures { λ r. ⌜ r ≡ every (ownUncontrollable (recordsBy (now (image .entry)) places) m) (take n q) ⌝ }
 {
     let mut i: usize = 0;
     while i < n {
-        if !plan::own_uncontrollable(image, m, q[i]) {
+        if !plan::own_uncontrollable(image, places, m, q[i]) {
             return false;
         }
         i += 1;
@@ -41,13 +42,13 @@ fn responses_fit(image: &[u8], m: u8, q: [u8; 8], n: usize) -> bool
     true
 }
 
-fn queue_fits(image: &[u8], m: u8, own: Own) -> bool
-    ensures { λ r. ⌜ r ≡ queueFits (recordsOf (now (image .entry))) m own ⌝ }
+fn queue_fits(image: &[u8], places: Places, m: u8, own: Own) -> bool
+    ensures { λ r. ⌜ r ≡ queueFits (recordsBy (now (image .entry)) places) m own ⌝ }
 {
     let q = own.queue;
     let n = words::wide(own.length);
     if n <= 8 {
-        responses_fit(image, m, q, n) & zeros_from(q, n)
+        responses_fit(image, places, m, q, n) & zeros_from(q, n)
     } else {
         false
     }
@@ -75,11 +76,11 @@ fn water_fits(o: u8, x: u64, w: Water) -> bool
     }
 }
 
-fn step_fits(image: &[u8], m: u8, p: Procedure) -> bool
-    ensures { λ r. ⌜ r ≡ stepFits (recordsOf (now (image .entry))) m p ⌝ }
+fn step_fits(image: &[u8], places: Places, m: u8, p: Procedure) -> bool
+    ensures { λ r. ⌜ r ≡ stepFits (recordsBy (now (image .entry)) places) m p ⌝ }
 {
-    let s = modules::step_fields(image, p.event, p.index);
-    let owned = plan::own_event(image, m, p.event);
+    let s = modules::step_fields(image, places, p.event, p.index);
+    let owned = plan::own_event(image, places, m, p.event);
     let counted = count_fits(s.operation, s.operand, p.count);
     let w = p.water;
     s.present & owned & counted & water_fits(s.operation, s.operand, w)
@@ -92,24 +93,24 @@ fn idle_fits(p: Procedure) -> bool
     (p.event == 0) & (p.index == 0) & (p.count == 0) & water::is_zero(w)
 }
 
-fn procedure_fits(image: &[u8], m: u8, p: Procedure) -> bool
-    ensures { λ r. ⌜ r ≡ procedureFits (recordsOf (now (image .entry))) m p ⌝ }
+fn procedure_fits(image: &[u8], places: Places, m: u8, p: Procedure) -> bool
+    ensures { λ r. ⌜ r ≡ procedureFits (recordsBy (now (image .entry)) places) m p ⌝ }
 {
     if p.running {
-        step_fits(image, m, p)
+        step_fits(image, places, m, p)
     } else {
         idle_fits(p)
     }
 }
 
 // Whether the own part fits as that of module m.
-pub fn fits(image: &[u8], m: u8, own: Own) -> bool
-    ensures { λ r. ⌜ r ≡ ownFits (recordsOf (now (image .entry))) m own ⌝ }
+pub fn fits(image: &[u8], places: Places, m: u8, own: Own) -> bool
+    ensures { λ r. ⌜ r ≡ ownFits (recordsBy (now (image .entry)) places) m own ⌝ }
 {
     let p = own.procedure;
-    plan::module_state(image, m, own.state)
-        & queue_fits(image, m, own)
-        & procedure_fits(image, m, p)
+    plan::module_state(image, places, m, own.state)
+        & queue_fits(image, places, m, own)
+        & procedure_fits(image, places, m, p)
 }
 
 // Whether every number of the own part is 0.

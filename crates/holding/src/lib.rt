@@ -1,14 +1,15 @@
 // The permits that a module holds and those that it lacks, by the mask of its neighbours, whether its state fits, and a call that is refused:
 // permits/specs/Module.antt.
 ghost use mathlib.Core.Path.{_≡_};
+ghost use Rattle.places.specs.Places.{recordsBy};
 ghost use Rattle.bits.specs.Bit.{optionOf};
-ghost use Rattle.reader.specs.Walk.{recordsOf};
 ghost use Rattle.permits.specs.Module.{missingIn, heldIn, fitsIn, callRefused};
 ghost use Rattle.holding.specs.Lacking.{Lacking};
 use bits::Maybe;
 use modules::Called;
 use permits::Module;
 use permits::ModuleCalled;
+use places::Places;
 
 // The lowest neighbour whose permit is not held.
 pub fn missing(adjacent: u32, held: u32) -> Maybe
@@ -48,8 +49,8 @@ pub fn lacks(adjacent: u32, held: u32) -> bool
 }
 
 // Whether the state fits the plan.
-pub fn fits(image: &[u8], m: u8, adjacent: u32, x: Module) -> bool
-    ensures { λ r. ⌜ r ≡ fitsIn (recordsOf (now (image .entry))) m adjacent x ⌝ }
+pub fn fits(image: &[u8], places: Places, m: u8, adjacent: u32, x: Module) -> bool
+    ensures { λ r. ⌜ r ≡ fitsIn (recordsBy (now (image .entry)) places) m adjacent x ⌝ }
 {
     let own = x.own;
     let held = x.held;
@@ -58,7 +59,7 @@ pub fn fits(image: &[u8], m: u8, adjacent: u32, x: Module) -> bool
     if held_fits(adjacent, held) {
         ((held != 0) | (received == 0))
             & (!bid | lacks(adjacent, held))
-            & fitting::fits(image, m, own)
+            & fitting::fits(image, places, m, own)
     } else {
         false
     }

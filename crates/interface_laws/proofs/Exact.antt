@@ -14,7 +14,7 @@ use Rattle.bits.proofs.Laws.{all-at}
 use Rattle.words.specs.Word.{wordAt}
 use Rattle.roundtrip.specs.Fits.{Byte, Bytes}
 use Rattle.roundtrip.proofs.Shape.{word-small}
-use Rattle.supervisor_records.specs.Looks.{listFrom}
+use Rattle.plan.specs.Lists.{listFrom}
 use Rattle.fields.specs.Fields.{bytesFrom, halfAt, quadAt, flagOf, isFlag, isFloat, floatAt, Number}
 use Rattle.fields.proofs.Back.{and-left, and-right}
 use Rattle.own_bytes.specs.Own.{procedureOf, ownOf, isOwn, OwnHeld}

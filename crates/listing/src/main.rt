@@ -1,6 +1,7 @@
 // The listing program: plays the script of standard input on the plan of `plan.bin` and prints what each line got. Crate sheet says what a line
 // does and prints, and what a whole script prints (`listed`); here it is read and printed. Lines come byte by byte, so that script and lines may
 // be of any length.
+use checker::Examined;
 use device_states::Device;
 use lines::Partial;
 use modules::Called;
@@ -101,9 +102,12 @@ fn run(image: &[u8]) {
     let first = s.device;
     match a {
         Called::Done => {
-            let modules = plan::modules_of(image);
-            let supervisors = plan::supervisors_of(image);
-            let events = plan::events_of(image);
+            let Examined::Accepted(places) = checker::examine(image) else {
+                return;
+            };
+            let modules = plan::modules_of(image, places);
+            let supervisors = plan::supervisors_of(image, places);
+            let events = plan::events_of(image, places);
             print(script::header_line(modules, supervisors, events));
             let d = play_script(image, first);
             print(script::states_line(d, modules, supervisors));

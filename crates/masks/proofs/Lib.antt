@@ -1,3 +1,1 @@
-pub mod Pass
-pub mod Meaning
 pub mod Events

@@ -1,24 +1,25 @@
 // The start, the responses and the ticks of a module on many devices: definitions in permits/specs/Module.antt.
 ghost use mathlib.Core.Path.{_≡_};
-ghost use Rattle.reader.specs.Walk.{recordsOf};
+ghost use Rattle.places.specs.Places.{recordsBy};
 ghost use Rattle.rules.specs.declared.Verdict.the-variants.{Accepted};
 ghost use Rattle.permits.specs.Module.{replyBy, moduleRespond, moduleTick, startModule, moduleStart};
+use checker::Examined;
 use modules::Called;
 use modules::Replied;
 use permits::Module;
 use permits::ModuleCalled;
-use rules::Verdict;
+use places::Places;
 use water::Flow;
 
 // ---- a response and a tick
 
 // The answer to the reply of the module's own part, and the state with it.
-fn replied(image: &[u8], m: u8, x: Module, r: Replied) -> ModuleCalled
-    ensures { λ c. ⌜ c ≡ replyBy Accepted (recordsOf (now (image .entry))) m x r ⌝ }
+fn replied(image: &[u8], places: Places, m: u8, x: Module, r: Replied) -> ModuleCalled
+    ensures { λ c. ⌜ c ≡ replyBy Accepted (recordsBy (now (image .entry)) places) m x r ⌝ }
 {
-    if m < plan::modules_of(image) {
-        let adjacent = masks::neighbours(image, m);
-        if holding::fits(image, m, adjacent, x) {
+    if m < plan::modules_of(image, places) {
+        let adjacent = masks::neighbours(image, places, m);
+        if holding::fits(image, places, m, adjacent, x) {
             let own = r.own;
             let reply = r.reply;
             let mut state = x;
@@ -39,13 +40,13 @@ fn replied(image: &[u8], m: u8, x: Module, r: Replied) -> ModuleCalled
 pub fn respond(image: &[u8], m: u8, x: Module, e: u8) -> ModuleCalled
     ensures { λ r. ⌜ r ≡ moduleRespond (now (image .entry)) m x e ⌝ }
 {
-    match checker::check(image) {
-        Verdict::Accepted => {
+    match checker::examine(image) {
+        Examined::Accepted(places) => {
             let own = x.own;
-            let r = modules::respond(image, m, e, own);
-            replied(image, m, x, r)
+            let r = modules::respond(image, places, m, e, own);
+            replied(image, places, m, x, r)
         }
-        Verdict::Refused(n, at) => holding::refused(x, n, at),
+        Examined::Refused(n, at) => holding::refused(x, n, at),
     }
 }
 
@@ -53,22 +54,22 @@ pub fn respond(image: &[u8], m: u8, x: Module, e: u8) -> ModuleCalled
 pub fn tick(image: &[u8], m: u8, x: Module, f: Flow) -> ModuleCalled
     ensures { λ r. ⌜ r ≡ moduleTick (now (image .entry)) m x f ⌝ }
 {
-    match checker::check(image) {
-        Verdict::Accepted => {
+    match checker::examine(image) {
+        Examined::Accepted(places) => {
             let own = x.own;
-            let r = modules::tick(image, f, own);
-            replied(image, m, x, r)
+            let r = modules::tick(image, places, f, own);
+            replied(image, places, m, x, r)
         }
-        Verdict::Refused(n, at) => holding::refused(x, n, at),
+        Examined::Refused(n, at) => holding::refused(x, n, at),
     }
 }
 
 // ---- the start
 
-fn started(image: &[u8], m: u8) -> Module
-    ensures { λ r. ⌜ r ≡ startModule (recordsOf (now (image .entry))) m ⌝ }
+fn started(image: &[u8], places: Places, m: u8) -> Module
+    ensures { λ r. ⌜ r ≡ startModule (recordsBy (now (image .entry)) places) m ⌝ }
 {
-    let own = modules::started(image, m);
+    let own = modules::started(image, places, m);
     Module {
         own,
         held: 0,
@@ -81,17 +82,17 @@ fn started(image: &[u8], m: u8) -> Module
 pub fn start(image: &[u8], m: u8) -> ModuleCalled
     ensures { λ r. ⌜ r ≡ moduleStart (now (image .entry)) m ⌝ }
 {
-    match checker::check(image) {
-        Verdict::Accepted => {
-            if m < plan::modules_of(image) {
+    match checker::examine(image) {
+        Examined::Accepted(places) => {
+            if m < plan::modules_of(image, places) {
                 ModuleCalled {
                     answer: Called::Done,
-                    state: started(image, m),
+                    state: started(image, places, m),
                 }
             } else {
                 holding::refused(permits::empty_module(), 11, 0)
             }
         }
-        Verdict::Refused(n, at) => holding::refused(permits::empty_module(), n, at),
+        Examined::Refused(n, at) => holding::refused(permits::empty_module(), n, at),
     }
 }

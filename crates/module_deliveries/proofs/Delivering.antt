@@ -17,7 +17,13 @@ use Rattle.reader.specs.Walk.{recordsOf}
 use Rattle.rules.specs.LookUp.{modulesOf}
 use Rattle.rules.specs.Check.{verdictOf}
 use Rattle.rules.specs.declared.Verdict.{Verdict}
-use Rattle.rules.specs.declared.Verdict.the-variants.{Accepted, Refused}
+use Rattle.rules.specs.declared.Verdict.the-variants.{Accepted as IsAccepted}
+use Rattle.places.specs.declared.Places.{Places}
+use Rattle.places.specs.Places.{recordsBy}
+use Rattle.checker.specs.Examined.{examinedOf}
+use Rattle.checker.specs.declared.Examined.{Examined}
+use Rattle.checker.specs.declared.Examined.the-variants.{Accepted, Refused}
+use Rattle.checker.proofs.Examining.{call-by, refused-call}
 use Rattle.plan.specs.Plan.{neighbours}
 use Rattle.modules.specs.declared.Called.the-variants.{Done}
 use Rattle.messages.specs.Message.{parse}
@@ -122,25 +128,25 @@ absent-whole x e f = f ∙ ap (absent x) (sym e)
 -- ---- of an accepted plan
 
 module _ (rs : List Record) (m : ℕ) (x : Module) {k : ℕ} {c : ModuleCalled} (e : k ≡ modulesOf rs) where
-  pub deliver-absent : (p : Parsed) → k ≤ m → c ≡ absent x p → c ≡ deliverBy Accepted rs m x p
+  pub deliver-absent : (p : Parsed) → k ≤ m → c ≡ absent x p → c ≡ deliverBy IsAccepted rs m x p
   unfolding deliverBy
   deliver-absent p l h = h ∙ lacking rs m x (deliverIn rs m x p) (callRefused x 9 0) (absent x p) e l
 
   module _ {t : Bool} {adjacent : ℕ} (l : m < k) (n : adjacent ≡ neighbours rs m) (f : t ≡ fitsIn rs m adjacent x) where
-    pub deliver-unfit : (p : Parsed) → t ≡ false → c ≡ callRefused x 9 0 → c ≡ deliverBy Accepted rs m x p
+    pub deliver-unfit : (p : Parsed) → t ≡ false → c ≡ callRefused x 9 0 → c ≡ deliverBy IsAccepted rs m x p
     unfolding deliverBy
     deliver-unfit p q h = h ∙ unfit rs m x (deliverIn rs m x p) (callRefused x 9 0) (absent x p) e l n f q
 
-    pub deliver-fit : (p : Parsed) → t ≡ true → c ≡ deliverIn rs m x p → c ≡ deliverBy Accepted rs m x p
+    pub deliver-fit : (p : Parsed) → t ≡ true → c ≡ deliverIn rs m x p → c ≡ deliverBy IsAccepted rs m x p
     unfolding deliverBy
     deliver-fit p q h = h ∙ fit rs m x (deliverIn rs m x p) (callRefused x 9 0) (absent x p) e l n f q
 
--- ---- the image's verdict
+-- ---- the image as it was examined
 
-module _ (image : List ℕ) (m : ℕ) (x : Module) (bytes : List ℕ) {d : Verdict} {c : ModuleCalled} (e : d ≡ verdictOf image) where
-  pub deliver-accepted : {p : Parsed} → d ≡ Accepted → p ≡ parse bytes → c ≡ deliverBy Accepted (recordsOf image) m x p → c ≡ moduleDeliver image m x bytes
-  deliver-accepted f g h = h ∙ ap₂ (λ (y : Verdict) (p : Parsed). deliverBy y (recordsOf image) m x p) (sym f ∙ e) g
+module _ (image : List ℕ) (m : ℕ) (x : Module) (bytes : List ℕ) {d : Examined} {c : ModuleCalled} (e : d ≡ examinedOf image) where
+  pub deliver-accepted : {q : Places} {p : Parsed} → d ≡ Accepted q → p ≡ parse bytes → c ≡ deliverBy IsAccepted (recordsBy image q) m x p → c ≡ moduleDeliver image m x bytes
+  deliver-accepted {q} f g h = h ∙ ap (deliverBy IsAccepted (recordsBy image q) m x) g ∙ call-by image e (λ v rs. deliverBy v rs m x (parse bytes)) f
 
   pub deliver-refused : {n o : ℕ} → d ≡ Refused n o → c ≡ callRefused x n o → c ≡ moduleDeliver image m x bytes
   unfolding deliverBy
-  deliver-refused f h = h ∙ ap (λ (y : Verdict). deliverBy y (recordsOf image) m x (parse bytes)) (sym f ∙ e)
+  deliver-refused f h = h ∙ refused-call image e (λ v rs. deliverBy v rs m x (parse bytes)) f

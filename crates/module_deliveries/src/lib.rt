@@ -4,19 +4,20 @@ ghost use mathlib.Core.List.{List};
 ghost use mathlib.Core.Bool.{true};
 ghost use Prim.Native.Nat.{_<_};
 ghost use Rattle.bits.specs.Bit.{putBit};
+ghost use Rattle.places.specs.Places.{recordsBy};
 ghost use Rattle.records.specs.declared.Record.{Record};
-ghost use Rattle.reader.specs.Walk.{recordsOf};
 ghost use Rattle.rules.specs.declared.Verdict.the-variants.{Accepted};
 ghost use Rattle.plan.specs.Plan.{neighbours};
 ghost use Rattle.messages.specs.declared.Message.the-variants.{Permit};
 ghost use Rattle.permits.specs.Module.{takenBy, deliverIn, absent, deliverBy, moduleDeliver};
 use bits::Maybe;
+use checker::Examined;
 use messages::Message;
 use messages::Parsed;
 use modules::Called;
 use permits::Module;
 use permits::ModuleCalled;
-use rules::Verdict;
+use places::Places;
 
 // The permits held, with one more.
 fn hold(held: u32, v: u8) -> u32
@@ -65,14 +66,21 @@ fn take(m: u8, adjacent: u32, x: Module, g: Message) -> ModuleCalled
     }
 }
 
-fn deliver_fitting(image: &[u8], m: u8, adjacent: u32, x: Module, p: Parsed) -> ModuleCalled
-    requires { ⌜ adjacent ≡ neighbours (recordsOf (now image)) m ⌝ }
-    ensures { λ r. ⌜ r ≡ deliverIn (recordsOf (now (image .entry))) m x p ⌝ }
+fn deliver_fitting(
+    image: &[u8],
+    places: Places,
+    m: u8,
+    adjacent: u32,
+    x: Module,
+    p: Parsed,
+) -> ModuleCalled
+    requires { ⌜ adjacent ≡ neighbours (recordsBy (now image) places) m ⌝ }
+    ensures { λ r. ⌜ r ≡ deliverIn (recordsBy (now (image .entry)) places) m x p ⌝ }
 {
     let Parsed::Whole(g) = p else {
         return holding::refused(x, 10, 0);
     };
-    if permits::named(image, g) {
+    if permits::named(image, places, g) {
         take(m, adjacent, x, g)
     } else {
         holding::refused(x, 11, 0)
@@ -89,13 +97,13 @@ fn absent(x: Module, p: Parsed) -> ModuleCalled
     holding::refused(x, 11, 0)
 }
 
-fn deliver_in(image: &[u8], m: u8, x: Module, p: Parsed) -> ModuleCalled
-    ensures { λ r. ⌜ r ≡ deliverBy Accepted (recordsOf (now (image .entry))) m x p ⌝ }
+fn deliver_in(image: &[u8], places: Places, m: u8, x: Module, p: Parsed) -> ModuleCalled
+    ensures { λ r. ⌜ r ≡ deliverBy Accepted (recordsBy (now (image .entry)) places) m x p ⌝ }
 {
-    if m < plan::modules_of(image) {
-        let adjacent = masks::neighbours(image, m);
-        if holding::fits(image, m, adjacent, x) {
-            deliver_fitting(image, m, adjacent, x, p)
+    if m < plan::modules_of(image, places) {
+        let adjacent = masks::neighbours(image, places, m);
+        if holding::fits(image, places, m, adjacent, x) {
+            deliver_fitting(image, places, m, adjacent, x, p)
         } else {
             holding::refused(x, 9, 0)
         }
@@ -108,11 +116,11 @@ fn deliver_in(image: &[u8], m: u8, x: Module, p: Parsed) -> ModuleCalled
 pub fn deliver(image: &[u8], m: u8, x: Module, bytes: &[u8]) -> ModuleCalled
     ensures { λ r. ⌜ r ≡ moduleDeliver (now (image .entry)) m x (now (bytes .entry)) ⌝ }
 {
-    match checker::check(image) {
-        Verdict::Accepted => {
+    match checker::examine(image) {
+        Examined::Accepted(places) => {
             let p = messages::read(bytes);
-            deliver_in(image, m, x, p)
+            deliver_in(image, places, m, x, p)
         }
-        Verdict::Refused(n, at) => holding::refused(x, n, at),
+        Examined::Refused(n, at) => holding::refused(x, n, at),
     }
 }

@@ -8,11 +8,14 @@ use lib.Count.{ones}
 use lib.ListN.{length}
 use borrow.Author.Tests.{lt-ltb, le-ltb, not-true, not-false}
 use Rattle.records.specs.declared.Record.{Record}
-use Rattle.reader.specs.Walk.{recordsOf}
 use Rattle.rules.specs.LookUp.{modulesOf}
-use Rattle.rules.specs.Check.{verdictOf}
-use Rattle.rules.specs.declared.Verdict.{Verdict}
-use Rattle.rules.specs.declared.Verdict.the-variants.{Accepted, Refused}
+use Rattle.rules.specs.declared.Verdict.the-variants.{Accepted as IsAccepted}
+use Rattle.places.specs.declared.Places.{Places}
+use Rattle.places.specs.Places.{recordsBy}
+use Rattle.checker.specs.Examined.{examinedOf}
+use Rattle.checker.specs.declared.Examined.{Examined}
+use Rattle.checker.specs.declared.Examined.the-variants.{Accepted, Refused}
+use Rattle.checker.proofs.Examining.{call-by, refused-call}
 use Rattle.plan.specs.Plan.{neighbours}
 use Rattle.modules.specs.declared.Turn.{Turn}
 use Rattle.modules.specs.declared.Turned.{Turned}
@@ -114,30 +117,30 @@ module _ (rs : List Record) (m : ℕ) (x : Module) (b : List ℕ) {o : Chosen} (
 
 -- ---- the whole call
 
-module _ (image : List ℕ) (m : ℕ) (x : Module) (b : List ℕ) {d : Verdict} (e : d ≡ verdictOf image) where
-  by : {v : Verdict} → d ≡ v → stepBy v (recordsOf image) m x b ≡ moduleStep image m x b
-  by f = ap (λ (y : Verdict). stepBy y (recordsOf image) m x b) (sym f ∙ e)
-
+module _ (image : List ℕ) (m : ℕ) (x : Module) (b : List ℕ) {d : Examined} (e : d ≡ examinedOf image) where
   pub step-refused-by : {n o : ℕ} {r : ModuleStepped} → d ≡ Refused n o → r ≡ (record { answer = StepRefused n o; state = x }) → Gave (moduleStep image m x b) (r .answer) (r .state) b
   unfolding stepBy
-  step-refused-by {n = n} {o = o} f h = gives (by f) (refuses x b n o h)
+  step-refused-by {n = n} {o = o} f h = gives (refused-call image e (λ v rs. stepBy v rs m x b) f) (refuses x b n o h)
 
-  module _ {k : ℕ} (f : d ≡ Accepted) (c : k ≡ modulesOf (recordsOf image)) where
+  module _ {p : Places} {k : ℕ} (f : d ≡ Accepted p) (c : k ≡ modulesOf (recordsBy image p)) where
     abbrev rs : List Record
-    rs = recordsOf image
+    rs = recordsBy image p
+
+    by : stepBy IsAccepted rs m x b ≡ moduleStep image m x b
+    by = call-by image e (λ v rs. stepBy v rs m x b) f
 
     abbrev acted : StepCall
     acted = stepIn rs m x b (choice rs m x)
 
     pub step-absent : {r : ModuleStepped} → k ≤ m → r ≡ (record { answer = StepRefused 11 0; state = x }) → Gave (moduleStep image m x b) (r .answer) (r .state) b
     unfolding stepBy
-    step-absent l h = gives (lacking rs m x acted (stepRefused x b 9 0) (stepRefused x b 11 0) c l ∙ by f) (refuses x b 11 0 h)
+    step-absent l h = gives (lacking rs m x acted (stepRefused x b 9 0) (stepRefused x b 11 0) c l ∙ by) (refuses x b 11 0 h)
 
-    module _ {t : Bool} {adjacent : ℕ} (l : m < k) (n : adjacent ≡ neighbours (recordsOf image) m) (g : t ≡ fitsIn (recordsOf image) m adjacent x) where
+    module _ {t : Bool} {adjacent : ℕ} (l : m < k) (n : adjacent ≡ neighbours (recordsBy image p) m) (g : t ≡ fitsIn (recordsBy image p) m adjacent x) where
       pub step-unfit : {r : ModuleStepped} → t ≡ false → r ≡ (record { answer = StepRefused 9 0; state = x }) → Gave (moduleStep image m x b) (r .answer) (r .state) b
       unfolding stepBy
-      step-unfit q h = gives (unfit rs m x acted (stepRefused x b 9 0) (stepRefused x b 11 0) c l n g q ∙ by f) (refuses x b 9 0 h)
+      step-unfit q h = gives (unfit rs m x acted (stepRefused x b 9 0) (stepRefused x b 11 0) c l n g q ∙ by) (refuses x b 9 0 h)
 
-      pub step-fit : {a : Stepped} {s : Module} {after : List ℕ} → t ≡ true → Gave (stepIn (recordsOf image) m x b (choice (recordsOf image) m x)) a s after → Gave (moduleStep image m x b) a s after
+      pub step-fit : {a : Stepped} {s : Module} {after : List ℕ} → t ≡ true → Gave (stepIn (recordsBy image p) m x b (choice (recordsBy image p) m x)) a s after → Gave (moduleStep image m x b) a s after
       unfolding stepBy
-      step-fit q h = gives (fit rs m x acted (stepRefused x b 9 0) (stepRefused x b 11 0) c l n g q ∙ by f) h
+      step-fit q h = gives (fit rs m x acted (stepRefused x b 9 0) (stepRefused x b 11 0) c l n g q ∙ by) h

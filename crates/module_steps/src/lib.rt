@@ -2,18 +2,19 @@
 ghost use mathlib.Core.Path.{_≡_};
 ghost use mathlib.Core.List.{List};
 ghost use mathlib.Core.Bool.{true};
+ghost use Rattle.places.specs.Places.{recordsBy};
 ghost use Rattle.records.specs.declared.Record.{Record};
-ghost use Rattle.reader.specs.Walk.{recordsOf};
 ghost use Rattle.plan.specs.Plan.{neighbours};
 ghost use Rattle.permits.specs.Module.{heldFits, choice, takesTurn, bidsTo, stepIn, moduleStep};
 ghost use Rattle.permits.specs.Step.{Gave};
 ghost use Rattle.module_steps.specs.Choice.{choiceOf};
 use bits::Maybe;
+use checker::Examined;
 use messages::Message;
 use permits::Module;
 use permits::ModuleStepped;
 use permits::Stepped;
-use rules::Verdict;
+use places::Places;
 
 // What a step does.
 enum Chosen {
@@ -31,15 +32,15 @@ fn step_refused(x: Module, n: u8, at: usize) -> ModuleStepped
     }
 }
 
-fn choose(image: &[u8], m: u8, adjacent: u32, x: Module) -> Chosen
-    requires { ⌜ adjacent ≡ neighbours (recordsOf (now image)) m ⌝ }
-    requires { ⌜ heldFits (recordsOf (now image)) m (x .held) ≡ true ⌝ }
-    ensures { λ r. ⌜ choiceOf r ≡ choice (recordsOf (now (image .entry))) m x ⌝ }
+fn choose(image: &[u8], places: Places, m: u8, adjacent: u32, x: Module) -> Chosen
+    requires { ⌜ adjacent ≡ neighbours (recordsBy (now image) places) m ⌝ }
+    requires { ⌜ heldFits (recordsBy (now image) places) m (x .held) ≡ true ⌝ }
+    ensures { λ r. ⌜ choiceOf r ≡ choice (recordsBy (now (image .entry)) places) m x ⌝ }
 {
     let own = x.own;
     let held = x.held;
     let bid = x.bid;
-    let wish = turns::wish(image, m, own);
+    let wish = turns::wish(image, places, m, own);
     if holding::lacks(adjacent, held) {
         if bid | !((held != 0) | wish) {
             return Chosen::Wait;
@@ -58,14 +59,21 @@ fn choose(image: &[u8], m: u8, adjacent: u32, x: Module) -> Chosen
 }
 
 // A turn over the masks received, which releases every permit.
-fn take_turn(image: &[u8], m: u8, adjacent: u32, x: Module, buffer: &mut [u8]) -> ModuleStepped
-    requires { ⌜ adjacent ≡ neighbours (recordsOf (now image)) m ⌝ }
-    ensures { λ r. ⌜ Gave (stepIn (recordsOf (now (image .entry))) m x (now (buffer .entry)) takesTurn) (r .answer) (r .state) (now (buffer .exit)) ⌝ }
+fn take_turn(
+    image: &[u8],
+    places: Places,
+    m: u8,
+    adjacent: u32,
+    x: Module,
+    buffer: &mut [u8],
+) -> ModuleStepped
+    requires { ⌜ adjacent ≡ neighbours (recordsBy (now image) places) m ⌝ }
+    ensures { λ r. ⌜ Gave (stepIn (recordsBy (now (image .entry)) places) m x (now (buffer .entry)) takesTurn) (r .answer) (r .state) (now (buffer .exit)) ⌝ }
 {
     let own = x.own;
-    let t = turns::turn(image, m, x.received, own);
+    let t = turns::turn(image, places, m, x.received, own);
     let did = t.turn;
-    if releasing::release(image, m, did, &mut *buffer) {
+    if releasing::release(image, places, m, did, &mut *buffer) {
         let n = releasing::length_of(adjacent);
         let after = t.own;
         let mut state = x;
@@ -101,13 +109,20 @@ fn bid(m: u8, v: u8, x: Module, buffer: &mut [u8]) -> ModuleStepped
     }
 }
 
-fn act(image: &[u8], m: u8, adjacent: u32, x: Module, buffer: &mut [u8]) -> ModuleStepped
-    requires { ⌜ adjacent ≡ neighbours (recordsOf (now image)) m ⌝ }
-    requires { ⌜ heldFits (recordsOf (now image)) m (x .held) ≡ true ⌝ }
-    ensures { λ r. ⌜ Gave (stepIn (recordsOf (now (image .entry))) m x (now (buffer .entry)) (choice (recordsOf (now (image .entry))) m x)) (r .answer) (r .state) (now (buffer .exit)) ⌝ }
+fn act(
+    image: &[u8],
+    places: Places,
+    m: u8,
+    adjacent: u32,
+    x: Module,
+    buffer: &mut [u8],
+) -> ModuleStepped
+    requires { ⌜ adjacent ≡ neighbours (recordsBy (now image) places) m ⌝ }
+    requires { ⌜ heldFits (recordsBy (now image) places) m (x .held) ≡ true ⌝ }
+    ensures { λ r. ⌜ Gave (stepIn (recordsBy (now (image .entry)) places) m x (now (buffer .entry)) (choice (recordsBy (now (image .entry)) places) m x)) (r .answer) (r .state) (now (buffer .exit)) ⌝ }
 {
-    match choose(image, m, adjacent, x) {
-        Chosen::Turn => take_turn(image, m, adjacent, x, buffer),
+    match choose(image, places, m, adjacent, x) {
+        Chosen::Turn => take_turn(image, places, m, adjacent, x, buffer),
         Chosen::Bid(to) => bid(m, to, x, buffer),
         Chosen::Wait => ModuleStepped {
             answer: Stepped::Waits,
@@ -120,12 +135,12 @@ fn act(image: &[u8], m: u8, adjacent: u32, x: Module, buffer: &mut [u8]) -> Modu
 pub fn step(image: &[u8], m: u8, x: Module, buffer: &mut [u8]) -> ModuleStepped
     ensures { λ r. ⌜ Gave (moduleStep (now (image .entry)) m x (now (buffer .entry))) (r .answer) (r .state) (now (buffer .exit)) ⌝ }
 {
-    match checker::check(image) {
-        Verdict::Accepted => {
-            if m < plan::modules_of(image) {
-                let adjacent = masks::neighbours(image, m);
-                if holding::fits(image, m, adjacent, x) {
-                    act(image, m, adjacent, x, buffer)
+    match checker::examine(image) {
+        Examined::Accepted(places) => {
+            if m < plan::modules_of(image, places) {
+                let adjacent = masks::neighbours(image, places, m);
+                if holding::fits(image, places, m, adjacent, x) {
+                    act(image, places, m, adjacent, x, buffer)
                 } else {
                     step_refused(x, 9, 0)
                 }
@@ -133,6 +148,6 @@ pub fn step(image: &[u8], m: u8, x: Module, buffer: &mut [u8]) -> ModuleStepped
                 step_refused(x, 11, 0)
             }
         }
-        Verdict::Refused(n, at) => step_refused(x, n, at),
+        Examined::Refused(n, at) => step_refused(x, n, at),
     }
 }

@@ -4,7 +4,7 @@ ghost use mathlib.Core.Bool.{true, false, cond};
 ghost use Prim.Native.Nat.{suc, _<_};
 ghost use lib.Dec.{eqb, ltb};
 ghost use lib.ListN.{getD, take, drop};
-ghost use Rattle.reader.specs.Walk.{recordsOf};
+ghost use Rattle.places.specs.Places.{recordsBy};
 ghost use Rattle.plan.specs.Plan.{counts};
 ghost use Rattle.water.specs.Water as Rules;
 ghost use Rattle.water.specs.Water.{flowOk, noWater, waterOf};
@@ -13,6 +13,7 @@ ghost use Rattle.modules.specs.Procedure.{idle, arriveAt, withOutputs, o
 ghost use Rattle.modules.specs.Procedure as Steps;
 ghost use Rattle.modules.specs.StepFields.{stepFieldsOf};
 ghost use Rattle.modules.specs.Turn.{emptyOwn, startOwn};
+use places::Places;
 use reader::Found;
 use records::Record;
 use water::Flow;
@@ -133,10 +134,10 @@ pub fn without_head(own: Own) -> Own
 }
 
 // A response of module m by the event e.
-pub fn respond(image: &[u8], m: u8, e: u8, own: Own) -> Replied
-    ensures { λ r. ⌜ r ≡ respondOf (recordsOf (now (image .entry))) m e own ⌝ }
+pub fn respond(image: &[u8], places: Places, m: u8, e: u8, own: Own) -> Replied
+    ensures { λ r. ⌜ r ≡ respondOf (recordsBy (now (image .entry)) places) m e own ⌝ }
 {
-    if plan::own_uncontrollable(image, m, e) {
+    if plan::own_uncontrollable(image, places, m, e) {
         if own.length < 8 {
             let next = with_response(own, e);
             Replied {
@@ -199,10 +200,10 @@ fn no_fields() -> StepFields
     }
 }
 
-pub fn step_fields(image: &[u8], e: u8, i: u8) -> StepFields
-    ensures { λ w. ⌜ w ≡ stepFieldsOf (recordsOf (now (image .entry))) e i ⌝ }
+pub fn step_fields(image: &[u8], places: Places, e: u8, i: u8) -> StepFields
+    ensures { λ w. ⌜ w ≡ stepFieldsOf (recordsBy (now (image .entry)) places) e i ⌝ }
 {
-    let Found::It(r) = plan::step(image, e, i) else {
+    let Found::It(r) = plan::step(image, places, e, i) else {
         return no_fields();
     };
     // No other record is found by the key of a step.
@@ -234,10 +235,10 @@ fn water_at(o: u8, x: u64) -> Water
 }
 
 // The procedure as it arrives at a step of an event.
-pub fn arrive_at(image: &[u8], e: u8, i: u8) -> Procedure
-    ensures { λ r. ⌜ r ≡ arriveAt (recordsOf (now (image .entry))) e i ⌝ }
+pub fn arrive_at(image: &[u8], places: Places, e: u8, i: u8) -> Procedure
+    ensures { λ r. ⌜ r ≡ arriveAt (recordsBy (now (image .entry)) places) e i ⌝ }
 {
-    let w = step_fields(image, e, i);
+    let w = step_fields(image, places, e, i);
     if w.present {
         let v = water_at(w.operation, w.operand);
         Procedure {
@@ -253,12 +254,12 @@ pub fn arrive_at(image: &[u8], e: u8, i: u8) -> Procedure
 }
 
 // On to the next step of the event.
-fn advanced(image: &[u8], own: Own) -> Own
+fn advanced(image: &[u8], places: Places, own: Own) -> Own
     requires { ⌜ own .procedure .index < 64 ⌝ }
-    ensures { λ r. ⌜ r ≡ Steps.advanced (recordsOf (now (image .entry))) own ⌝ }
+    ensures { λ r. ⌜ r ≡ Steps.advanced (recordsBy (now (image .entry)) places) own ⌝ }
 {
     let p = own.procedure;
-    let after = arrive_at(image, p.event, p.index + 1);
+    let after = arrive_at(image, places, p.event, p.index + 1);
     let mut next = own;
     next.procedure = after;
     next
@@ -281,10 +282,10 @@ fn switched(own: Own, x: u64, on: bool) -> Own
 }
 
 // One tick of a wait of x ticks.
-fn waited(image: &[u8], x: u64, own: Own) -> Own
+fn waited(image: &[u8], places: Places, x: u64, own: Own) -> Own
     requires { ⌜ own .procedure .index < 64 ⌝ }
     requires { ⌜ x < 65536 ⌝ }
-    ensures { λ r. ⌜ r ≡ cond (ltb (suc (own .procedure .count)) x) (counted own) (Steps.advanced (recordsOf (now (image .entry))) own) ⌝ }
+    ensures { λ r. ⌜ r ≡ cond (ltb (suc (own .procedure .count)) x) (counted own) (Steps.advanced (recordsBy (now (image .entry)) places) own) ⌝ }
 {
     let mut p = own.procedure;
     let n = p.count as u64 + 1;
@@ -295,22 +296,22 @@ fn waited(image: &[u8], x: u64, own: Own) -> Own
         next.procedure = p;
         next
     } else {
-        advanced(image, own)
+        advanced(image, places, own)
     }
 }
 
 // One reading of a wait for litres, by the bits x of its target.
-fn metered(image: &[u8], x: u64, f: Flow, own: Own) -> Own
+fn metered(image: &[u8], places: Places, x: u64, f: Flow, own: Own) -> Own
     requires { ⌜ own .procedure .index < 64 ⌝ }
     requires { ⌜ flowOk f ≡ true ⌝ }
-    ensures { λ r. ⌜ r ≡ cond (Rules.running x (own .procedure .water)) (Steps.metered (recordsOf (now (image .entry))) f own) own ⌝ }
+    ensures { λ r. ⌜ r ≡ cond (Rules.running x (own .procedure .water)) (Steps.metered (recordsBy (now (image .entry)) places) f own) own ⌝ }
 {
     let mut p = own.procedure;
     let w = p.water;
     if water::running(x, w) {
         let v = water::updated(w, f);
         if water::reached(v) {
-            advanced(image, own)
+            advanced(image, places, own)
         } else {
             p.running = true;
             p.water = v;
@@ -324,60 +325,60 @@ fn metered(image: &[u8], x: u64, f: Flow, own: Own) -> Own
 }
 
 // A respond step by the event x: it stays put while the queue is full.
-fn responded(image: &[u8], x: u64, own: Own) -> Own
+fn responded(image: &[u8], places: Places, x: u64, own: Own) -> Own
     requires { ⌜ own .procedure .index < 64 ⌝ }
     requires { ⌜ x < 64 ⌝ }
-    ensures { λ r. ⌜ r ≡ cond (full own) own (Steps.advanced (recordsOf (now (image .entry))) (queued own x)) ⌝ }
+    ensures { λ r. ⌜ r ≡ cond (full own) own (Steps.advanced (recordsBy (now (image .entry)) places) (queued own x)) ⌝ }
 {
     if 8 <= own.length {
         own
     } else {
         let e = x as u8;
         let after = with_response(own, e);
-        advanced(image, after)
+        advanced(image, places, after)
     }
 }
 
 // The step of operation o and operand x performed, or one tick of it.
-fn performed(image: &[u8], o: u8, x: u64, f: Flow, own: Own) -> Own
+fn performed(image: &[u8], places: Places, o: u8, x: u64, f: Flow, own: Own) -> Own
     requires { ⌜ counts (Record.Step (own .procedure .event) (own .procedure .index) o x) ≡ true ⌝ }
     requires { ⌜ flowOk f ≡ true ⌝ }
-    ensures { λ r. ⌜ r ≡ Steps.performed (recordsOf (now (image .entry))) o x f own ⌝ }
+    ensures { λ r. ⌜ r ≡ Steps.performed (recordsBy (now (image .entry)) places) o x f own ⌝ }
 {
     match o {
         1 => {
             let next = switched(own, x, true);
-            advanced(image, next)
+            advanced(image, places, next)
         }
         2 => {
             let next = switched(own, x, false);
-            advanced(image, next)
+            advanced(image, places, next)
         }
-        3 => waited(image, x, own),
-        4 => metered(image, x, f, own),
-        _ => responded(image, x, own),
+        3 => waited(image, places, x, own),
+        4 => metered(image, places, x, f, own),
+        _ => responded(image, places, x, own),
     }
 }
 
-fn ticked(image: &[u8], f: Flow, own: Own) -> Own
+fn ticked(image: &[u8], places: Places, f: Flow, own: Own) -> Own
     requires { ⌜ flowOk f ≡ true ⌝ }
-    ensures { λ r. ⌜ r ≡ Steps.ticked (recordsOf (now (image .entry))) f own ⌝ }
+    ensures { λ r. ⌜ r ≡ Steps.ticked (recordsBy (now (image .entry)) places) f own ⌝ }
 {
     let p = own.procedure;
-    let w = step_fields(image, p.event, p.index);
+    let w = step_fields(image, places, p.event, p.index);
     if p.running & w.present {
-        performed(image, w.operation, w.operand, f, own)
+        performed(image, places, w.operation, w.operand, f, own)
     } else {
         own
     }
 }
 
 // A tick with a flow reading.
-pub fn tick(image: &[u8], f: Flow, own: Own) -> Replied
-    ensures { λ r. ⌜ r ≡ tickOf (recordsOf (now (image .entry))) f own ⌝ }
+pub fn tick(image: &[u8], places: Places, f: Flow, own: Own) -> Replied
+    ensures { λ r. ⌜ r ≡ tickOf (recordsBy (now (image .entry)) places) f own ⌝ }
 {
     if water::flow_ok(f) {
-        let next = ticked(image, f, own);
+        let next = ticked(image, places, f, own);
         Replied {
             reply: Reply::Taken,
             own: next,
@@ -407,10 +408,10 @@ pub fn empty() -> Own
 }
 
 // The own part of module m at the start.
-pub fn started(image: &[u8], m: u8) -> Own
-    ensures { λ r. ⌜ r ≡ startOwn (recordsOf (now (image .entry))) m ⌝ }
+pub fn started(image: &[u8], places: Places, m: u8) -> Own
+    ensures { λ r. ⌜ r ≡ startOwn (recordsBy (now (image .entry)) places) m ⌝ }
 {
     let mut own = empty();
-    own.state = plan::module_initial(image, m);
+    own.state = plan::module_initial(image, places, m);
     own
 }

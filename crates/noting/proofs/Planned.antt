@@ -1,4 +1,4 @@
--- What a call is told of the plan first: the verdict d on the image, and the count k of supervisors.
+-- What a call is told of the plan first: the count k of supervisors.
 use mathlib.Core.Path.{_≡_, sym, ap, _∙_}
 use mathlib.Core.List.{List}
 use mathlib.Core.Bool.{true, false}
@@ -7,12 +7,6 @@ use lib.Dec.{ltb}
 use borrow.Author.Tests.{lt-ltb, le-ltb}
 use Rattle.records.specs.declared.Record.{Record}
 use Rattle.rules.specs.LookUp.{supervisorsOf}
-use Rattle.rules.specs.Check.{verdictOf, IsPlan}
-use Rattle.rules.specs.declared.Verdict.{Verdict}
-use Rattle.rules.specs.declared.Verdict.the-variants.{Accepted}
-
-pub plan-by : (image : List ℕ) {d : Verdict} → d ≡ verdictOf image → d ≡ Accepted → IsPlan image
-plan-by image e f = sym e ∙ f
 
 -- a supervisor that the plan has, or lacks
 module _ (rs : List Record) (v : ℕ) {k : ℕ} (c : k ≡ supervisorsOf rs) where

@@ -2,35 +2,36 @@
 ghost use mathlib.Core.Path.{_≡_};
 ghost use mathlib.Core.Bool.{not, _||_};
 ghost use Prim.Native.Nat.{_<_};
+ghost use Rattle.places.specs.Places.{recordsBy};
 ghost use Rattle.bits.specs.Bit.{bit, allBelow, least, optionOf};
-ghost use Rattle.reader.specs.Walk.{recordsOf};
 ghost use Rattle.permits.specs.Names.{neighbours?};
 ghost use Rattle.permits.specs.Supervisor.{holderFits, supervisorFits, placeAfter, served};
 ghost use Rattle.noting.specs.Notes.{putNote};
 use bits::Maybe;
 use permits::Holder;
 use permits::Supervisor;
+use places::Places;
 
 // ---- a state that fits
 
 // Whether a module, if it is noted, is a neighbour.
-fn note_fits(image: &[u8], v: u8, noted: u16, m: u8) -> bool
-    ensures { λ r. ⌜ r ≡ (not (bit noted m) || neighbours? (recordsOf (now (image .entry))) m v) ⌝ }
+fn note_fits(image: &[u8], places: Places, v: u8, noted: u16, m: u8) -> bool
+    ensures { λ r. ⌜ r ≡ (not (bit noted m) || neighbours? (recordsBy (now (image .entry)) places) m v) ⌝ }
 {
     let mask = noted as u64;
     if bits::has(mask, m) {
-        permits::are_neighbours(image, m, v)
+        permits::are_neighbours(image, places, m, v)
     } else {
         true
     }
 }
 
-fn noted_fits(image: &[u8], v: u8, noted: u16) -> bool
-    ensures { λ r. ⌜ r ≡ allBelow (λ m. not (bit noted m) || neighbours? (recordsOf (now (image .entry))) m v) 16 ⌝ }
+fn noted_fits(image: &[u8], places: Places, v: u8, noted: u16) -> bool
+    ensures { λ r. ⌜ r ≡ allBelow (λ m. not (bit noted m) || neighbours? (recordsBy (now (image .entry)) places) m v) 16 ⌝ }
 {
     let mut m: u8 = 0;
     while m < 16 {
-        if !note_fits(image, v, noted, m) {
+        if !note_fits(image, places, v, noted, m) {
             return false;
         }
         m += 1;
@@ -38,23 +39,23 @@ fn noted_fits(image: &[u8], v: u8, noted: u16) -> bool
     true
 }
 
-fn holder_fits(image: &[u8], v: u8, holder: Holder) -> bool
-    ensures { λ r. ⌜ r ≡ holderFits (recordsOf (now (image .entry))) v holder ⌝ }
+fn holder_fits(image: &[u8], places: Places, v: u8, holder: Holder) -> bool
+    ensures { λ r. ⌜ r ≡ holderFits (recordsBy (now (image .entry)) places) v holder ⌝ }
 {
     match holder {
         Holder::Home => true,
-        Holder::Out(m) => permits::are_neighbours(image, m, v),
+        Holder::Out(m) => permits::are_neighbours(image, places, m, v),
     }
 }
 
 // Whether the state fits the plan.
-pub fn fits(image: &[u8], v: u8, y: Supervisor) -> bool
-    ensures { λ r. ⌜ r ≡ supervisorFits (recordsOf (now (image .entry))) v y ⌝ }
+pub fn fits(image: &[u8], places: Places, v: u8, y: Supervisor) -> bool
+    ensures { λ r. ⌜ r ≡ supervisorFits (recordsBy (now (image .entry)) places) v y ⌝ }
 {
     let holder = y.holder;
-    plan::supervisor_state(image, v, y.state)
-        & noted_fits(image, v, y.noted)
-        & holder_fits(image, v, holder)
+    plan::supervisor_state(image, places, v, y.state)
+        & noted_fits(image, places, v, y.noted)
+        & holder_fits(image, places, v, holder)
         & (y.last < 16)
 }
 

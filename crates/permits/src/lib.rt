@@ -1,7 +1,7 @@
 // The states and answers of the distributed controller: specs/Module.antt and specs/Supervisor.antt. What a message names:
 // specs/Names.antt.
 ghost use mathlib.Core.Path.{_≡_};
-ghost use Rattle.reader.specs.Walk.{recordsOf};
+ghost use Rattle.places.specs.Places.{recordsBy};
 ghost use Rattle.plan.specs.Plan.{neighbour};
 ghost use Rattle.permits.specs.Names.{neighbours?, eventNamed, named};
 ghost use Rattle.permits.specs.Module.{emptyModule};
@@ -10,6 +10,7 @@ use messages::Message;
 use modules::Called;
 use modules::Own;
 use modules::Turn;
+use places::Places;
 
 // A module on its own device: its own part, the supervisors whose permits it holds, the union of the masks received with them, and whether
 // a bid is outstanding, which is always with its lowest neighbour not held.
@@ -96,45 +97,47 @@ pub fn empty_supervisor() -> Supervisor
 }
 
 // Whether a supervisor's alphabet has an event of a module.
-fn is_neighbour(image: &[u8], m: u8, v: u8) -> bool
-    ensures { λ r. ⌜ r ≡ neighbour (recordsOf (now (image .entry))) m v ⌝ }
+fn is_neighbour(image: &[u8], places: Places, m: u8, v: u8) -> bool
+    ensures { λ r. ⌜ r ≡ neighbour (recordsBy (now (image .entry)) places) m v ⌝ }
 {
-    let own = masks::own_events(image, m);
-    let alphabet = plan::alphabet_of(image, v);
+    let own = masks::own_events(image, places, m);
+    let alphabet = plan::alphabet_of(image, places, v);
     alphabet & own != 0
 }
 
 // Whether a module and a supervisor are the plan's, and neighbours.
-pub fn are_neighbours(image: &[u8], m: u8, v: u8) -> bool
-    ensures { λ r. ⌜ r ≡ neighbours? (recordsOf (now (image .entry))) m v ⌝ }
+pub fn are_neighbours(image: &[u8], places: Places, m: u8, v: u8) -> bool
+    ensures { λ r. ⌜ r ≡ neighbours? (recordsBy (now (image .entry)) places) m v ⌝ }
 {
-    (m < plan::modules_of(image)) & (v < plan::supervisors_of(image)) & is_neighbour(image, m, v)
+    (m < plan::modules_of(image, places))
+        & (v < plan::supervisors_of(image, places))
+        & is_neighbour(image, places, m, v)
 }
 
-fn event_named(image: &[u8], m: u8, v: u8, e: u8) -> bool
-    ensures { λ r. ⌜ r ≡ eventNamed (recordsOf (now (image .entry))) m v e ⌝ }
+fn event_named(image: &[u8], places: Places, m: u8, v: u8, e: u8) -> bool
+    ensures { λ r. ⌜ r ≡ eventNamed (recordsBy (now (image .entry)) places) m v e ⌝ }
 {
-    plan::own_event(image, m, e) & plan::in_alphabet(image, v, e)
+    plan::own_event(image, places, m, e) & plan::in_alphabet(image, places, v, e)
 }
 
 // Whether what a message names is in the plan.
-pub fn named(image: &[u8], g: Message) -> bool
-    ensures { λ r. ⌜ r ≡ named (recordsOf (now (image .entry))) g ⌝ }
+pub fn named(image: &[u8], places: Places, g: Message) -> bool
+    ensures { λ r. ⌜ r ≡ named (recordsBy (now (image .entry)) places) g ⌝ }
 {
     match g {
-        Message::Bid { owner, supervisor } => are_neighbours(image, owner, supervisor),
+        Message::Bid { owner, supervisor } => are_neighbours(image, places, owner, supervisor),
         Message::Permit {
             supervisor,
             owner,
             mask: _,
-        } => are_neighbours(image, owner, supervisor),
+        } => are_neighbours(image, places, owner, supervisor),
         Message::Release {
             owner,
             supervisor,
             event,
         } => {
-            are_neighbours(image, owner, supervisor)
-                & ((event == 255) | event_named(image, owner, supervisor, event))
+            are_neighbours(image, places, owner, supervisor)
+                & ((event == 255) | event_named(image, places, owner, supervisor, event))
         }
     }
 }

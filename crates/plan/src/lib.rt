@@ -1,13 +1,14 @@
-// Look-ups on a plan: specs/Plan.antt. They take any bytes and go by the first record of a kind and key.
+// Look-ups on a plan: specs/Plan.antt. They take any bytes and any places, and go by the record that is found there.
 ghost use mathlib.Core.Path.{_≡_};
 ghost use Rattle.bits.specs.Bit.{optionOf};
+ghost use Rattle.places.specs.Places.{recordsBy};
 ghost use Rattle.records.specs.Key.{keyBy};
-ghost use Rattle.reader.specs.Walk.{recordsOf};
 ghost use Rattle.reader.specs.Find.{findIn};
-ghost use Rattle.rules.specs.LookUp.{modulesOf, supervisorsOf, eventsOf, moduleState, supervisorState, controllable, alphabetOf};
+ghost use Rattle.rules.specs.LookUp.{modulesOf, supervisorsOf, eventsOf, moduleState, supervisorState, ownerOf, controllable, alphabetOf};
 ghost use Rattle.plan.specs.Plan.{target, moduleInitial, supervisorInitial, ownEvent, ownUncontrollable, inAlphabet, shown, moduleMove, supervisorAfter, stepIn};
 ghost use Rattle.plan.specs.Fields.{fieldsOf, FieldsFound};
 use bits::Maybe;
+use places::Places;
 use reader::Found;
 use records::Record;
 use records::RecordKey;
@@ -85,8 +86,8 @@ pub fn fields_of(r: Record) -> Fields
     }
 }
 
-fn find(image: &[u8], kind: u8, first: u8, second: u8, third: u8) -> Found
-    ensures { λ f. ⌜ f ≡ findIn (keyBy kind first second third) (recordsOf (now (image .entry))) ⌝ }
+fn find(image: &[u8], places: Places, kind: u8, first: u8, second: u8, third: u8) -> Found
+    ensures { λ f. ⌜ f ≡ findIn (keyBy kind first second third) (recordsBy (now (image .entry)) places) ⌝ }
 {
     let key = RecordKey {
         kind,
@@ -94,124 +95,131 @@ fn find(image: &[u8], kind: u8, first: u8, second: u8, third: u8) -> Found
         second,
         third,
     };
-    reader::find(image, key)
+    places::look(image, places, key)
 }
 
-fn fields_at(image: &[u8], kind: u8, first: u8, second: u8) -> Fields
-    ensures { λ f. ⌜ FieldsFound (findIn (keyBy kind first second 0) (recordsOf (now (image .entry)))) f ⌝ }
+fn fields_at(image: &[u8], places: Places, kind: u8, first: u8, second: u8) -> Fields
+    ensures { λ f. ⌜ FieldsFound (findIn (keyBy kind first second 0) (recordsBy (now (image .entry)) places)) f ⌝ }
 {
-    let Found::It(r) = find(image, kind, first, second, 0) else {
+    let Found::It(r) = find(image, places, kind, first, second, 0) else {
         return fields_by(0, 0, 0, 0, 0);
     };
     fields_of(r)
 }
 
 // The head's counts.
-pub fn modules_of(image: &[u8]) -> u8
-    ensures { λ r. ⌜ r ≡ modulesOf (recordsOf (now (image .entry))) ⌝ }
+pub fn modules_of(image: &[u8], places: Places) -> u8
+    ensures { λ r. ⌜ r ≡ modulesOf (recordsBy (now (image .entry)) places) ⌝ }
 {
-    fields_at(image, 0x10, 0, 0).first
+    fields_at(image, places, 0x10, 0, 0).first
 }
 
-pub fn supervisors_of(image: &[u8]) -> u8
-    ensures { λ r. ⌜ r ≡ supervisorsOf (recordsOf (now (image .entry))) ⌝ }
+pub fn supervisors_of(image: &[u8], places: Places) -> u8
+    ensures { λ r. ⌜ r ≡ supervisorsOf (recordsBy (now (image .entry)) places) ⌝ }
 {
-    fields_at(image, 0x10, 0, 0).second
+    fields_at(image, places, 0x10, 0, 0).second
 }
 
-pub fn events_of(image: &[u8]) -> u8
-    ensures { λ r. ⌜ r ≡ eventsOf (recordsOf (now (image .entry))) ⌝ }
+pub fn events_of(image: &[u8], places: Places) -> u8
+    ensures { λ r. ⌜ r ≡ eventsOf (recordsBy (now (image .entry)) places) ⌝ }
 {
-    fields_at(image, 0x10, 0, 0).third
+    fields_at(image, places, 0x10, 0, 0).third
 }
 
 // Whether a module or a supervisor has a state.
-pub fn module_state(image: &[u8], m: u8, st: u8) -> bool
-    ensures { λ r. ⌜ r ≡ moduleState (recordsOf (now (image .entry))) m st ⌝ }
+pub fn module_state(image: &[u8], places: Places, m: u8, st: u8) -> bool
+    ensures { λ r. ⌜ r ≡ moduleState (recordsBy (now (image .entry)) places) m st ⌝ }
 {
-    st < fields_at(image, 0x12, m, 0).second
+    st < fields_at(image, places, 0x12, m, 0).second
 }
 
-pub fn supervisor_state(image: &[u8], v: u8, st: u8) -> bool
-    ensures { λ r. ⌜ r ≡ supervisorState (recordsOf (now (image .entry))) v st ⌝ }
+pub fn supervisor_state(image: &[u8], places: Places, v: u8, st: u8) -> bool
+    ensures { λ r. ⌜ r ≡ supervisorState (recordsBy (now (image .entry)) places) v st ⌝ }
 {
-    st < fields_at(image, 0x14, v, 0).second
+    st < fields_at(image, places, 0x14, v, 0).second
 }
 
-pub fn module_initial(image: &[u8], m: u8) -> u8
-    ensures { λ r. ⌜ r ≡ moduleInitial (recordsOf (now (image .entry))) m ⌝ }
+pub fn module_initial(image: &[u8], places: Places, m: u8) -> u8
+    ensures { λ r. ⌜ r ≡ moduleInitial (recordsBy (now (image .entry)) places) m ⌝ }
 {
-    fields_at(image, 0x12, m, 0).third
+    fields_at(image, places, 0x12, m, 0).third
 }
 
-pub fn supervisor_initial(image: &[u8], v: u8) -> u8
-    ensures { λ r. ⌜ r ≡ supervisorInitial (recordsOf (now (image .entry))) v ⌝ }
+pub fn supervisor_initial(image: &[u8], places: Places, v: u8) -> u8
+    ensures { λ r. ⌜ r ≡ supervisorInitial (recordsBy (now (image .entry)) places) v ⌝ }
 {
-    fields_at(image, 0x14, v, 0).third
+    fields_at(image, places, 0x14, v, 0).third
+}
+
+// The module of an event.
+pub fn owner_of(image: &[u8], places: Places, e: u8) -> u8
+    ensures { λ r. ⌜ r ≡ ownerOf (recordsBy (now (image .entry)) places) e ⌝ }
+{
+    fields_at(image, places, 0x11, e, 0).second
 }
 
 // Whether an event is the module's, whether it is controllable, and whether it is an uncontrollable one of the module.
-pub fn own_event(image: &[u8], m: u8, e: u8) -> bool
-    ensures { λ r. ⌜ r ≡ ownEvent (recordsOf (now (image .entry))) m e ⌝ }
+pub fn own_event(image: &[u8], places: Places, m: u8, e: u8) -> bool
+    ensures { λ r. ⌜ r ≡ ownEvent (recordsBy (now (image .entry)) places) m e ⌝ }
 {
-    (e < events_of(image)) & (fields_at(image, 0x11, e, 0).second == m)
+    (e < events_of(image, places)) & (owner_of(image, places, e) == m)
 }
 
-pub fn controllable(image: &[u8], e: u8) -> bool
-    ensures { λ r. ⌜ r ≡ controllable (recordsOf (now (image .entry))) e ⌝ }
+pub fn controllable(image: &[u8], places: Places, e: u8) -> bool
+    ensures { λ r. ⌜ r ≡ controllable (recordsBy (now (image .entry)) places) e ⌝ }
 {
-    fields_at(image, 0x11, e, 0).third == 1
+    fields_at(image, places, 0x11, e, 0).third == 1
 }
 
-pub fn own_uncontrollable(image: &[u8], m: u8, e: u8) -> bool
-    ensures { λ r. ⌜ r ≡ ownUncontrollable (recordsOf (now (image .entry))) m e ⌝ }
+pub fn own_uncontrollable(image: &[u8], places: Places, m: u8, e: u8) -> bool
+    ensures { λ r. ⌜ r ≡ ownUncontrollable (recordsBy (now (image .entry)) places) m e ⌝ }
 {
-    own_event(image, m, e) & !controllable(image, e)
+    own_event(image, places, m, e) & !controllable(image, places, e)
 }
 
 // A supervisor's alphabet, and whether it has an event.
-pub fn alphabet_of(image: &[u8], v: u8) -> u64
-    ensures { λ r. ⌜ r ≡ alphabetOf (recordsOf (now (image .entry))) v ⌝ }
+pub fn alphabet_of(image: &[u8], places: Places, v: u8) -> u64
+    ensures { λ r. ⌜ r ≡ alphabetOf (recordsBy (now (image .entry)) places) v ⌝ }
 {
-    fields_at(image, 0x14, v, 0).word
+    fields_at(image, places, 0x14, v, 0).word
 }
 
-pub fn in_alphabet(image: &[u8], v: u8, e: u8) -> bool
-    ensures { λ r. ⌜ r ≡ inAlphabet (recordsOf (now (image .entry))) v e ⌝ }
+pub fn in_alphabet(image: &[u8], places: Places, v: u8, e: u8) -> bool
+    ensures { λ r. ⌜ r ≡ inAlphabet (recordsBy (now (image .entry)) places) v e ⌝ }
 {
-    bits::has(alphabet_of(image, v), e)
+    bits::has(alphabet_of(image, places, v), e)
 }
 
 // The mask that a supervisor shows in a state.
-pub fn shown(image: &[u8], v: u8, st: u8) -> u64
-    ensures { λ r. ⌜ r ≡ shown (recordsOf (now (image .entry))) v st ⌝ }
+pub fn shown(image: &[u8], places: Places, v: u8, st: u8) -> u64
+    ensures { λ r. ⌜ r ≡ shown (recordsBy (now (image .entry)) places) v st ⌝ }
 {
-    fields_at(image, 0x16, v, st).word
+    fields_at(image, places, 0x16, v, st).word
 }
 
 // Where a listed move of a kind leads.
-fn target_of(image: &[u8], kind: u8, owner: u8, from: u8, event: u8) -> Maybe
-    ensures { λ r. ⌜ optionOf r ≡ target (findIn (keyBy kind owner from event) (recordsOf (now (image .entry)))) ⌝ }
+fn target_of(image: &[u8], places: Places, kind: u8, owner: u8, from: u8, event: u8) -> Maybe
+    ensures { λ r. ⌜ optionOf r ≡ target (findIn (keyBy kind owner from event) (recordsBy (now (image .entry)) places)) ⌝ }
 {
-    let Found::It(r) = find(image, kind, owner, from, event) else {
+    let Found::It(r) = find(image, places, kind, owner, from, event) else {
         return Maybe::Nothing;
     };
     let f = fields_of(r);
     Maybe::Just(f.fourth)
 }
 
-pub fn module_move(image: &[u8], m: u8, st: u8, e: u8) -> Maybe
-    ensures { λ r. ⌜ optionOf r ≡ moduleMove (recordsOf (now (image .entry))) m st e ⌝ }
+pub fn module_move(image: &[u8], places: Places, m: u8, st: u8, e: u8) -> Maybe
+    ensures { λ r. ⌜ optionOf r ≡ moduleMove (recordsBy (now (image .entry)) places) m st e ⌝ }
 {
-    target_of(image, 0x13, m, st, e)
+    target_of(image, places, 0x13, m, st, e)
 }
 
 // A supervisor's state after an event.
-pub fn supervisor_after(image: &[u8], v: u8, st: u8, e: u8) -> u8
-    ensures { λ r. ⌜ r ≡ supervisorAfter (recordsOf (now (image .entry))) v st e ⌝ }
+pub fn supervisor_after(image: &[u8], places: Places, v: u8, st: u8, e: u8) -> u8
+    ensures { λ r. ⌜ r ≡ supervisorAfter (recordsBy (now (image .entry)) places) v st e ⌝ }
 {
-    if in_alphabet(image, v, e) {
-        let Maybe::Just(t) = target_of(image, 0x15, v, st, e) else {
+    if in_alphabet(image, places, v, e) {
+        let Maybe::Just(t) = target_of(image, places, 0x15, v, st, e) else {
             return st;
         };
         t
@@ -221,10 +229,10 @@ pub fn supervisor_after(image: &[u8], v: u8, st: u8, e: u8) -> u8
 }
 
 // A step of an event's procedure, which counts with its fields in range and, where it is a respond, with the number of an event.
-pub fn step(image: &[u8], e: u8, i: u8) -> Found
-    ensures { λ r. ⌜ r ≡ stepIn (recordsOf (now (image .entry))) e i ⌝ }
+pub fn step(image: &[u8], places: Places, e: u8, i: u8) -> Found
+    ensures { λ r. ⌜ r ≡ stepIn (recordsBy (now (image .entry)) places) e i ⌝ }
 {
-    let Found::It(r) = find(image, 0x17, e, i, 0) else {
+    let Found::It(r) = find(image, places, 0x17, e, i, 0) else {
         return Found::Missing;
     };
     let f = fields_of(r);

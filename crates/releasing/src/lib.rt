@@ -3,7 +3,7 @@ ghost use mathlib.Core.Path.{_≡_};
 ghost use Prim.Native.Nat.{_*_, _≤_};
 ghost use lib.Count.{ones};
 ghost use lib.ListN.{length};
-ghost use Rattle.reader.specs.Walk.{recordsOf};
+ghost use Rattle.places.specs.Places.{recordsBy};
 ghost use Rattle.plan.specs.Plan.{neighbours};
 ghost use Rattle.messages.specs.Message.{messageBytes, written, putAt};
 ghost use Rattle.messages.specs.declared.Message.the-variants.{Release};
@@ -12,15 +12,16 @@ ghost use Rattle.permits.specs.Step.{bytesOfMessages};
 ghost use Rattle.releasing.specs.Released.{Released};
 use messages::Message;
 use modules::Turn;
+use places::Places;
 
 // The event that a release to a supervisor carries, or 255.
-fn event_for(image: &[u8], v: u8, t: Turn) -> u8
-    ensures { λ r. ⌜ r ≡ eventFor (recordsOf (now (image .entry))) v t ⌝ }
+fn event_for(image: &[u8], places: Places, v: u8, t: Turn) -> u8
+    ensures { λ r. ⌜ r ≡ eventFor (recordsBy (now (image .entry)) places) v t ⌝ }
 {
     let Turn::Event(e) = t else {
         return 255;
     };
-    if plan::in_alphabet(image, v, e) {
+    if plan::in_alphabet(image, places, v, e) {
         e
     } else {
         255
@@ -28,10 +29,10 @@ fn event_for(image: &[u8], v: u8, t: Turn) -> u8
 }
 
 // The release to a supervisor at an offset of the buffer.
-fn release_to(image: &[u8], m: u8, v: u8, t: Turn, buffer: &mut [u8], at: usize)
-    ensures { λ r. ⌜ now (buffer .exit) ≡ putAt (messageBytes (Release m v (eventFor (recordsOf (now (image .entry))) v t))) at (now (buffer .entry)) ⌝ }
+fn release_to(image: &[u8], places: Places, m: u8, v: u8, t: Turn, buffer: &mut [u8], at: usize)
+    ensures { λ r. ⌜ now (buffer .exit) ≡ putAt (messageBytes (Release m v (eventFor (recordsBy (now (image .entry)) places) v t))) at (now (buffer .entry)) ⌝ }
 {
-    let event = event_for(image, v, t);
+    let event = event_for(image, places, v, t);
     let g = Message::Release {
         owner: m,
         supervisor: v,
@@ -41,17 +42,17 @@ fn release_to(image: &[u8], m: u8, v: u8, t: Turn, buffer: &mut [u8], at: usize)
 }
 
 // The releases to all neighbours, in ascending order.
-fn release_all(image: &[u8], m: u8, adjacent: u32, t: Turn, buffer: &mut [u8])
-    requires { ⌜ adjacent ≡ neighbours (recordsOf (now image)) m ⌝ }
-    requires { ⌜ length (bytesOfMessages (releases (recordsOf (now image)) m t 32)) ≤ length (now buffer) ⌝ }
-    ensures { λ r. ⌜ now (buffer .exit) ≡ written (bytesOfMessages (releases (recordsOf (now (image .entry))) m t 32)) (now (buffer .entry)) ⌝ }
+fn release_all(image: &[u8], places: Places, m: u8, adjacent: u32, t: Turn, buffer: &mut [u8])
+    requires { ⌜ adjacent ≡ neighbours (recordsBy (now image) places) m ⌝ }
+    requires { ⌜ length (bytesOfMessages (releases (recordsBy (now image) places) m t 32)) ≤ length (now buffer) ⌝ }
+    ensures { λ r. ⌜ now (buffer .exit) ≡ written (bytesOfMessages (releases (recordsBy (now (image .entry)) places) m t 32)) (now (buffer .entry)) ⌝ }
 {
     let mask = adjacent as u64;
     let mut at: usize = 0;
     let mut v: u8 = 0;
     while v < 32 {
         if bits::has(mask, v) {
-            release_to(image, m, v, t, &mut *buffer, at);
+            release_to(image, places, m, v, t, &mut *buffer, at);
             at += 4;
         }
         v += 1;
@@ -66,14 +67,14 @@ pub fn length_of(adjacent: u32) -> usize
 }
 
 // The releases of a module's turn into the buffer, if there is room for them.
-pub fn release(image: &[u8], m: u8, t: Turn, buffer: &mut [u8]) -> bool
-    ensures { λ r. ⌜ Released (recordsOf (now (image .entry))) m t (now (buffer .entry)) r (now (buffer .exit)) ⌝ }
+pub fn release(image: &[u8], places: Places, m: u8, t: Turn, buffer: &mut [u8]) -> bool
+    ensures { λ r. ⌜ Released (recordsBy (now (image .entry)) places) m t (now (buffer .entry)) r (now (buffer .exit)) ⌝ }
 {
-    let adjacent = masks::neighbours(image, m);
+    let adjacent = masks::neighbours(image, places, m);
     let n = length_of(adjacent);
     if buffer.len() < n {
         return false;
     }
-    release_all(image, m, adjacent, t, &mut *buffer);
+    release_all(image, places, m, adjacent, t, &mut *buffer);
     true
 }

@@ -3,9 +3,10 @@
 // and crate answers what is printed of it; here it is read and printed. tests/reference/many_devices.py prints the same.
 use answers::Row;
 use bits::Maybe;
+use checker::Examined;
 use lines::Partial;
-use modules::Called;
 use parties::Parties;
+use places::Places;
 use script::Text;
 use simulation::Answer;
 use wire::Place;
@@ -14,8 +15,9 @@ use wire::Wire;
 // One byte more than a plan may have, so that a longer file is seen to be one.
 const ROOM: usize = 49153;
 
-// The parties, and the rows of events fired and of commands that are still to be printed.
+// The places of the plan's records, the parties, and the rows of events fired and of commands that are still to be printed.
 struct State {
+    places: Places,
     parties: Parties,
     fired: Row,
     commands: Row,
@@ -71,9 +73,10 @@ fn print_sent(w: Wire, from: usize) {
 fn recorded(image: &[u8], t: State, a: Answer) -> State {
     let fired = t.fired;
     let commands = t.commands;
+    let places = t.places;
     let mut next = t;
     next.fired = gathered(b"record", fired, answers::fired(a));
-    next.commands = gathered(b"commands", commands, answers::command(image, a));
+    next.commands = gathered(b"commands", commands, answers::command(image, places, a));
     next
 }
 
@@ -179,15 +182,16 @@ fn print_end(t: State, modules: u8, supervisors: u8) {
     print(script::device_line(device, modules, supervisors));
 }
 
-fn run_on(image: &[u8]) {
-    let modules = plan::modules_of(image);
-    let supervisors = plan::supervisors_of(image);
-    let events = plan::events_of(image);
+fn run_on(image: &[u8], places: Places) {
+    let modules = plan::modules_of(image, places);
+    let supervisors = plan::supervisors_of(image, places);
+    let events = plan::events_of(image, places);
     print(script::header_line(modules, supervisors, events));
     let parties = parties::start(image);
     let fired = answers::no_row();
     let commands = answers::no_row();
     let t = State {
+        places,
         parties,
         fired,
         commands,
@@ -196,11 +200,9 @@ fn run_on(image: &[u8]) {
 }
 
 fn run(image: &[u8]) {
-    let s = device::start(image);
-    let a = s.answer;
-    match a {
-        Called::Done => run_on(image),
-        Called::Refused(n, at) => print(script::plan_refused_line(n, at)),
+    match checker::examine(image) {
+        Examined::Accepted(places) => run_on(image, places),
+        Examined::Refused(n, at) => print(script::plan_refused_line(n, at)),
     }
 }
 

@@ -1,5 +1,5 @@
 -- A message delivered, from what the code is told.
-use mathlib.Core.Path.{_≡_, refl, sym, ap, _∙_}
+use mathlib.Core.Path.{_≡_, refl, sym, ap, _∙_, subst}
 use mathlib.Core.List.{List}
 use mathlib.Core.Bool.{Bool, true, false, cond, not, _&&_, _||_}
 use Prim.Native.Nat.{ℕ, _≤_, _<_}
@@ -12,9 +12,13 @@ use Rattle.bits.specs.Bit.{bit}
 use Rattle.records.specs.declared.Record.{Record}
 use Rattle.reader.specs.Walk.{recordsOf}
 use Rattle.rules.specs.LookUp.{modulesOf, supervisorsOf}
-use Rattle.rules.specs.Check.{verdictOf, IsPlan}
-use Rattle.rules.specs.declared.Verdict.{Verdict}
-use Rattle.rules.specs.declared.Verdict.the-variants.{Accepted, Refused}
+use Rattle.rules.specs.declared.Verdict.the-variants.{Accepted as IsAccepted}
+use Rattle.places.specs.declared.Places.{Places}
+use Rattle.places.specs.Places.{recordsBy}
+use Rattle.checker.specs.Examined.{examinedOf}
+use Rattle.checker.specs.declared.Examined.{Examined}
+use Rattle.checker.specs.declared.Examined.the-variants.{Accepted, Refused}
+use Rattle.checker.proofs.Examining.{accepted-by, records-by, call-by, refused-call}
 use Rattle.accepted.proofs.Accepted.{every-plan}
 use Rattle.plan.specs.Plan.{inAlphabet, ownEvent, neighbour, supervisorAfter}
 use Rattle.modules.specs.declared.Called.the-variants.{Done}
@@ -30,18 +34,23 @@ use Rattle.permits.specs.declared.SupervisorCalled.{SupervisorCalled}
 use Rattle.permits.specs.declared.Holder.{Holder}
 use Rattle.noting.specs.Notes.{putNote}
 use Rattle.noting.proofs.Notes.{put-in}
-use Rattle.noting.proofs.Planned.{plan-by, present, lacking}
+use Rattle.noting.proofs.Planned.{present, lacking}
 
 -- ---- what the names of a message promise
 
+-- an accepted plan has at most 16 modules
+pub few-modules : (image : List ℕ) {x : Examined} {p : Places} → x ≡ examinedOf image → x ≡ Accepted p → modulesOf (recordsBy image p) ≤ 16
+few-modules image {x} {p} e f =
+    let most : modulesOf (recordsOf image) ≤ 16 = every-plan image (accepted-by image e f) .sound .modules .1 in
+    subst (λ (rs : List Record). modulesOf rs ≤ 16) (sym (records-by image e f)) most
+
 -- a module that bids is one of 16
-pub bidder-small : (image : List ℕ) (g : Message) {m w : ℕ} → IsPlan image → named (recordsOf image) g ≡ true → g ≡ Bid m w → m < 16
+pub bidder-small : (rs : List Record) (g : Message) {m w : ℕ} → modulesOf rs ≤ 16 → named rs g ≡ true → g ≡ Bid m w → m < 16
 unfolding named
-bidder-small image g {m} {w} p n e =
-    let rs : List Record = recordsOf image in
+bidder-small rs g {m} {w} p n e =
     let t : T (ltb m (modulesOf rs) && ltb w (supervisorsOf rs) && neighbour rs m w) = holds _ (ap (named rs) (sym e) ∙ n) in
     let l : m < modulesOf rs = ltb-true m (modulesOf rs) (is-true _ (and-l (ltb m (modulesOf rs)) (ltb w (supervisorsOf rs)) (and-l (ltb m (modulesOf rs) && ltb w (supervisorsOf rs)) (neighbour rs m w) t))) in
-    omega (arith, every-plan image p .sound .modules .1)
+    omega arith
 
 -- the event of a release is none or in the alphabet of the supervisor that it names
 pub released-event : (rs : List Record) (g : Message) {m w e : ℕ} → named rs g ≡ true → g ≡ Release m w e → (eqb e noEvent || inAlphabet rs w e) ≡ true
@@ -118,21 +127,27 @@ absent-arm y p e k = k ∙ ap (absent y) (sym e)
 
 -- ---- the whole call
 
-module _ (image : List ℕ) (v : ℕ) (y : Supervisor) (bytes : List ℕ) {d : Verdict} {r : SupervisorCalled} (e : d ≡ verdictOf image) where
-  pub deliver-refused : {n o : ℕ} → d ≡ Refused n o → r ≡ callRefused y n o → r ≡ supervisorDeliver image v y bytes
+module _ (image : List ℕ) (v : ℕ) (y : Supervisor) (bytes : List ℕ) {d : Examined} (e : d ≡ examinedOf image) where
+  pub deliver-refused : {n o : ℕ} {r : SupervisorCalled} → d ≡ Refused n o → r ≡ callRefused y n o → r ≡ supervisorDeliver image v y bytes
   unfolding deliverBy
-  deliver-refused f h = h ∙ simp (sym e ∙ f)
+  deliver-refused f h = h ∙ refused-call image e (λ w rs. deliverBy w rs v y (parse bytes)) f
 
-  module _ {k : ℕ} {p : Parsed} (f : d ≡ Accepted) (c : k ≡ supervisorsOf (recordsOf image)) (i : p ≡ parse bytes) where
-    pub deliver-absent : k ≤ v → r ≡ absent y p → r ≡ supervisorDeliver image v y bytes
+  module _ {q : Places} {k : ℕ} {p : Parsed} (f : d ≡ Accepted q) (c : k ≡ supervisorsOf (recordsBy image q)) (i : p ≡ parse bytes) where
+    abbrev rs : List Record
+    rs = recordsBy image q
+
+    by : deliverBy IsAccepted rs v y (parse bytes) ≡ supervisorDeliver image v y bytes
+    by = call-by image e (λ w rs. deliverBy w rs v y (parse bytes)) f
+
+    pub deliver-absent : {r : SupervisorCalled} → k ≤ v → r ≡ absent y p → r ≡ supervisorDeliver image v y bytes
     unfolding deliverBy
-    deliver-absent l h = h ∙ simp (plan-by image e f, lacking (recordsOf image) v c l, i)
+    deliver-absent l h = h ∙ simp (lacking rs v c l, i) refl ∙ by
 
-    module _ {t : Bool} (l : v < k) (g : t ≡ supervisorFits (recordsOf image) v y) where
-      pub deliver-unfit : t ≡ false → r ≡ callRefused y 9 0 → r ≡ supervisorDeliver image v y bytes
+    module _ {t : Bool} (l : v < k) (g : t ≡ supervisorFits (recordsBy image q) v y) where
+      pub deliver-unfit : {r : SupervisorCalled} → t ≡ false → r ≡ callRefused y 9 0 → r ≡ supervisorDeliver image v y bytes
       unfolding deliverBy
-      deliver-unfit q h = h ∙ simp (plan-by image e f, present (recordsOf image) v c l, sym g ∙ q)
+      deliver-unfit z h = h ∙ simp (present rs v c l, sym g ∙ z) refl ∙ by
 
-      pub deliver-fit : t ≡ true → r ≡ deliverIn (recordsOf image) v y p → r ≡ supervisorDeliver image v y bytes
+      pub deliver-fit : {r : SupervisorCalled} → t ≡ true → r ≡ deliverIn (recordsBy image q) v y p → r ≡ supervisorDeliver image v y bytes
       unfolding deliverBy
-      deliver-fit q h = h ∙ simp (plan-by image e f, present (recordsOf image) v c l, sym g ∙ q, i)
+      deliver-fit z h = h ∙ simp (present rs v c l, sym g ∙ z, i) refl ∙ by

@@ -1,21 +1,22 @@
 // The supervisor's calls on many devices but for its step: definitions in permits/specs/Supervisor.antt.
 ghost use mathlib.Core.Path.{_≡_};
 ghost use mathlib.Core.Bool.{true, cond, _||_};
-ghost use Prim.Native.Nat.{_<_};
+ghost use Prim.Native.Nat.{_≤_, _<_};
 ghost use lib.Dec.{eqb};
-ghost use Rattle.reader.specs.Walk.{recordsOf};
-ghost use Rattle.rules.specs.Check.{IsPlan};
+ghost use Rattle.places.specs.Places.{recordsBy};
+ghost use Rattle.rules.specs.LookUp.{modulesOf};
 ghost use Rattle.plan.specs.Plan.{inAlphabet};
 ghost use Rattle.messages.specs.Message.{noEvent};
 ghost use Rattle.permits.specs.Names.{named};
 ghost use Rattle.permits.specs.Supervisor.{afterNote, afterRelease, callRefused, applied, heldBy, takenBy, deliverIn, absent, supervisorDeliver, supervisorStart};
+use checker::Examined;
 use messages::Message;
 use messages::Parsed;
 use modules::Called;
 use permits::Holder;
 use permits::Supervisor;
 use permits::SupervisorCalled;
-use rules::Verdict;
+use places::Places;
 
 fn refused(y: Supervisor, n: u8, at: usize) -> SupervisorCalled
     ensures { λ r. ⌜ r ≡ callRefused y n at ⌝ }
@@ -32,11 +33,11 @@ fn refused(y: Supervisor, n: u8, at: usize) -> SupervisorCalled
 pub fn start(image: &[u8], v: u8) -> SupervisorCalled
     ensures { λ r. ⌜ r ≡ supervisorStart (now (image .entry)) v ⌝ }
 {
-    match checker::check(image) {
-        Verdict::Accepted => {
-            if v < plan::supervisors_of(image) {
+    match checker::examine(image) {
+        Examined::Accepted(places) => {
+            if v < plan::supervisors_of(image, places) {
                 let state = Supervisor {
-                    state: plan::supervisor_initial(image, v),
+                    state: plan::supervisor_initial(image, places, v),
                     noted: 0,
                     holder: Holder::Home,
                     last: 15,
@@ -49,7 +50,7 @@ pub fn start(image: &[u8], v: u8) -> SupervisorCalled
                 refused(permits::empty_supervisor(), 11, 0)
             }
         }
-        Verdict::Refused(n, at) => refused(permits::empty_supervisor(), n, at),
+        Examined::Refused(n, at) => refused(permits::empty_supervisor(), n, at),
     }
 }
 
@@ -83,24 +84,24 @@ fn after_note(y: Supervisor, m: u8) -> Supervisor
 }
 
 // The state after a release's event, which is none or in the alphabet.
-fn apply(image: &[u8], v: u8, st: u8, e: u8) -> u8
-    requires { ⌜ (eqb e noEvent || inAlphabet (recordsOf (now image)) v e) ≡ true ⌝ }
-    ensures { λ r. ⌜ r ≡ applied (recordsOf (now (image .entry))) v st e ⌝ }
+fn apply(image: &[u8], places: Places, v: u8, st: u8, e: u8) -> u8
+    requires { ⌜ (eqb e noEvent || inAlphabet (recordsBy (now image) places) v e) ≡ true ⌝ }
+    ensures { λ r. ⌜ r ≡ applied (recordsBy (now (image .entry)) places) v st e ⌝ }
 {
     if e == 255 {
         st
     } else {
-        plan::supervisor_after(image, v, st, e)
+        plan::supervisor_after(image, places, v, st, e)
     }
 }
 
-fn after_release(image: &[u8], v: u8, y: Supervisor, e: u8) -> Supervisor
-    requires { ⌜ (eqb e noEvent || inAlphabet (recordsOf (now image)) v e) ≡ true ⌝ }
-    ensures { λ r. ⌜ r ≡ afterRelease (recordsOf (now (image .entry))) v y e ⌝ }
+fn after_release(image: &[u8], places: Places, v: u8, y: Supervisor, e: u8) -> Supervisor
+    requires { ⌜ (eqb e noEvent || inAlphabet (recordsBy (now image) places) v e) ≡ true ⌝ }
+    ensures { λ r. ⌜ r ≡ afterRelease (recordsBy (now (image .entry)) places) v y e ⌝ }
 {
     let holder = Holder::Home;
     Supervisor {
-        state: apply(image, v, y.state, e),
+        state: apply(image, places, v, y.state, e),
         noted: y.noted,
         holder,
         last: y.last,
@@ -117,9 +118,9 @@ fn held_by(holder: Holder, m: u8) -> bool
 }
 
 // A message whose names are the plan's.
-fn take(image: &[u8], v: u8, y: Supervisor, g: Message) -> SupervisorCalled
-    requires { ⌜ IsPlan (now image) × (named (recordsOf (now image)) g ≡ true) ⌝ }
-    ensures { λ r. ⌜ r ≡ takenBy (recordsOf (now (image .entry))) v y g ⌝ }
+fn take(image: &[u8], places: Places, v: u8, y: Supervisor, g: Message) -> SupervisorCalled
+    requires { ⌜ (modulesOf (recordsBy (now image) places) ≤ 16) × (named (recordsBy (now image) places) g ≡ true) ⌝ }
+    ensures { λ r. ⌜ r ≡ takenBy (recordsBy (now (image .entry)) places) v y g ⌝ }
 {
     let holder = y.holder;
     let mask = y.noted as u64;
@@ -134,21 +135,21 @@ fn take(image: &[u8], v: u8, y: Supervisor, g: Message) -> SupervisorCalled
             supervisor,
             event,
         } => {
-            let after = after_release(image, supervisor, y, event);
+            let after = after_release(image, places, supervisor, y, event);
             done_if((supervisor == v) & held_by(holder, owner), after, y)
         }
     }
 }
 
-fn deliver_in(image: &[u8], v: u8, y: Supervisor, p: Parsed) -> SupervisorCalled
-    requires { ⌜ IsPlan (now image) ⌝ }
-    ensures { λ r. ⌜ r ≡ deliverIn (recordsOf (now (image .entry))) v y p ⌝ }
+fn deliver_in(image: &[u8], places: Places, v: u8, y: Supervisor, p: Parsed) -> SupervisorCalled
+    requires { ⌜ modulesOf (recordsBy (now image) places) ≤ 16 ⌝ }
+    ensures { λ r. ⌜ r ≡ deliverIn (recordsBy (now (image .entry)) places) v y p ⌝ }
 {
     let Parsed::Whole(g) = p else {
         return refused(y, 10, 0);
     };
-    if permits::named(image, g) {
-        take(image, v, y, g)
+    if permits::named(image, places, g) {
+        take(image, places, v, y, g)
     } else {
         refused(y, 11, 0)
     }
@@ -169,11 +170,11 @@ pub fn deliver(image: &[u8], v: u8, y: Supervisor, bytes: &[u8]) -> SupervisorCa
     ensures { λ r. ⌜ r ≡ supervisorDeliver (now (image .entry)) v y (now (bytes .entry)) ⌝ }
 {
     let p = messages::read(bytes);
-    match checker::check(image) {
-        Verdict::Accepted => {
-            if v < plan::supervisors_of(image) {
-                if noting::fits(image, v, y) {
-                    deliver_in(image, v, y, p)
+    match checker::examine(image) {
+        Examined::Accepted(places) => {
+            if v < plan::supervisors_of(image, places) {
+                if noting::fits(image, places, v, y) {
+                    deliver_in(image, places, v, y, p)
                 } else {
                     refused(y, 9, 0)
                 }
@@ -181,6 +182,6 @@ pub fn deliver(image: &[u8], v: u8, y: Supervisor, bytes: &[u8]) -> SupervisorCa
                 absent(y, p)
             }
         }
-        Verdict::Refused(n, at) => refused(y, n, at),
+        Examined::Refused(n, at) => refused(y, n, at),
     }
 }

@@ -11,11 +11,14 @@ use Rattle.bits.specs.Bit.{optionOf}
 use Rattle.bits.specs.declared.Maybe.{Maybe}
 use Rattle.bits.specs.declared.Maybe.the-variants.{Just, Nothing}
 use Rattle.records.specs.declared.Record.{Record}
-use Rattle.reader.specs.Walk.{recordsOf}
 use Rattle.rules.specs.LookUp.{supervisorsOf}
-use Rattle.rules.specs.Check.{verdictOf}
-use Rattle.rules.specs.declared.Verdict.{Verdict}
-use Rattle.rules.specs.declared.Verdict.the-variants.{Accepted, Refused}
+use Rattle.rules.specs.declared.Verdict.the-variants.{Accepted as IsAccepted}
+use Rattle.places.specs.declared.Places.{Places}
+use Rattle.places.specs.Places.{recordsBy}
+use Rattle.checker.specs.Examined.{examinedOf}
+use Rattle.checker.specs.declared.Examined.{Examined}
+use Rattle.checker.specs.declared.Examined.the-variants.{Accepted, Refused}
+use Rattle.checker.proofs.Examining.{call-by, refused-call}
 use Rattle.plan.specs.Plan.{shown}
 use Rattle.messages.specs.Message.{messageBytes, short}
 use Rattle.messages.specs.Write.{Wrote}
@@ -31,7 +34,7 @@ use Rattle.permits.specs.declared.Served.the-variants.{Sends, Waits, Refused as
 use Rattle.permits.proofs.Stepping.{bytes-one, gives}
 use Rattle.noting.specs.Notes.{putNote}
 use Rattle.noting.proofs.Notes.{put-in}
-use Rattle.noting.proofs.Planned.{plan-by, present, lacking}
+use Rattle.noting.proofs.Planned.{present, lacking}
 
 -- ---- the permit sent
 
@@ -82,21 +85,27 @@ module _ (rs : List Record) (v : ℕ) (y : Supervisor) (b : List ℕ) where
 
 -- ---- the whole call
 
-module _ (image : List ℕ) (v : ℕ) (y : Supervisor) (b : List ℕ) {d : Verdict} (e : d ≡ verdictOf image) where
+module _ (image : List ℕ) (v : ℕ) (y : Supervisor) (b : List ℕ) {d : Examined} (e : d ≡ examinedOf image) where
   pub step-refused-by : {n o : ℕ} {r : SupervisorStepped} → d ≡ Refused n o → r ≡ (record { answer = StepRefused n o; state = y }) → Gave (supervisorStep image v y b) (r .answer) (r .state) b
   unfolding stepBy
-  step-refused-by {n = n} {o = o} f h = simp (sym e ∙ f) (refuses y b n o h)
+  step-refused-by {n = n} {o = o} f h = gives (refused-call image e (λ w rs. stepBy w rs v y b) f) (refuses y b n o h)
 
-  module _ {k : ℕ} (f : d ≡ Accepted) (c : k ≡ supervisorsOf (recordsOf image)) where
+  module _ {p : Places} {k : ℕ} (f : d ≡ Accepted p) (c : k ≡ supervisorsOf (recordsBy image p)) where
+    abbrev rs : List Record
+    rs = recordsBy image p
+
+    by : stepBy IsAccepted rs v y b ≡ supervisorStep image v y b
+    by = call-by image e (λ w rs. stepBy w rs v y b) f
+
     pub step-absent : {r : SupervisorStepped} → k ≤ v → r ≡ (record { answer = StepRefused 11 0; state = y }) → Gave (supervisorStep image v y b) (r .answer) (r .state) b
     unfolding stepBy
-    step-absent l h = simp (plan-by image e f, lacking (recordsOf image) v c l) (refuses y b 11 0 h)
+    step-absent l h = gives by (simp (lacking rs v c l) (refuses y b 11 0 h))
 
-    module _ {t : Bool} (l : v < k) (g : t ≡ supervisorFits (recordsOf image) v y) where
+    module _ {t : Bool} (l : v < k) (g : t ≡ supervisorFits (recordsBy image p) v y) where
       pub step-unfit : {r : SupervisorStepped} → t ≡ false → r ≡ (record { answer = StepRefused 9 0; state = y }) → Gave (supervisorStep image v y b) (r .answer) (r .state) b
       unfolding stepBy
-      step-unfit q h = simp (plan-by image e f, present (recordsOf image) v c l, sym g ∙ q) (refuses y b 9 0 h)
+      step-unfit q h = gives by (simp (present rs v c l, sym g ∙ q) (refuses y b 9 0 h))
 
-      pub step-fit : {a : Served} {s : Supervisor} {after : List ℕ} → t ≡ true → Gave (stepIn (recordsOf image) v y b (served y)) a s after → Gave (supervisorStep image v y b) a s after
+      pub step-fit : {a : Served} {s : Supervisor} {after : List ℕ} → t ≡ true → Gave (stepIn (recordsBy image p) v y b (served y)) a s after → Gave (supervisorStep image v y b) a s after
       unfolding stepBy
-      step-fit q h = simp (plan-by image e f, present (recordsOf image) v c l, sym g ∙ q) h
+      step-fit q h = gives by (simp (present rs v c l, sym g ∙ q) h)

@@ -2,16 +2,17 @@
 ghost use mathlib.Core.Path.{_≡_};
 ghost use mathlib.Core.Option.{some};
 ghost use Prim.Native.Nat.{_<_};
-ghost use Rattle.reader.specs.Walk.{recordsOf};
+ghost use Rattle.places.specs.Places.{recordsBy};
 ghost use Rattle.permits.specs.Supervisor.{served, afterSend, stepIn, supervisorStep};
 ghost use Rattle.permits.specs.Step.{Gave};
 use bits::Maybe;
+use checker::Examined;
 use messages::Message;
 use permits::Holder;
 use permits::Served;
 use permits::Supervisor;
 use permits::SupervisorStepped;
-use rules::Verdict;
+use places::Places;
 
 fn step_refused(y: Supervisor, n: u8, at: usize) -> SupervisorStepped
     ensures { λ r. ⌜ r ≡ record { answer = Served.Refused n at; state = y } ⌝ }
@@ -35,11 +36,18 @@ fn after_send(y: Supervisor, m: u8) -> Supervisor
 }
 
 // The permit, with the mask that the supervisor shows now.
-fn send(image: &[u8], v: u8, y: Supervisor, m: u8, buffer: &mut [u8]) -> SupervisorStepped
+fn send(
+    image: &[u8],
+    places: Places,
+    v: u8,
+    y: Supervisor,
+    m: u8,
+    buffer: &mut [u8],
+) -> SupervisorStepped
     requires { ⌜ m < 16 ⌝ }
-    ensures { λ r. ⌜ Gave (stepIn (recordsOf (now (image .entry))) v y (now (buffer .entry)) (some m)) (r .answer) (r .state) (now (buffer .exit)) ⌝ }
+    ensures { λ r. ⌜ Gave (stepIn (recordsBy (now (image .entry)) places) v y (now (buffer .entry)) (some m)) (r .answer) (r .state) (now (buffer .exit)) ⌝ }
 {
-    let mask = plan::shown(image, v, y.state);
+    let mask = plan::shown(image, places, v, y.state);
     let g = Message::Permit {
         supervisor: v,
         owner: m,
@@ -56,8 +64,8 @@ fn send(image: &[u8], v: u8, y: Supervisor, m: u8, buffer: &mut [u8]) -> Supervi
     }
 }
 
-fn serve(image: &[u8], v: u8, y: Supervisor, buffer: &mut [u8]) -> SupervisorStepped
-    ensures { λ r. ⌜ Gave (stepIn (recordsOf (now (image .entry))) v y (now (buffer .entry)) (served y)) (r .answer) (r .state) (now (buffer .exit)) ⌝ }
+fn serve(image: &[u8], places: Places, v: u8, y: Supervisor, buffer: &mut [u8]) -> SupervisorStepped
+    ensures { λ r. ⌜ Gave (stepIn (recordsBy (now (image .entry)) places) v y (now (buffer .entry)) (served y)) (r .answer) (r .state) (now (buffer .exit)) ⌝ }
 {
     let Maybe::Just(m) = noting::served(y) else {
         return SupervisorStepped {
@@ -65,18 +73,18 @@ fn serve(image: &[u8], v: u8, y: Supervisor, buffer: &mut [u8]) -> SupervisorSte
             state: y,
         };
     };
-    send(image, v, y, m, buffer)
+    send(image, places, v, y, m, buffer)
 }
 
 // A supervisor step: sends its permit, or waits.
 pub fn step(image: &[u8], v: u8, y: Supervisor, buffer: &mut [u8]) -> SupervisorStepped
     ensures { λ r. ⌜ Gave (supervisorStep (now (image .entry)) v y (now (buffer .entry))) (r .answer) (r .state) (now (buffer .exit)) ⌝ }
 {
-    match checker::check(image) {
-        Verdict::Accepted => {
-            if v < plan::supervisors_of(image) {
-                if noting::fits(image, v, y) {
-                    serve(image, v, y, buffer)
+    match checker::examine(image) {
+        Examined::Accepted(places) => {
+            if v < plan::supervisors_of(image, places) {
+                if noting::fits(image, places, v, y) {
+                    serve(image, places, v, y, buffer)
                 } else {
                     step_refused(y, 9, 0)
                 }
@@ -84,6 +92,6 @@ pub fn step(image: &[u8], v: u8, y: Supervisor, buffer: &mut [u8]) -> Supervisor
                 step_refused(y, 11, 0)
             }
         }
-        Verdict::Refused(n, at) => step_refused(y, n, at),
+        Examined::Refused(n, at) => step_refused(y, n, at),
     }
 }

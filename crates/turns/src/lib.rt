@@ -2,7 +2,7 @@
 ghost use mathlib.Core.Path.{_≡_};
 ghost use lib.ListN.{drop};
 ghost use Rattle.bits.specs.Bit.{least};
-ghost use Rattle.reader.specs.Walk.{recordsOf};
+ghost use Rattle.places.specs.Places.{recordsBy};
 ghost use Rattle.plan.specs.Plan.{moduleMove};
 ghost use Rattle.modules.specs.Queue.{queueOf, withQueue};
 ghost use Rattle.modules.specs.Turn.{byResponse, byChoice, enabled, turnOf, wish};
@@ -10,14 +10,15 @@ use bits::Maybe;
 use modules::Own;
 use modules::Turn;
 use modules::Turned;
+use places::Places;
 
 // The response e, the head of the queue.
-fn by_response(image: &[u8], m: u8, e: u8, own: Own) -> Turned
-    ensures { λ r. ⌜ r ≡ byResponse (withQueue own (drop 1 (queueOf own))) e (moduleMove (recordsOf (now (image .entry))) m (own .state) e) ⌝ }
+fn by_response(image: &[u8], places: Places, m: u8, e: u8, own: Own) -> Turned
+    ensures { λ r. ⌜ r ≡ byResponse (withQueue own (drop 1 (queueOf own))) e (moduleMove (recordsBy (now (image .entry)) places) m (own .state) e) ⌝ }
 {
     let st = own.state;
     let mut next = modules::without_head(own);
-    let Maybe::Just(t) = plan::module_move(image, m, st, e) else {
+    let Maybe::Just(t) = plan::module_move(image, places, m, st, e) else {
         return Turned {
             turn: Turn::Stray(e),
             own: next,
@@ -31,23 +32,23 @@ fn by_response(image: &[u8], m: u8, e: u8, own: Own) -> Turned
 }
 
 // The lowest command that the mask k does not disable.
-fn by_choice(image: &[u8], m: u8, k: u64, own: Own) -> Turned
-    ensures { λ r. ⌜ r ≡ byChoice (recordsOf (now (image .entry))) m own (least (enabled (recordsOf (now (image .entry))) m k (own .state)) 64) ⌝ }
+fn by_choice(image: &[u8], places: Places, m: u8, k: u64, own: Own) -> Turned
+    ensures { λ r. ⌜ r ≡ byChoice (recordsBy (now (image .entry)) places) m own (least (enabled (recordsBy (now (image .entry)) places) m k (own .state)) 64) ⌝ }
 {
     let st = own.state;
-    let Maybe::Just(e) = bits::lowest(masks::commands(image, m, st) & !k) else {
+    let Maybe::Just(e) = bits::lowest(masks::commands(image, places, m, st) & !k) else {
         return Turned {
             turn: Turn::Nothing,
             own,
         };
     };
-    let Maybe::Just(to) = plan::module_move(image, m, st, e) else {
+    let Maybe::Just(to) = plan::module_move(image, places, m, st, e) else {
         return Turned {
             turn: Turn::Nothing,
             own,
         };
     };
-    let p = modules::arrive_at(image, e, 0);
+    let p = modules::arrive_at(image, places, e, 0);
     let mut next = own;
     next.state = to;
     next.procedure = p;
@@ -58,8 +59,8 @@ fn by_choice(image: &[u8], m: u8, k: u64, own: Own) -> Turned
 }
 
 // A turn of module m over the mask k.
-pub fn turn(image: &[u8], m: u8, k: u64, own: Own) -> Turned
-    ensures { λ r. ⌜ r ≡ turnOf (recordsOf (now (image .entry))) m k own ⌝ }
+pub fn turn(image: &[u8], places: Places, m: u8, k: u64, own: Own) -> Turned
+    ensures { λ r. ⌜ r ≡ turnOf (recordsBy (now (image .entry)) places) m k own ⌝ }
 {
     let p = own.procedure;
     if own.length == 0 {
@@ -69,17 +70,17 @@ pub fn turn(image: &[u8], m: u8, k: u64, own: Own) -> Turned
                 own,
             }
         } else {
-            by_choice(image, m, k, own)
+            by_choice(image, places, m, k, own)
         }
     } else {
         let q = own.queue;
-        by_response(image, m, q[0], own)
+        by_response(image, places, m, q[0], own)
     }
 }
 
 // Whether module m wishes for a turn.
-pub fn wish(image: &[u8], m: u8, own: Own) -> bool
-    ensures { λ r. ⌜ r ≡ wish (recordsOf (now (image .entry))) m own ⌝ }
+pub fn wish(image: &[u8], places: Places, m: u8, own: Own) -> bool
+    ensures { λ r. ⌜ r ≡ wish (recordsBy (now (image .entry)) places) m own ⌝ }
 {
     let s = own.procedure;
     if own.length != 0 {
@@ -88,6 +89,6 @@ pub fn wish(image: &[u8], m: u8, own: Own) -> bool
     if s.running {
         false
     } else {
-        masks::commands(image, m, own.state) != 0
+        masks::commands(image, places, m, own.state) != 0
     }
 }

@@ -3,11 +3,11 @@ use borrow.Author.Needs.{needs}
 use Rattle.device.proofs.start.Statement.{statement}
 use Rattle.device.proofs.start.Tie as tie
 
-check-requires : tie.Need-check-requires
-check-requires c κs = search needs
+examine-requires : tie.Need-examine-requires
+examine-requires c κs = search needs
 
-enum-told : tie.Need-enum-told
-enum-told c = search needs
+enum-known-places : tie.Need-enum-known-places
+enum-known-places c = search needs
 
 started-requires : tie.Need-started-requires
 started-requires c κs = search needs
@@ -31,8 +31,8 @@ pub start-spec : {M : Type 1} → statement M
 start-spec =
     tie.close
     (tie.spec
-    check-requires
-    enum-told
+    examine-requires
+    enum-known-places
     started-requires
     enum-known-n
     empty-requires

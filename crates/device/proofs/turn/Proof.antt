@@ -3,11 +3,11 @@ use borrow.Author.Needs.{needs}
 use Rattle.device.proofs.turn.Statement.{statement}
 use Rattle.device.proofs.turn.Tie as tie
 
-check-requires : tie.Need-check-requires
-check-requires c κs = search needs
+examine-requires : tie.Need-examine-requires
+examine-requires c κs = search needs
 
-enum-told : tie.Need-enum-told
-enum-told c = search needs
+enum-known-places : tie.Need-enum-known-places
+enum-known-places c = search needs
 
 turn-in-requires : tie.Need-turn-in-requires
 turn-in-requires c κs = search needs
@@ -23,4 +23,4 @@ returns-2 c = search turn-refused
 
 pub turn-spec : {M : Type 1} → statement M
 turn-spec =
-    tie.close (tie.spec check-requires enum-told turn-in-requires enum-known-n returns returns-2)
+    tie.close (tie.spec examine-requires enum-known-places turn-in-requires enum-known-n returns returns-2)

@@ -3,7 +3,7 @@ use Rattle.device_bytes.proofs.Laws.{owns-on, owns-done}
 use Rattle.device_bytes.specs.Device.{slotOf}
 use Rattle.own_bytes.specs.Own.{unfitOwn}
 use Rattle.device_states.proofs.Slots.{filled}
-use Rattle.supervisor_records.specs.Looks.{listFrom}
+use Rattle.plan.specs.Lists.{listFrom}
 use Rattle.modules.specs.declared.Own.{Own}
 use lib.ListN.{replicate}
 use Prim.Native.Nat.{_-_, _≤_}

@@ -2,7 +2,7 @@ use borrow.Author.Needs.{needs}
 use Rattle.device_bytes.proofs.Laws.{states-on, states-done}
 use Rattle.device_bytes.specs.Device.{stateOf}
 use Rattle.device_states.proofs.Slots.{filled}
-use Rattle.supervisor_records.specs.Looks.{listFrom}
+use Rattle.plan.specs.Lists.{listFrom}
 use Prim.Native.Nat.{_-_, _≤_}
 use mathlib.Core.Path.{_≡_, refl}
 use Rattle.device_bytes.proofs.states_of.Statement.{statement}

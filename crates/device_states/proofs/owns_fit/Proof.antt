@@ -4,17 +4,17 @@ use Prim.Native.Nat.{ℕ, _-_, _≤_}
 use native.Mathlib.Omega.{arith}
 use borrow.Author.Needs.{needs}
 use Rattle.bits.specs.Bit.{allBelow}
-use Rattle.reader.specs.Walk.{recordsOf}
+use Rattle.places.specs.Places.{recordsBy}
 use Rattle.device_states.specs.States.{ownSlotFits}
 use Rattle.device_states.proofs.Slots.{own-on, own-fails, all-done}
 use Rattle.device_states.proofs.owns_fit.Statement.{statement}
 use Rattle.device_states.proofs.owns_fit.Tie as tie
 
 abbrev Inv-loop : tie.InvT-loop
-Inv-loop image d m₀ m = (m ≤ 16) × (allBelow (ownSlotFits (recordsOf image) d) m ≡ true)
+Inv-loop image places d m₀ m = (m ≤ 16) × (allBelow (ownSlotFits (recordsBy image places) d) m ≡ true)
 
 abbrev μ-loop : tie.MeasureT-loop
-μ-loop image d m₀ m = 16 - m
+μ-loop image places d m₀ m = 16 - m
 
 loop-holds : tie.Need-loop-holds Inv-loop μ-loop
 unfolding allBelow

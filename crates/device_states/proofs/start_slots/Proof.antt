@@ -5,18 +5,18 @@ use borrow.Author.Needs.{needs}
 use lib.ListN.{replicate}
 use Rattle.modules.specs.Turn.{emptyOwn}
 use Rattle.modules.specs.declared.Own.{Own}
-use Rattle.reader.specs.Walk.{recordsOf}
-use Rattle.supervisor_records.specs.Looks.{listFrom}
+use Rattle.places.specs.Places.{recordsBy}
+use Rattle.plan.specs.Lists.{listFrom}
 use Rattle.device_states.specs.States.{startSlot}
 use Rattle.device_states.proofs.Slots.{filled, fill-on, fill-done}
 use Rattle.device_states.proofs.start_slots.Statement.{statement}
 use Rattle.device_states.proofs.start_slots.Tie as tie
 
 abbrev Inv-loop : tie.InvT-loop
-Inv-loop image next₀ i₀ next i = (i ≤ 16) × (next ≡ filled (startSlot (recordsOf image)) emptyOwn 16 i)
+Inv-loop image places next₀ i₀ next i = (i ≤ 16) × (next ≡ filled (startSlot (recordsBy image places)) emptyOwn 16 i)
 
 abbrev μ-loop : tie.MeasureT-loop
-μ-loop image next₀ i₀ next i = 16 - i
+μ-loop image places next₀ i₀ next i = 16 - i
 
 empty-requires : tie.Need-empty-requires Inv-loop μ-loop
 empty-requires c κs = search needs

@@ -2,18 +2,18 @@ use mathlib.Core.Path.{_≡_, refl, sym, ap, _∙_}
 use Prim.Native.Nat.{ℕ, _-_, _%_, _≤_}
 use native.Mathlib.Omega.{arith}
 use borrow.Author.Needs.{needs}
-use Rattle.reader.specs.Walk.{recordsOf}
-use Rattle.supervisor_records.specs.Looks.{listFrom}
+use Rattle.places.specs.Places.{recordsBy}
+use Rattle.plan.specs.Lists.{listFrom}
 use Rattle.device_states.specs.States.{startState}
 use Rattle.device_states.proofs.Slots.{filled, fill-on, fill-done}
 use Rattle.device_states.proofs.start_states.Statement.{statement}
 use Rattle.device_states.proofs.start_states.Tie as tie
 
 abbrev Inv-loop : tie.InvT-loop
-Inv-loop image next₀ i₀ next i = (i ≤ 32) × (next ≡ filled (startState (recordsOf image)) 0 32 i)
+Inv-loop image places next₀ i₀ next i = (i ≤ 32) × (next ≡ filled (startState (recordsBy image places)) 0 32 i)
 
 abbrev μ-loop : tie.MeasureT-loop
-μ-loop image next₀ i₀ next i = 32 - i
+μ-loop image places next₀ i₀ next i = 32 - i
 
 loop-holds : tie.Need-loop-holds Inv-loop μ-loop
 unfolding listFrom

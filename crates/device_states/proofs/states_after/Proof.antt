@@ -4,23 +4,17 @@ use Prim.Native.Nat.{ℕ, _-_, _%_, _≤_}
 use native.Mathlib.Omega.{arith}
 use lib.ListN.{getD}
 use borrow.Author.Needs.{needs}
-use Rattle.reader.specs.Walk.{recordsOf}
-use Rattle.supervisor_records.specs.Looks.{listFrom}
+use Rattle.places.specs.Places.{recordsBy}
+use Rattle.plan.specs.Lists.{listFrom}
 use Rattle.device_states.proofs.Slots.{filled, fill-done, moved, moved-on}
 use Rattle.device_states.proofs.states_after.Statement.{statement}
 use Rattle.device_states.proofs.states_after.Tie as tie
 
 abbrev Inv-loop : tie.InvT-loop
-Inv-loop image e states alphabets moves next₀ i₀ next i = (i ≤ 32) × (next ≡ filled (moved (recordsOf image) states e) 0 32 i)
+Inv-loop image places e states next₀ i₀ next i = (i ≤ 32) × (next ≡ filled (moved (recordsBy image places) states e) 0 32 i)
 
 abbrev μ-loop : tie.MeasureT-loop
-μ-loop image e states alphabets moves next₀ i₀ next i = 32 - i
-
-look-all-requires : tie.Need-look-all-requires Inv-loop μ-loop
-look-all-requires c κs = search needs
-
-look-all-requires-2 : tie.Need-look-all-requires-2 Inv-loop μ-loop
-look-all-requires-2 c κs = search needs
+μ-loop image places e states next₀ i₀ next i = 32 - i
 
 loop-holds : tie.Need-loop-holds Inv-loop μ-loop
 unfolding listFrom
@@ -32,8 +26,8 @@ cast-v c = search needs
 array-read-st : tie.Need-array-read-st Inv-loop μ-loop
 array-read-st c = search needs
 
-state-after-requires : tie.Need-state-after-requires Inv-loop μ-loop
-state-after-requires c κs = search needs
+supervisor-after-requires : tie.Need-supervisor-after-requires Inv-loop μ-loop
+supervisor-after-requires c κs = search needs
 
 array-write-next : tie.Need-array-write-next Inv-loop μ-loop
 array-write-next c = search needs
@@ -47,19 +41,16 @@ loop-less c = search needs
 loop-again : tie.Need-loop-again Inv-loop μ-loop
 loop-again c =
     let l = c .before .before .loop in
-    let b = c .before .before .before .before in
-    let a = b .before .before .args in
     let e : l .i % 256 ≡ l .i = omega (arith, c .before .loop-test .taken) in
-    let s = c .state-after .ensures _ (a .t2) (b .look-all .ensures) (c .before .before .before .look-all2 .ensures) (ap (λ (j : ℕ). getD (a .t2) j 0) (sym e)) in
-    (search needs, moved-on _ (a .t2) (a .e) _ _ e s (c .before .loop-test .taken) (l .inv .1))
+    (search needs, moved-on _ (c .before .before .before .before .args .t3) (c .before .before .before .before .args .e) _ _ e (c .supervisor-after .ensures) (c .before .loop-test .taken) (l .inv .1))
 
 returns : tie.Need-returns Inv-loop μ-loop
 returns c =
     let l = c .before .loop in
-    let a = c .before .before .before .before .before .args in
-    fill-done (moved _ (a .t2) (a .e)) 0 32 (l .i) (l .inv .1) (c .loop-test .left) (l .inv .0)
+    let a = c .before .before .before .args in
+    fill-done (moved _ (a .t3) (a .e)) 0 32 (l .i) (l .inv .1) (c .loop-test .left) (l .inv .0)
 
 pub states-after-spec : {M : Type 1} → statement M
 states-after-spec =
     tie.close
-    (tie.spec Inv-loop μ-loop look-all-requires look-all-requires-2 loop-holds cast-v array-read-st state-after-requires array-write-next add-i loop-less loop-again returns)
+    (tie.spec Inv-loop μ-loop loop-holds cast-v array-read-st supervisor-after-requires array-write-next add-i loop-less loop-again returns)

@@ -4,17 +4,17 @@ use Prim.Native.Nat.{ℕ, _-_, _≤_}
 use native.Mathlib.Omega.{arith}
 use borrow.Author.Needs.{needs}
 use Rattle.bits.specs.Bit.{allBelow}
-use Rattle.reader.specs.Walk.{recordsOf}
+use Rattle.places.specs.Places.{recordsBy}
 use Rattle.device_states.specs.States.{stateSlotFits}
 use Rattle.device_states.proofs.Slots.{state-on, state-fails, all-done}
 use Rattle.device_states.proofs.states_fit.Statement.{statement}
 use Rattle.device_states.proofs.states_fit.Tie as tie
 
 abbrev Inv-loop : tie.InvT-loop
-Inv-loop image states v₀ v = (v ≤ 32) × (allBelow (stateSlotFits (recordsOf image) states) v ≡ true)
+Inv-loop image places states v₀ v = (v ≤ 32) × (allBelow (stateSlotFits (recordsBy image places) states) v ≡ true)
 
 abbrev μ-loop : tie.MeasureT-loop
-μ-loop image states v₀ v = 32 - v
+μ-loop image places states v₀ v = 32 - v
 
 loop-holds : tie.Need-loop-holds Inv-loop μ-loop
 unfolding allBelow

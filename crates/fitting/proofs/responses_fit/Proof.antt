@@ -2,7 +2,7 @@ use Prim.Native.Nat.{_-_}
 use mathlib.Core.Path.{_≡_, refl}
 use lib.ListN.{length, take, drop}
 use borrow.Author.Needs.{needs}
-use Rattle.reader.specs.Walk.{recordsOf}
+use Rattle.places.specs.Places.{recordsBy}
 use Rattle.plan.specs.Plan.{ownUncontrollable}
 use Rattle.modules.specs.Fits.{every}
 use Rattle.fitting.proofs.Every.{response-stops, response-goes-on, response-ends}
@@ -10,11 +10,11 @@ use Rattle.fitting.proofs.responses_fit.Statement.{statement}
 use Rattle.fitting.proofs.responses_fit.Tie as tie
 
 abbrev Inv-loop : tie.InvT-loop
-Inv-loop image m n q i₀ i =
-    (length q ≡ 8) × (every (ownUncontrollable (recordsOf image) m) (drop i (take n q)) ≡ every (ownUncontrollable (recordsOf image) m) (take n q))
+Inv-loop image places m n q i₀ i =
+    (length q ≡ 8) × (every (ownUncontrollable (recordsBy image places) m) (drop i (take n q)) ≡ every (ownUncontrollable (recordsBy image places) m) (take n q))
 
 abbrev μ-loop : tie.MeasureT-loop
-μ-loop image m n q i₀ i = n - i
+μ-loop image places m n q i₀ i = n - i
 
 loop-holds : tie.Need-loop-holds Inv-loop μ-loop
 loop-holds c = (search needs, refl)

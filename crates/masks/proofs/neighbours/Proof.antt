@@ -1,23 +1,17 @@
-use mathlib.Core.Path.{_≡_, refl}
-use mathlib.Core.Bool.{_&&_}
 use Prim.Native.Nat.{_≤_, _-_}
-use lib.Dec.{ltb}
-use borrow.Author.Needs.{needs}
+use mathlib.Core.Path.{_≡_, refl}
 use Rattle.bits.specs.Bit.{maskOf}
-use Rattle.reader.specs.Walk.{recordsOf}
-use Rattle.rules.specs.LookUp.{supervisorsOf}
-use Rattle.plan.specs.Plan.{neighbour}
-use Rattle.supervisor_records.proofs.Supervisors.{alphabet-in}
-use Rattle.masks.proofs.Events.{one-bit, all-bits}
+use Rattle.places.specs.Places.{recordsBy}
+use Rattle.masks.proofs.Events.{isNeighbour, neighbour-bit, neighbour-rest, small-mask, all-bits}
+use borrow.Author.Needs.{needs}
 use Rattle.masks.proofs.neighbours.Statement.{statement}
 use Rattle.masks.proofs.neighbours.Tie as tie
 
 abbrev Inv-loop : tie.InvT-loop
-Inv-loop image m own n looks mask₀ v₀ mask v =
-    (v ≤ 32) × (mask ≡ maskOf (λ u. ltb u (supervisorsOf (recordsOf image)) && neighbour (recordsOf image) m u) v)
+Inv-loop image places m own n mask₀ v₀ mask v = (v ≤ 32) × (mask ≡ maskOf (isNeighbour (recordsBy image places) m) v)
 
 abbrev μ-loop : tie.MeasureT-loop
-μ-loop image m own n looks mask₀ v₀ mask v = 32 - v
+μ-loop image places m own n mask₀ v₀ mask v = n - v
 
 own-events-requires : tie.Need-own-events-requires Inv-loop μ-loop
 own-events-requires c κs = search needs
@@ -25,21 +19,18 @@ own-events-requires c κs = search needs
 supervisors-of-requires : tie.Need-supervisors-of-requires Inv-loop μ-loop
 supervisors-of-requires c κs = search needs
 
-look-all-requires : tie.Need-look-all-requires Inv-loop μ-loop
-look-all-requires c κs = search needs
-
 loop-holds : tie.Need-loop-holds Inv-loop μ-loop
 unfolding maskOf
 loop-holds c = (search needs, refl)
 
-wide-requires : tie.Need-wide-requires Inv-loop μ-loop
-wide-requires c κs = search needs
+cast-result : tie.Need-cast-result Inv-loop μ-loop
+cast-result c = search small-mask
 
-mul-alphabet : tie.Need-mul-alphabet Inv-loop μ-loop
-mul-alphabet c = search needs
+returns : tie.Need-returns Inv-loop μ-loop
+returns c = search all-bits
 
-element-copy-out-alphabet : tie.Need-element-copy-out-alphabet Inv-loop μ-loop
-element-copy-out-alphabet c = search needs
+alphabet-of-requires : tie.Need-alphabet-of-requires Inv-loop μ-loop
+alphabet-of-requires c κs = search needs
 
 is-neighbour-requires : tie.Need-is-neighbour-requires Inv-loop μ-loop
 is-neighbour-requires c κs = search needs
@@ -57,11 +48,14 @@ loop-again : tie.Need-loop-again Inv-loop μ-loop
 loop-again c =
     let l = c .before .before .before .before .before in
     let a = l .before in
-    let bit-is = c .before .is-neighbour .ensures _ _ (a .before .supervisors-of .ensures) (a .before .before .own-events .ensures) (search alphabet-in) in
-    (search needs, one-bit _ _ (l .loop .inv .1) bit-is (c .with-bit .ensures))
+    let bit-is = c .before .is-neighbour .ensures _ _ _ (a .before .own-events .ensures) (c .before .before .alphabet-of .ensures) in
+    (search needs, neighbour-bit _ _ _ (a .supervisors-of .ensures) (l .loop .inv .1) (search needs) bit-is (c .with-bit .ensures))
 
-returns : tie.Need-returns Inv-loop μ-loop
-returns c = all-bits _ 32 _ (c .before .loop .inv .1) (c .before .loop .inv .0) (c .loop-test .left)
+cast-result-2 : tie.Need-cast-result-2 Inv-loop μ-loop
+cast-result-2 c = search small-mask
+
+returns-2 : tie.Need-returns-2 Inv-loop μ-loop
+returns-2 c = search neighbour-rest
 
 pub neighbours-spec : {M : Type 1} → statement M
 neighbours-spec =
@@ -71,14 +65,14 @@ neighbours-spec =
     μ-loop
     own-events-requires
     supervisors-of-requires
-    look-all-requires
     loop-holds
-    wide-requires
-    mul-alphabet
-    element-copy-out-alphabet
+    cast-result
+    returns
+    alphabet-of-requires
     is-neighbour-requires
     with-bit-requires
     add-v
     loop-less
     loop-again
-    returns)
+    cast-result-2
+    returns-2)

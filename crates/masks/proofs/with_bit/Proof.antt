@@ -7,7 +7,7 @@ shl-result : tie.Need-shl-result
 shl-result c = search needs
 
 returns : tie.Need-returns
-returns c = simp (c .if1 .taken, shl-one 32 _ (c .before .pre))
+returns c = simp (c .if1 .taken, shl-one 64 _ (c .before .pre))
 
 returns-2 : tie.Need-returns-2
 returns-2 c = search needs

@@ -3,11 +3,11 @@ use borrow.Author.Needs.{needs}
 use Rattle.module_deliveries.proofs.deliver.Statement.{statement}
 use Rattle.module_deliveries.proofs.deliver.Tie as tie
 
-check-requires : tie.Need-check-requires
-check-requires c κs = search needs
+examine-requires : tie.Need-examine-requires
+examine-requires c κs = search needs
 
-enum-told : tie.Need-enum-told
-enum-told c = search needs
+enum-known-places : tie.Need-enum-known-places
+enum-known-places c = search needs
 
 read-requires : tie.Need-read-requires
 read-requires c κs = search needs
@@ -31,8 +31,8 @@ pub deliver-spec : {M : Type 1} → statement M
 deliver-spec =
     tie.close
     (tie.spec
-    check-requires
-    enum-told
+    examine-requires
+    enum-known-places
     read-requires
     deliver-in-requires
     enum-known-n

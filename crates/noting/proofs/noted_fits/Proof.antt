@@ -3,16 +3,16 @@ use Prim.Native.Nat.{_-_, _≤_}
 use native.Mathlib.Omega.{arith}
 use borrow.Author.Needs.{needs}
 use Rattle.bits.specs.Bit.{allBelow}
-use Rattle.reader.specs.Walk.{recordsOf}
+use Rattle.places.specs.Places.{recordsBy}
 use Rattle.noting.proofs.Fitting.{fitBelow, noted-out, noted-more, noted-in}
 use Rattle.noting.proofs.noted_fits.Statement.{statement}
 use Rattle.noting.proofs.noted_fits.Tie as tie
 
 abbrev Inv-loop : tie.InvT-loop
-Inv-loop image v noted m₀ m = (m ≤ 16) × fitBelow (recordsOf image) v noted m
+Inv-loop image places v noted m₀ m = (m ≤ 16) × fitBelow (recordsBy image places) v noted m
 
 abbrev μ-loop : tie.MeasureT-loop
-μ-loop image v noted m₀ m = 16 - m
+μ-loop image places v noted m₀ m = 16 - m
 
 loop-holds : tie.Need-loop-holds Inv-loop μ-loop
 unfolding allBelow
@@ -22,7 +22,7 @@ note-fits-requires : tie.Need-note-fits-requires Inv-loop μ-loop
 note-fits-requires c κs = search needs
 
 returns : tie.Need-returns Inv-loop μ-loop
-returns c = noted-out (recordsOf (c .before .before .before .before .before .args .image .now)) _ _ _ (c .before .note-fits .ensures) (search needs) (c .if1 .taken)
+returns c = noted-out (recordsBy (c .before .before .before .before .before .args .image .now) (c .before .before .before .before .before .args .places)) _ _ _ (c .before .note-fits .ensures) (search needs) (c .if1 .taken)
 
 add-m : tie.Need-add-m Inv-loop μ-loop
 add-m c = omega arith
@@ -34,7 +34,7 @@ loop-again : tie.Need-loop-again Inv-loop μ-loop
 loop-again c = (omega arith, search noted-more)
 
 returns-2 : tie.Need-returns-2 Inv-loop μ-loop
-returns-2 c = noted-in (recordsOf (c .before .before .before .args .image .now)) _ _ (c .before .loop .m) (search needs) (search needs) (c .before .loop .inv .1)
+returns-2 c = noted-in (recordsBy (c .before .before .before .args .image .now) (c .before .before .before .args .places)) _ _ (c .before .loop .m) (search needs) (search needs) (c .before .loop .inv .1)
 
 pub noted-fits-spec : {M : Type 1} → statement M
 noted-fits-spec =

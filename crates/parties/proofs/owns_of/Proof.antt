@@ -5,7 +5,7 @@ use borrow.Author.Needs.{needs}
 use lib.ListN.{replicate}
 use Rattle.modules.specs.declared.Own.{Own}
 use Rattle.modules.specs.Turn.{emptyOwn}
-use Rattle.supervisor_records.specs.Looks.{listFrom}
+use Rattle.plan.specs.Lists.{listFrom}
 use Rattle.device_states.proofs.Slots.{filled, fill-on, fill-done}
 use Rattle.parties.specs.Parties.{moduleAt}
 use Rattle.parties.proofs.owns_of.Statement.{statement}

@@ -5,11 +5,11 @@ use Rattle.plan.proofs.own_event.Tie as tie
 events-of-requires : tie.Need-events-of-requires
 events-of-requires c κs = search needs
 
-fields-at-requires : tie.Need-fields-at-requires
-fields-at-requires c κs = search needs
+owner-of-requires : tie.Need-owner-of-requires
+owner-of-requires c κs = search needs
 
 returns : tie.Need-returns
 returns c = cc
 
 pub own-event-spec : {M : Type 1} → statement M
-own-event-spec = tie.close (tie.spec events-of-requires fields-at-requires returns)
+own-event-spec = tie.close (tie.spec events-of-requires owner-of-requires returns)

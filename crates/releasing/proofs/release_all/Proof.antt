@@ -2,16 +2,16 @@ use mathlib.Core.Logic.{⊎-elim}
 use Prim.Native.Nat.{_-_}
 use native.Mathlib.Omega.{arith}
 use borrow.Author.Needs.{needs}
-use Rattle.reader.specs.Walk.{recordsOf}
+use Rattle.places.specs.Places.{recordsBy}
 use Rattle.releasing.proofs.Releasing.{Going, begins, long-by, done-by, room-by, on-by, off-by}
 use Rattle.releasing.proofs.release_all.Statement.{statement}
 use Rattle.releasing.proofs.release_all.Tie as tie
 
 abbrev Inv-loop : tie.InvT-loop
-Inv-loop image m adjacent t buffer₀ mask at₀ v₀ buffer at v = Going (recordsOf image) m t buffer₀ buffer at v
+Inv-loop image places m adjacent t buffer₀ mask at₀ v₀ buffer at v = Going (recordsBy image places) m t buffer₀ buffer at v
 
 abbrev μ-loop : tie.MeasureT-loop
-μ-loop image m adjacent t buffer₀ mask at₀ v₀ buffer at v = 32 - v
+μ-loop image places m adjacent t buffer₀ mask at₀ v₀ buffer at v = 32 - v
 
 loop-holds : tie.Need-loop-holds Inv-loop μ-loop
 loop-holds c = search begins

@@ -1,5 +1,4 @@
-use Rattle.noting.proofs.Planned.{plan-by}
-use Rattle.supervisor_calls.proofs.Delivering.{deliver-refused, deliver-absent, deliver-unfit, deliver-fit}
+use Rattle.supervisor_calls.proofs.Delivering.{few-modules, deliver-refused, deliver-absent, deliver-unfit, deliver-fit}
 use borrow.Author.Needs.{needs}
 use Rattle.supervisor_calls.proofs.deliver.Statement.{statement}
 use Rattle.supervisor_calls.proofs.deliver.Tie as tie
@@ -7,11 +6,11 @@ use Rattle.supervisor_calls.proofs.deliver.Tie as tie
 read-requires : tie.Need-read-requires
 read-requires c κs = search needs
 
-check-requires : tie.Need-check-requires
-check-requires c κs = search needs
+examine-requires : tie.Need-examine-requires
+examine-requires c κs = search needs
 
-enum-told : tie.Need-enum-told
-enum-told c = search needs
+enum-known-places : tie.Need-enum-known-places
+enum-known-places c = search needs
 
 supervisors-of-requires : tie.Need-supervisors-of-requires
 supervisors-of-requires c κs = search needs
@@ -20,7 +19,7 @@ fits-requires : tie.Need-fits-requires
 fits-requires c κs = search needs
 
 deliver-in-requires : tie.Need-deliver-in-requires
-deliver-in-requires c κs = search plan-by
+deliver-in-requires c κs = search few-modules
 
 refused-requires : tie.Need-refused-requires
 refused-requires c κs = search needs
@@ -51,8 +50,8 @@ deliver-spec =
     tie.close
     (tie.spec
     read-requires
-    check-requires
-    enum-told
+    examine-requires
+    enum-known-places
     supervisors-of-requires
     fits-requires
     deliver-in-requires
