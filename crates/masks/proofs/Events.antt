@@ -15,8 +15,12 @@ use Rattle.bits.specs.declared.Maybe.{Maybe}
 use Rattle.bits.specs.declared.Maybe.the-variants.{Just, Nothing}
 use Rattle.bits.proofs.Mask.{mask-small, common-is}
 use Rattle.records.specs.declared.Record.{Record}
-use Rattle.rules.specs.LookUp.{eventsOf, supervisorsOf, ownerOf, controllable, alphabetOf}
-use Rattle.plan.specs.Plan.{moduleMove, hasCommand, ownEvent, neighbour, neighbours}
+use Rattle.reader.specs.declared.Found.{Found}
+use Rattle.places.specs.declared.Places.{Places}
+use Rattle.places.specs.Places.{countOf, recordsBy}
+use Rattle.places.proofs.Finding.{event-missing}
+use Rattle.rules.specs.LookUp.{field3, fieldOf, eventsOf, supervisorsOf, ownerOf, controllable, alphabetOf}
+use Rattle.plan.specs.Plan.{moduleMove, hasCommand, commands, ownEvent, neighbour, neighbours}
 
 -- ---- a mask from below
 
@@ -63,6 +67,14 @@ module _ (rs : List Record) (m st e : ℕ) {c : Bool} (f : c ≡ controllable rs
 
     pub command-there : {t : ℕ} → y ≡ Just t → true ≡ hasCommand rs m st e
     command-there h = ap (λ (z : Maybe). isSome (optionOf z)) (sym h) ∙ command-by
+
+-- none past the count of events
+pub commands-end : (s : List ℕ) (p : Places) (m st e : ℕ) {n w x : ℕ} → n ≡ countOf s p 0x11 → w ≡ e → n ≤ w → e ≤ 64 → x ≡ maskOf (hasCommand (recordsBy s p) m st) e
+    → x ≡ commands (recordsBy s p) m st
+unfolding fieldOf
+commands-end s p m st e c q l h f =
+    rest-bits (hasCommand (recordsBy s p) m st) 64 e f h
+    (λ j k. ap (λ (y : Found). eqb (fieldOf field3 y) 1 && isSome (moduleMove (recordsBy s p) m st j)) (event-missing s p j (let r : countOf s p 0x11 ≤ j = omega arith in r)))
 
 -- ---- a module's events
 

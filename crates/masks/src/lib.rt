@@ -34,13 +34,17 @@ fn has_command(image: &[u8], places: Places, m: u8, st: u8, e: u8) -> bool
     }
 }
 
-// The controllable events that have a move from a module's state.
+// The controllable events that have a move from a module's state. No event is found past the events' count.
 pub fn commands(image: &[u8], places: Places, m: u8, st: u8) -> u64
     ensures { λ r. ⌜ r ≡ commands (recordsBy (now (image .entry)) places) m st ⌝ }
 {
+    let n = places::count(image, places, 0x11);
     let mut mask: u64 = 0;
     let mut e: u8 = 0;
     while e < 64 {
+        if n <= words::wide(e) {
+            return mask;
+        }
         mask = with_bit(mask, e, has_command(image, places, m, st, e));
         e += 1;
     }

@@ -11,7 +11,7 @@ use lib.Ieee.Fits.{and-l, and-r}
 use borrow.Author.Tests.{eq-eqb, ne-eqb, eqb-true, eqb-false}
 use denote.Floats.{passes}
 use Rattle.records.specs.Kinds.{bodyLen, noLen}
-use Rattle.records.specs.Key.{keyOf, sameKey}
+use Rattle.records.specs.Key.{keyBy, keyOf, sameKey}
 use Rattle.records.specs.declared.Record.{Record}
 use Rattle.records.specs.declared.RecordKey.{RecordKey}
 use Rattle.reader.specs.Read.{recordOf}
@@ -244,3 +244,8 @@ module _ (s : List ℕ) (p : Places) (q : RecordKey) where
       it-there u w z =
           let c : r .count ≡ countOf s p (q .kind) = counts s p (q .kind) e in
           ap It (z ∙ there) ∙ sym (it s p q (omega arith) (sym (same-there u) ∙ w))
+
+-- no event is found past the count of events
+pub event-missing : (s : List ℕ) (p : Places) (e : ℕ) → countOf s p 0x11 ≤ e → findIn (keyBy 0x11 e 0 0) (recordsBy s p) ≡ Missing
+unfolding positionOf numbered
+event-missing s p e h = missing s p (keyBy 0x11 e 0 0) (λ m. absurd (omega arith))
