@@ -1,9 +1,12 @@
 -- What a caller learns from the answer of `examine`.
-use mathlib.Core.Path.{_≡_, refl, sym, ap, _∙_}
+use mathlib.Core.Path.{_≡_, refl, sym, ap, ap₂, _∙_}
 use mathlib.Core.List.{List}
 use Prim.Native.Nat.{ℕ}
-use Rattle.places.specs.Places.{placesOf}
+use Rattle.records.specs.declared.Record.{Record}
+use Rattle.reader.specs.Walk.{recordsOf}
+use Rattle.places.specs.Places.{placesOf, recordsBy}
 use Rattle.places.specs.declared.Places.{Places}
+use Rattle.placed.proofs.Placed.{all-found}
 use Rattle.rules.specs.Check.{verdictOf}
 use Rattle.rules.specs.declared.Verdict.{Verdict}
 use Rattle.rules.specs.declared.Verdict.the-variants.{Accepted as VerdictAccepted, Refused as VerdictRefused}
@@ -48,13 +51,25 @@ module _ (s : List ℕ) where
   unfolding placesIn
   places-by e g = sym (ap (placesIn (placesOf s)) g) ∙ ap (placesIn (placesOf s)) e ∙ places-told
 
-  pub refused-by' : {x : Examined} {n o : ℕ} → x ≡ examinedOf s → x ≡ Refused n o → verdictOf s ≡ VerdictRefused n o
+  pub refused-is : {x : Examined} {n o : ℕ} → x ≡ examinedOf s → x ≡ Refused n o → verdictOf s ≡ VerdictRefused n o
   unfolding verdictIn
-  refused-by' e g = sym (verdict-by e) ∙ ap verdictIn g
+  refused-is e g = sym (verdict-by e) ∙ ap verdictIn g
 
   -- the same the other way round
   pub accepts : {x : Examined} {p : Places} → x ≡ examinedOf s → x ≡ Accepted p → VerdictAccepted ≡ verdictOf s
   accepts e g = sym (accepted-by e g)
 
   pub refuses : {x : Examined} {n o : ℕ} → x ≡ examinedOf s → x ≡ Refused n o → VerdictRefused n o ≡ verdictOf s
-  refuses e g = sym (refused-by' e g)
+  refuses e g = sym (refused-is e g)
+
+  -- a look-up by the places finds the plan's records
+  pub records-by : {x : Examined} {p : Places} → x ≡ examinedOf s → x ≡ Accepted p → recordsBy s p ≡ recordsOf s
+  records-by e g = ap (recordsBy s) (places-by e g) ∙ all-found s (accepted-by e g)
+
+  -- what a call gives by the verdict and the records: of a plan that is accepted with its places, and of an image that is refused
+  module _ {x : Examined} (e : x ≡ examinedOf s) {A : Type 0} (f : Verdict → List Record → A) where
+    pub call-by : {p : Places} → x ≡ Accepted p → f VerdictAccepted (recordsBy s p) ≡ f (verdictOf s) (recordsOf s)
+    call-by g = ap₂ f (accepts e g) (records-by e g)
+
+    pub refused-call : {n o : ℕ} → x ≡ Refused n o → f (VerdictRefused n o) (recordsOf s) ≡ f (verdictOf s) (recordsOf s)
+    refused-call g = ap (λ (v : Verdict). f v (recordsOf s)) (refuses e g)
