@@ -63,6 +63,7 @@ pub record DeviceHeld (d : Device) : Type 0 where
   pub owns : OwnsHeld (d .modules)
   pub modules : length (d .modules) ≡ 16
   pub supervisors : length (d .supervisors) ≡ 32
+  pub states : Bytes (d .supervisors)
 
 pub record DeviceParts : Type 0 where
   -- decoding what was encoded gives it back

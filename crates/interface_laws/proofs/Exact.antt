@@ -21,9 +21,10 @@ use Rattle.own_bytes.specs.Own.{procedureOf, ownOf, isOwn, OwnHeld}
 use Rattle.party_bytes.specs.Module.{moduleAt, moduleBytes, moduleOf, isModule, unfitModule, ModuleHeld}
 use Rattle.party_bytes.specs.Supervisor.{holderByte, holderOf, supervisorAt, supervisorBytes, supervisorOf, unfitSupervisor, SupervisorHeld}
 use Rattle.party_bytes.proofs.Parts.{module-parts, supervisor-parts}
-use Rattle.device_bytes.specs.Device.{slotOf, deviceAt, deviceBytes, deviceOf, isSlot, isDevice, unfitDevice, OwnsHeld, DeviceHeld}
+use Rattle.device_bytes.specs.Device.{slotOf, stateOf, deviceAt, deviceBytes, deviceOf, isSlot, isDevice, unfitDevice, OwnsHeld, DeviceHeld}
 use Rattle.device_bytes.proofs.Parts.{device-parts}
 use Rattle.interface_laws.specs.Exact.{Exact}
+use Rattle.interface_laws.proofs.ByteLists.{bytes-none, bytes-more, bytes-listed}
 
 not-true : (a : Bool) → not a ≡ true → a ≡ false
 not-true true h = absurd (true≢false (sym h))
@@ -41,6 +42,11 @@ module _ (b : List ℕ) (g : Bytes b) where
   number-at : (o : ℕ) → isFloat b o ≡ true → Number (floatAt b o)
   number-at o h = record { fit = ofBits-fits binary64 (wordAt b o); number = sym (nanBits-is binary64 (wordAt b o)) ∙ not-true (nanBits binary64 (wordAt b o)) h }
 
+  places-bytes : (n o : ℕ) → Bytes (bytesFrom b o n)
+  unfolding bytesFrom
+  places-bytes zero o = bytes-none
+  places-bytes (suc n) o = bytes-more (getD b o 0) (bytesFrom b (suc o) n) (g o) (places-bytes n (suc o))
+
   own-held : isOwn b ≡ true → OwnHeld (ownOf b)
   unfolding isOwn ownOf procedureOf bytesFrom
   own-held h =
@@ -51,6 +57,7 @@ module _ (b : List ℕ) (g : Bytes b) where
         state = g 0;
         queued = g 1;
         places = refl;
+        queue = places-bytes 8 2;
         event = g 11;
         index = g 12;
         count = half-small 13;
@@ -92,7 +99,7 @@ device-is b g h =
     let L : Bool = eqb (length b) 592 in
     let A : Bool = allBelow (isSlot b) 16 in
     let all : (k : ℕ) → k < 16 → isSlot b k ≡ true = λ k m. is-true (isSlot b k) (all-at (isSlot b) 16 (subst T (sym (and-right L A h)) tt) k m) in
-    record { owns = slots-held b g all 16 0 (omega arith); modules = refl; supervisors = refl }
+    record { owns = slots-held b g all 16 0 (omega arith); modules = refl; supervisors = refl; states = bytes-listed (stateOf b) (λ v. unfold stateOf in g (560 + v)) 0 32 }
 
 pub exact : Exact
 exact =

@@ -1,5 +1,10 @@
 pub mod Numbers
 pub mod Untouched
 pub mod NoState
+pub mod ByteLists
+pub mod OwnParts
+pub mod Parties
+pub mod Devices
+pub mod Held
 pub mod Exact
 pub mod Kept

@@ -1,3 +1,4 @@
 pub mod Laws
 pub mod Exact
 pub mod Kept
+pub mod Held

@@ -51,6 +51,7 @@ pub record OwnHeld (own : Own) : Type 0 where
   pub state : Byte (own .state)
   pub queued : Byte (own .length)
   pub places : length (own .queue) ≡ 8
+  pub queue : Bytes (own .queue)
   pub event : Byte (own .procedure .event)
   pub index : Byte (own .procedure .index)
   pub count : own .procedure .count < 2 ^ 16
