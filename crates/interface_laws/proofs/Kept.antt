@@ -133,10 +133,10 @@ after-accepted : (n : ℕ) (after s : List ℕ) → n ≡ 0 → lentAfter n afte
 unfolding lentAfter
 after-accepted n after s e = ap (λ (t : Bool). cond t after s) (eq-eqb n 0 e)
 
-over : (bytes s : List ℕ) → length bytes ≡ length s → written bytes s ≡ bytes
+pub over : (bytes s : List ℕ) → length bytes ≡ length s → written bytes s ≡ bytes
 over bytes s e = ap (λ (k : ℕ). bytes ++ drop k s) e ∙ ap (λ (r : List ℕ). bytes ++ r) (drop-length s) ∙ append-nil bytes
 
-put-over : (bytes s : List ℕ) → length bytes ≡ length s → putAt bytes 0 s ≡ bytes
+pub put-over : (bytes s : List ℕ) → length bytes ≡ length s → putAt bytes 0 s ≡ bytes
 put-over bytes s e = put-start bytes s (le-ltb (length s) (length bytes) (omega arith)) ∙ over bytes s e
 
 module-length : (s : List ℕ) → isModule s ≡ true → length s ≡ 48
@@ -179,7 +179,7 @@ module _ (a : Answer) (s : List ℕ) (y : Supervisor) (n : ℕ) (same : numberOf
           put ∙ after-accepted n (putAt (supervisorBytes y) 0 s) s (sym same ∙ z)
           ∙ put-over (supervisorBytes y) s (supervisor-parts .size y ∙ sym (supervisor-length s (stood (isSupervisor s) refl z)))
 
-put-device : (d : Device) (s : List ℕ) → length s ≡ 592 → length (deviceBytes d) ≡ 592 → devicePut d s ≡ deviceBytes d
+pub put-device : (d : Device) (s : List ℕ) → length s ≡ 592 → length (deviceBytes d) ≡ 592 → devicePut d s ≡ deviceBytes d
 unfolding devicePut
 put-device d s e q =
     let l : 592 ≤ length s = omega arith in

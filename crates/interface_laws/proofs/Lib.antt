@@ -8,3 +8,4 @@ pub mod Devices
 pub mod Held
 pub mod Exact
 pub mod Kept
+pub mod Encoded

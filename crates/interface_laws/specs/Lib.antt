@@ -2,3 +2,4 @@ pub mod Laws
 pub mod Exact
 pub mod Kept
 pub mod Held
+pub mod Encoded

@@ -1,0 +1,78 @@
+-- A call over bytes is the call on the state that they are. Given the bytes of a state that they can hold, it gives the number of the call's
+-- answer, the bytes of the state that the call leaves and its buffer, for every image and every argument, refused or not. A message is a list of
+-- bytes.
+use Prim.Native.Nat.{ℕ}
+use mathlib.Core.Path.{_≡_}
+use mathlib.Core.List.{List, []}
+use lib.ListN.{length, replicate}
+use lib.Ieee.{Float}
+use Rattle.roundtrip.specs.Fits.{Bytes}
+use Rattle.modules.specs.declared.Called.the-variants.{Done}
+use Rattle.device.specs.Device.{startCall, turnCall, respondCall, tickCall}
+use Rattle.permits.specs.Module as M
+use Rattle.permits.specs.Supervisor as S
+use Rattle.device_states.specs.declared.Device.{Device}
+use Rattle.device.specs.declared.DeviceCalled.{DeviceCalled}
+use Rattle.device.specs.declared.DeviceTurned.{DeviceTurned}
+use Rattle.permits.specs.declared.Module.{Module}
+use Rattle.permits.specs.declared.Supervisor.{Supervisor}
+use Rattle.permits.specs.declared.ModuleCalled.{ModuleCalled}
+use Rattle.permits.specs.declared.SupervisorCalled.{SupervisorCalled}
+use Rattle.party_bytes.specs.Module.{moduleBytes, ModuleHeld}
+use Rattle.party_bytes.specs.Supervisor.{supervisorBytes, SupervisorHeld}
+use Rattle.device_bytes.specs.Device.{deviceBytes, DeviceHeld}
+use Rattle.packing.specs.Answer.{Answer, calledAnswer, turningAnswer, steppedAnswer, servedAnswer}
+use Rattle.packing.specs.Flow.{flowOf}
+use Rattle.device_interface.specs.Calls as DeviceCalls
+use Rattle.module_interface.specs.Calls as ModuleCalls
+use Rattle.supervisor_interface.specs.Calls as SupervisorCalls
+
+-- the answers of the calls, with the states as bytes
+abbrev pub moduleAnswer : ModuleCalled → Answer
+moduleAnswer c = record { number = calledAnswer (c .answer); state = moduleBytes (c .state); buffer = [] }
+
+abbrev pub stepAnswer : M.StepCall → Answer
+stepAnswer c = record { number = steppedAnswer (c .answer); state = moduleBytes (c .state); buffer = c .buffer }
+
+abbrev pub supervisorAnswer : SupervisorCalled → Answer
+supervisorAnswer c = record { number = calledAnswer (c .answer); state = supervisorBytes (c .state); buffer = [] }
+
+abbrev pub serveAnswer : S.ServeCall → Answer
+serveAnswer c = record { number = servedAnswer (c .answer); state = supervisorBytes (c .state); buffer = c .buffer }
+
+abbrev pub deviceAnswer : DeviceCalled → Answer
+deviceAnswer c = record { number = calledAnswer (c .answer); state = deviceBytes (c .device); buffer = [] }
+
+abbrev pub turnAnswer : DeviceTurned → Answer
+turnAnswer c = record { number = turningAnswer (c .answer); state = deviceBytes (c .device); buffer = [] }
+
+pub record AllEncoded : Type 0 where
+  pub moduleStep : (image : List ℕ) (m : ℕ) (x : Module) (b : List ℕ) → ModuleHeld x
+      → ModuleCalls.stepBytes image (moduleBytes x) m b ≡ stepAnswer (M.moduleStep image m x b)
+  pub moduleDeliver : (image : List ℕ) (m : ℕ) (x : Module) (g : List ℕ) → Bytes g → ModuleHeld x
+      → ModuleCalls.deliverBytes image (moduleBytes x) m g ≡ moduleAnswer (M.moduleDeliver image m x g)
+  pub moduleRespond : (image : List ℕ) (m : ℕ) (x : Module) (e : ℕ) → ModuleHeld x
+      → ModuleCalls.respondBytes image (moduleBytes x) m e ≡ moduleAnswer (M.moduleRespond image m x e)
+  pub moduleTick : (image : List ℕ) (m : ℕ) (x : Module) (s : ℕ) (l : Float) → ModuleHeld x
+      → ModuleCalls.tickBytes image (moduleBytes x) m s l ≡ moduleAnswer (M.moduleTick image m x (flowOf s l))
+  pub supervisorStep : (image : List ℕ) (v : ℕ) (y : Supervisor) (b : List ℕ) → SupervisorHeld y
+      → SupervisorCalls.stepBytes image (supervisorBytes y) v b ≡ serveAnswer (S.supervisorStep image v y b)
+  pub supervisorDeliver : (image : List ℕ) (v : ℕ) (y : Supervisor) (g : List ℕ) → SupervisorHeld y
+      → SupervisorCalls.deliverBytes image (supervisorBytes y) v g ≡ supervisorAnswer (S.supervisorDeliver image v y g)
+  pub deviceTurn : (image : List ℕ) (d : Device) (m : ℕ) → DeviceHeld d
+      → DeviceCalls.turnBytes image (deviceBytes d) m ≡ turnAnswer (turnCall image d m)
+  pub deviceRespond : (image : List ℕ) (d : Device) (m e : ℕ) → DeviceHeld d
+      → DeviceCalls.respondBytes image (deviceBytes d) m e ≡ deviceAnswer (respondCall image d m e)
+  pub deviceTick : (image : List ℕ) (d : Device) (m s : ℕ) (l : Float) → DeviceHeld d
+      → DeviceCalls.tickBytes image (deviceBytes d) m s l ≡ deviceAnswer (tickCall image d m (flowOf s l))
+  -- an accepted start writes the starting state, whatever stood there
+  pub moduleStart : (image : List ℕ) (m : ℕ) (l : List ℕ) → length l ≡ 48 → M.moduleStart image m .answer ≡ Done
+      → ModuleCalls.startBytes image m l .buffer ≡ moduleBytes (M.moduleStart image m .state)
+  pub supervisorStart : (image : List ℕ) (v : ℕ) (l : List ℕ) → length l ≡ 6 → S.supervisorStart image v .answer ≡ Done
+      → SupervisorCalls.startBytes image v l .buffer ≡ supervisorBytes (S.supervisorStart image v .state)
+  pub deviceStart : (image l : List ℕ) → length l ≡ 592 → startCall image .answer ≡ Done
+      → DeviceCalls.startBytes image l .buffer ≡ deviceBytes (startCall image .device)
+  -- and a refused one leaves zeros, which are the state that it gives
+  pub moduleZeros : (image : List ℕ) (m : ℕ) → ModuleCalls.startBytes image m (replicate 48 0) .buffer ≡ moduleBytes (M.moduleStart image m .state)
+  pub supervisorZeros : (image : List ℕ) (v : ℕ)
+      → SupervisorCalls.startBytes image v (replicate 6 0) .buffer ≡ supervisorBytes (S.supervisorStart image v .state)
