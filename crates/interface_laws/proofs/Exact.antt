@@ -25,6 +25,7 @@ use Rattle.device_bytes.specs.Device.{slotOf, stateOf, deviceAt, deviceBytes, d
 use Rattle.device_bytes.proofs.Parts.{device-parts}
 use Rattle.interface_laws.specs.Exact.{Exact}
 use Rattle.interface_laws.proofs.ByteLists.{bytes-none, bytes-more, bytes-listed}
+use Rattle.interface_laws.proofs.Written.{module-bytes, supervisor-bytes, device-bytes}
 
 not-true : (a : Bool) → not a ≡ true → a ≡ false
 not-true true h = absurd (true≢false (sym h))
@@ -114,4 +115,7 @@ exact =
           ap (λ (t : Bool). cond t (supervisorAt (supervisorBytes y)) unfitSupervisor) (supervisor-parts .stands y h) ∙ supervisor-parts .back y h;
       device-again = λ d h. unfold deviceOf in
           ap (λ (t : Bool). cond t (deviceAt (deviceBytes d)) unfitDevice) (device-parts .stands d h) ∙ device-parts .back d h;
+      module-bytes = module-bytes;
+      supervisor-bytes = supervisor-bytes;
+      device-bytes = device-bytes;
     }

@@ -6,6 +6,7 @@ pub mod OwnParts
 pub mod Parties
 pub mod Devices
 pub mod Held
+pub mod Written
 pub mod Exact
 pub mod Kept
 pub mod Encoded

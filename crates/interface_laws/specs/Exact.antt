@@ -1,5 +1,4 @@
--- What is read from bytes that stand for a state has no NaN and numbers within the code's types; places of a queue and states of a device's
--- supervisors are bytes as they stand. With `stands`, `back` and `written` of the crates below, encoding and decoding are inverse to each other.
+-- What is read from bytes that stand for a state has no NaN and numbers within the code's types. With `stands`, `back` and `written` of the crates below, encoding and decoding are inverse to each other.
 use mathlib.Core.Path.{_≡_}
 use mathlib.Core.List.{List}
 use mathlib.Core.Bool.{true}
@@ -22,3 +21,7 @@ pub record Exact : Type 0 where
   pub module-again : (x : Module) → ModuleHeld x → moduleOf (moduleBytes x) ≡ x
   pub supervisor-again : (y : Supervisor) → SupervisorHeld y → supervisorOf (supervisorBytes y) ≡ y
   pub device-again : (d : Device) → DeviceHeld d → deviceOf (deviceBytes d) ≡ d
+  -- and what is written are bytes
+  pub module-bytes : (x : Module) → ModuleHeld x → Bytes (moduleBytes x)
+  pub supervisor-bytes : (y : Supervisor) → SupervisorHeld y → Bytes (supervisorBytes y)
+  pub device-bytes : (d : Device) → DeviceHeld d → Bytes (deviceBytes d)
