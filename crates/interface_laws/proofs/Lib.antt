@@ -6,7 +6,9 @@ pub mod OwnParts
 pub mod Parties
 pub mod Devices
 pub mod Held
+pub mod Sent
 pub mod Written
 pub mod Exact
 pub mod Kept
 pub mod Encoded
+pub mod DemandOverBytes

@@ -169,7 +169,7 @@ record Small (p : Procedure) : Type 0 where
   count : p .count < 2 ^ 16
 
 module _ (rs : List Record) (plan : Sound rs) (m : ℕ) where
-  own-event : (e : ℕ) → T (ownUncontrollable rs m e) → Byte e
+  pub own-event : (e : ℕ) → T (ownUncontrollable rs m e) → Byte e
   own-event e t = let l : e < eventsOf rs = ltb→lt e (eventsOf rs) (search both) in omega (arith, plan .events .1)
 
   events : (q : List ℕ) → T (every (ownUncontrollable rs m) q) → Bytes q

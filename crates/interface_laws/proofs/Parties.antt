@@ -82,13 +82,13 @@ mask-small g h =
 
 -- ---- modules
 
+pub own-fits : (rs : List Record) (m : ℕ) (x : Module) → M.moduleFits rs m x ≡ true → T (ownFits rs m (x .own))
+unfolding M.fitsIn
+own-fits rs m x f = let t : T (M.moduleFits rs m x) = holds _ f in search both
+
 module _ (rs : List Record) (m : ℕ) (x : Module) (h : ModuleHeld x) where
   abbrev Keeps : ModuleCalled → Type 0
   Keeps c = ModuleHeld (c .state)
-
-  own-fits : M.moduleFits rs m x ≡ true → T (ownFits rs m (x .own))
-  unfolding M.fitsIn
-  own-fits f = let t : T (M.moduleFits rs m x) = holds _ f in search both
 
   bid-small : (v : ℕ) → M.bidWith rs m x v ≡ true → v < 32
   unfolding M.bidWith M.missingIn M.isFor
@@ -120,7 +120,7 @@ module _ (rs : List Record) (m : ℕ) (x : Module) (h : ModuleHeld x) where
   unfolding M.replyBy
   replied r k =
       choose Keeps (ltb m (modulesOf rs)) _ _ (λ l. choose Keeps (M.moduleFits rs m x) _ _
-      (λ f. record { own = k (own-fits f); held = h .held; received = h .received }) (λ f. h)) (λ l. h)
+      (λ f. record { own = k (own-fits rs m x f); held = h .held; received = h .received }) (λ f. h)) (λ l. h)
 
   stepped : Sound rs → (b : List ℕ) → ModuleHeld (M.stepBy Accepted rs m x b .state)
   unfolding M.stepBy M.stepIn M.stateBy
@@ -132,7 +132,7 @@ module _ (rs : List Record) (m : ℕ) (x : Module) (h : ModuleHeld x) where
       Keep c = ModuleHeld (c .state)
 
       by : M.moduleFits rs m x ≡ true → (c : M.Choice) → ModuleHeld (M.stateBy rs m x c)
-      by f M.takesTurn = record { own = turn-held rs plan m (x .own) (h .own) (own-fits f) (x .received); held = pow-pos 32; received = pow-pos 64 }
+      by f M.takesTurn = record { own = turn-held rs plan m (x .own) (h .own) (own-fits rs m x f) (x .received); held = pow-pos 32; received = pow-pos 64 }
       by f (M.bidsTo v) = record { own = h .own; held = h .held; received = h .received }
       by f M.waits = h
 
@@ -166,7 +166,20 @@ module _ (image : List ℕ) (m : ℕ) (x : Module) (h : ModuleHeld x) where
   pub module-ticked : (f : Flow) → ModuleHeld (M.moduleTick image m x f .state)
   module-ticked f = module-replied (tickOf (recordsOf image) f (x .own)) (λ plan t. tick-held (recordsOf image) plan m (x .own) (h .own) t f)
 
--- ---- the states of supervisors
+-- ---- supervisors
+
+-- the module that gets the permit
+pub served-small : (y : Supervisor) (m : ℕ) → S.served y ≡ some m → m < 16
+unfolding S.nextNoted S.placeAfter S.servedOn
+served-small y m e = holds-at (y .holder) e
+  where
+    place : (o : Option ℕ) → S.nextNoted y o ≡ some m → m < 16
+    place none q = let z : _≡_ {A = ℕ} 0 1 = cc in absurd (omega arith)
+    place (some k) q = let z : (y .last + suc k) % 16 ≡ m = cc in omega arith
+
+    holds-at : (a : Holder) → S.servedOn y a ≡ some m → m < 16
+    holds-at Home q = place (least (λ k. bit (y .noted) (S.placeAfter (y .last) k)) 16) q
+    holds-at (Out n) q = let z : _≡_ {A = ℕ} 0 1 = cc in absurd (omega arith)
 
 module _ (rs : List Record) (plan : Sound rs) where
   module _ (v : ℕ) (l : v < supervisorsOf rs) where
@@ -192,8 +205,6 @@ module _ (rs : List Record) (plan : Sound rs) where
       go none q = h
       go (some y) q = let k = supervisor-move rs plan v st e y q in omega (arith, k .to, states v (k .supervisor))
 
-  -- ---- supervisors
-
   module _ (v : ℕ) (y : Supervisor) (h : SupervisorHeld y) where
     abbrev Kept : SupervisorCalled → Type 0
     Kept c = SupervisorHeld (c .state)
@@ -217,19 +228,11 @@ module _ (rs : List Record) (plan : Sound rs) where
         choose Kept (ltb v (supervisorsOf rs)) _ _ (λ l. choose Kept (S.supervisorFits rs v y) _ _ (λ f. choose Kept (named rs g) _ _ (λ n. takes g n) (λ n. h)) (λ f. h)) (λ l. h)
 
     sent : (o : Option ℕ) → S.served y ≡ o → SupervisorHeld (S.stateAfter y o)
-    unfolding S.stateAfter S.nextNoted S.placeAfter S.servedOn holderByte
+    unfolding S.stateAfter holderByte
     sent none e = h
     sent (some m) e =
-        let l : m < 16 = below (y .holder) e in
+        let l : m < 16 = served-small y m e in
         record { state = h .state; noted = put-small 16 (y .noted) m false l (h .noted); holder = omega arith; last = omega arith }
-      where
-        place : (o : Option ℕ) → S.nextNoted y o ≡ some m → m < 16
-        place none q = let z : _≡_ {A = ℕ} 0 1 = cc in absurd (omega arith)
-        place (some k) q = let z : (y .last + suc k) % 16 ≡ m = cc in omega arith
-
-        below : (a : Holder) → S.servedOn y a ≡ some m → m < 16
-        below Home q = place (least (λ k. bit (y .noted) (S.placeAfter (y .last) k)) 16) q
-        below (Out n) q = let z : _≡_ {A = ℕ} 0 1 = cc in absurd (omega arith)
 
     serves : (b : List ℕ) → SupervisorHeld (S.stepBy Accepted rs v y b .state)
     unfolding S.stepBy S.stepIn

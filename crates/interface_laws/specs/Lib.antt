@@ -3,3 +3,5 @@ pub mod Exact
 pub mod Kept
 pub mod Held
 pub mod Encoded
+pub mod Run
+pub mod DemandOverBytes
