@@ -11,4 +11,5 @@ pub mod Written
 pub mod Exact
 pub mod Kept
 pub mod Encoded
+pub mod Left
 pub mod DemandOverBytes
