@@ -1,5 +1,5 @@
--- Lists of calls over bytes. "State bytes are left alone between calls and go to the next call on the same party as the last call left them"
--- (docs/EMBEDDING.md), at first those of its start. The calls are those of demand 3 (crate agreement), of which nobody has anything but bytes.
+-- Lists of calls over bytes: "State bytes are left alone between calls and go to the next call on the same party as the last call left them"
+-- (docs/EMBEDDING.md), at first those of its start. The calls are those of demand 3, `Act` of crate agreement.
 use Prim.Native.Nat.{ℕ, _/_, _%_}
 use mathlib.Core.List.{List, [], _∷_, _++_}
 use mathlib.Core.Option.{Option, none, some}
@@ -100,7 +100,8 @@ bytesRun image B [] = record { answers = []; memory = B }
 bytesRun image B (a ∷ l) =
     let s = bytesStep image B a in let r = bytesRun image (s .memory) l in record { answers = s .answers ++ r .answers; memory = r .memory }
 
--- each party's start, in memory that is 0 before
+-- Each party's start, in memory that is 0 before. What stood there does not matter to a party of the plan (`moduleStart` and `supervisorStart`
+-- of specs/Encoded.antt); the start of another is refused and leaves the zeros.
 unfoldable pub bytesStart : List ℕ → Memory
 bytesStart image =
     record {
