@@ -63,7 +63,7 @@ owns-empty (suc n) = (empty-held, owns-empty n)
 
 module _ (rs : List Record) (plan : Sound rs) (d : Device) (m : ℕ) (h : DeviceHeld d) where
   -- a call without a number is on a state that fits, of a module of the plan
-  slot-fits : deviceNumber rs d m ≡ 0 → T (ownFits rs m (ownAt d m))
+  pub slot-fits : deviceNumber rs d m ≡ 0 → T (ownFits rs m (ownAt d m))
   unfolding deviceFits ownSlotFits
   slot-fits e = go (deviceFits rs d) (ltb m (modulesOf rs)) refl refl e
     where

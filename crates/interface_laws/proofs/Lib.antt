@@ -12,4 +12,6 @@ pub mod Exact
 pub mod Kept
 pub mod Encoded
 pub mod Left
+pub mod Runs
+pub mod Compared
 pub mod DemandOverBytes

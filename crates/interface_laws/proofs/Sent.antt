@@ -55,12 +55,12 @@ use Rattle.interface_laws.proofs.Parties.{own-fits, served-small}
 
 -- ---- an answer whose parts have room in its number
 
-abbrev TurnSmall : Turn → Type 0
+abbrev pub TurnSmall : Turn → Type 0
 TurnSmall (Event e) = Byte e
 TurnSmall (Stray e) = Byte e
 TurnSmall Nothing = Unit {0}
 
-abbrev StepSmall : Stepped → Type 0
+abbrev pub StepSmall : Stepped → Type 0
 StepSmall (Turned t n) = TurnSmall t × (n < 2 ^ 32)
 StepSmall (Bids v n) = Byte v × (n < 2 ^ 32)
 StepSmall Waits = Unit {0}
@@ -172,7 +172,7 @@ abbrev Sendable : M.StepCall → Type 0
 Sendable c = StepSmall (c .answer) × AllBytes (sent (c .answer) (c .buffer))
 
 module _ (rs : List Record) (plan : Sound rs) (m : ℕ) where
-  turn-small : (k : ℕ) (own : Own) → T (ownFits rs m own) → TurnSmall (turnOf rs m k own .turn)
+  pub turn-small : (k : ℕ) (own : Own) → T (ownFits rs m own) → TurnSmall (turnOf rs m k own .turn)
   unfolding turnOf turnOn byResponse byChoice byCommand
   turn-small k own t = queue (queueOf own) refl
     where

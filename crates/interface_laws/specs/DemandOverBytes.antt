@@ -1,6 +1,6 @@
 -- Demand 3 over the calls on bytes: for every accepted image of bytes and every list of calls, the calls over bytes, each given the bytes that the
--- last call on its party left, give the answers and leave the bytes of the calls on states by value, of which demand 3 speaks; and so do those of
--- the one-device controller that demand 3 compares with them. Whatever holds of the one holds of the other.
+-- last call on its party left, get the answers of the one-device controller over bytes; and they give the answers and leave the bytes of the calls
+-- on states by value, so that every clause of demand 3 holds of the states that their bytes are.
 use Prim.Native.Nat.{ℕ}
 use mathlib.Core.Path.{_≡_}
 use mathlib.Core.List.{List}
@@ -16,18 +16,23 @@ use Rattle.packing.specs.Flow.{flowOf}
 use Rattle.device_interface.specs.Calls as DeviceCalls
 use Rattle.module_interface.specs.Calls as ModuleCalls
 use Rattle.interface_laws.specs.Run.{sensorOf, litresOf, bytesRun, bytesStart, deviceBytesRun, deviceBytesStart, encoded, decoded, runAnswers, deviceAnswers}
+use Rattle.interface_laws.specs.Compared.{bytesSeen, bytesFed, deviceBytesSeen}
 
 pub record OverBytes (image : List ℕ) (acts : List Act) : Type 0 where
-  -- the calls over bytes
+  -- "each turn taken, response and tick gets the answer that the one-device controller gives for the same turns, responses and ticks in the same
+  -- order", all of it in numbers and bytes
+  pub equal : bytesSeen image (bytesStart image) acts ≡ deviceBytesSeen image (deviceBytesStart image) (bytesFed image (bytesStart image) acts)
+  -- every answer, and the bytes at the end, are those of the calls on states by value
   pub calls : bytesRun image (bytesStart image) acts ≡ record { answers = runAnswers image (start image) acts; memory = encoded (run image (start image) acts) }
-  -- the state bytes after them are read as the states of demand 3
+  -- and they are read as the states of which demand 3 holds
   pub states : decoded (bytesRun image (bytesStart image) acts .memory) ≡ run image (start image) acts
-  -- the one device, fed as demand 3 says
-  pub device-calls : deviceBytesRun image (deviceBytesStart image) (fed image (start image) acts)
-      ≡ record { answers = deviceAnswers image (startCall image .device) (fed image (start image) acts); memory = deviceBytes (deviceRun image (startCall image .device) (fed image (start image) acts)) }
-  pub device-state : deviceOf (deviceBytesRun image (deviceBytesStart image) (fed image (start image) acts) .memory) ≡ deviceRun image (startCall image .device) (fed image (start image) acts)
-  -- and of these states demand 3 holds
   pub demand : Demand3 image acts
+  -- the same of the one device, which is fed as demand 3 says
+  pub feeds : bytesFed image (bytesStart image) acts ≡ fed image (start image) acts
+  pub device-calls : deviceBytesRun image (deviceBytesStart image) (bytesFed image (bytesStart image) acts)
+      ≡ record { answers = deviceAnswers image (startCall image .device) (fed image (start image) acts); memory = deviceBytes (deviceRun image (startCall image .device) (fed image (start image) acts)) }
+  pub device-state : deviceOf (deviceBytesRun image (deviceBytesStart image) (bytesFed image (bytesStart image) acts) .memory)
+      ≡ deviceRun image (startCall image .device) (fed image (start image) acts)
 
 pub record DemandOverBytes : Type 0 where
   pub lists : (image : List ℕ) → Bytes image → IsPlan image → (acts : List Act) → AllLent acts → OverBytes image acts

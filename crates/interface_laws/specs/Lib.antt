@@ -5,4 +5,5 @@ pub mod Held
 pub mod Encoded
 pub mod Left
 pub mod Run
+pub mod Compared
 pub mod DemandOverBytes
