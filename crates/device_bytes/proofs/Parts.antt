@@ -23,13 +23,13 @@ use Rattle.device_states.specs.declared.Device.{Device}
 use Rattle.device_states.proofs.Slots.{one-fails, same-slots}
 use Rattle.fields.specs.Fields.{bytesFrom}
 use Rattle.fields.proofs.Back.{and-left, and-right, from-all}
-use Rattle.own_bytes.specs.Own.{ownBytes, ownOf, isOwn, unfitOwn, OwnHeld}
+use Rattle.own_bytes.specs.Own.{ownBytes, ownOf, isOwn, unfitOwn, OwnEncodable}
 use Rattle.own_bytes.proofs.Parts.{own-parts}
-use Rattle.device_bytes.specs.Device.{ownsBytes, deviceBytes, slotOf, stateOf, deviceAt, isSlot, isDevice, unfitDevice, OwnsHeld, DeviceHeld, DeviceParts}
+use Rattle.device_bytes.specs.Device.{ownsBytes, deviceBytes, slotOf, stateOf, deviceAt, isSlot, isDevice, unfitDevice, OwnsEncodable, DeviceEncodable, DeviceParts}
 
 -- ---- decoding what was encoded
 
-pub owns-size : (l : List Own) → OwnsHeld l → length (ownsBytes l) ≡ length l * 35
+pub owns-size : (l : List Own) → OwnsEncodable l → length (ownsBytes l) ≡ length l * 35
 unfolding ownsBytes
 owns-size [] h = refl
 owns-size (x ∷ l) h = omega (arith, length-append (ownBytes x) (ownsBytes l), own-parts .size x (h .0 .places), owns-size l (h .1))
@@ -43,10 +43,10 @@ module _ (rest : List ℕ) where
     here : (i : ℕ) → length p ≡ i * 35 → drop (i * 35) (p ++ ((ownBytes x ++ ownsBytes l) ++ rest)) ≡ ownBytes x ++ (ownsBytes l ++ rest)
     here i e = drop-at p ((ownBytes x ++ ownsBytes l) ++ rest) (i * 35) e ∙ append-assoc (ownBytes x) (ownsBytes l) rest
 
-    further : (i : ℕ) → OwnHeld x → length p ≡ i * 35 → length (p ++ ownBytes x) ≡ suc i * 35
+    further : (i : ℕ) → OwnEncodable x → length p ≡ i * 35 → length (p ++ ownBytes x) ≡ suc i * 35
     further i h e = omega (arith, length-append p (ownBytes x), own-parts .size x (h .places))
 
-  slots-back : (l : List Own) (p : List ℕ) (i : ℕ) → length p ≡ i * 35 → OwnsHeld l → listFrom (slotOf (p ++ (ownsBytes l ++ rest))) i (length l) ≡ l
+  slots-back : (l : List Own) (p : List ℕ) (i : ℕ) → length p ≡ i * 35 → OwnsEncodable l → listFrom (slotOf (p ++ (ownsBytes l ++ rest))) i (length l) ≡ l
   unfolding listFrom ownsBytes slotOf
   slots-back [] p i e h = refl
   slots-back (x ∷ l) p i e h =
@@ -54,7 +54,7 @@ module _ (rest : List ℕ) where
       (ap ownOf (here x l p i e) ∙ own-parts .read x (ownsBytes l ++ rest) (h .0) .back)
       (ap (λ (z : List ℕ). listFrom (slotOf z) (suc i) (length l)) (again x l p) ∙ slots-back l (p ++ ownBytes x) (suc i) (further x l p i (h .0) e) (h .1))
 
-  slots-stand : (l : List Own) (p : List ℕ) (i : ℕ) → length p ≡ i * 35 → OwnsHeld l → (k : ℕ) → k < length l → isSlot (p ++ (ownsBytes l ++ rest)) (i + k) ≡ true
+  slots-stand : (l : List Own) (p : List ℕ) (i : ℕ) → length p ≡ i * 35 → OwnsEncodable l → (k : ℕ) → k < length l → isSlot (p ++ (ownsBytes l ++ rest)) (i + k) ≡ true
   unfolding ownsBytes isSlot
   slots-stand [] p i e h k b = absurd (omega arith)
   slots-stand (x ∷ l) p i e h zero b =
@@ -69,7 +69,7 @@ unfolding listFrom
 from-same f g e i zero = refl
 from-same f g e i (suc n) = ap₂ _∷_ (e i) (from-same f g e (suc i) n)
 
-module _ (d : Device) (h : DeviceHeld d) where
+module _ (d : Device) (h : DeviceEncodable d) where
   owns-length : length (ownsBytes (d .modules)) ≡ 560
   owns-length = omega (arith, owns-size (d .modules) (h .owns), h .modules)
 

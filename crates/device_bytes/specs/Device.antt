@@ -13,7 +13,7 @@ use Rattle.modules.specs.declared.Own.{Own}
 use Rattle.plan.specs.Lists.{listFrom}
 use Rattle.device_states.specs.States.{deviceFits}
 use Rattle.device_states.specs.declared.Device.{Device}
-use Rattle.own_bytes.specs.Own.{ownBytes, ownOf, isOwn, unfitOwn, OwnHeld}
+use Rattle.own_bytes.specs.Own.{ownBytes, ownOf, isOwn, unfitOwn, OwnEncodable}
 
 -- own parts one after another
 unfoldable pub ownsBytes : List Own → List ℕ
@@ -55,21 +55,21 @@ deviceOf b = cond (isDevice b) (deviceAt b) unfitDevice
 -- ---- what is proved of them
 
 -- own parts as the code's types can hold them, without a NaN
-abbrev pub OwnsHeld : List Own → Type 0
-OwnsHeld [] = Unit {0}
-OwnsHeld (own ∷ owns) = OwnHeld own × OwnsHeld owns
+abbrev pub OwnsEncodable : List Own → Type 0
+OwnsEncodable [] = Unit {0}
+OwnsEncodable (own ∷ owns) = OwnEncodable own × OwnsEncodable owns
 
-pub record DeviceHeld (d : Device) : Type 0 where
-  pub owns : OwnsHeld (d .modules)
+pub record DeviceEncodable (d : Device) : Type 0 where
+  pub owns : OwnsEncodable (d .modules)
   pub modules : length (d .modules) ≡ 16
   pub supervisors : length (d .supervisors) ≡ 32
   pub states : Bytes (d .supervisors)
 
 pub record DeviceParts : Type 0 where
   -- decoding what was encoded gives it back
-  pub stands : (d : Device) → DeviceHeld d → isDevice (deviceBytes d) ≡ true
-  pub back : (d : Device) → DeviceHeld d → deviceAt (deviceBytes d) ≡ d
+  pub stands : (d : Device) → DeviceEncodable d → isDevice (deviceBytes d) ≡ true
+  pub back : (d : Device) → DeviceEncodable d → deviceAt (deviceBytes d) ≡ d
   -- and bytes that stand for a device are those of that device
   pub written : (b : List ℕ) → Bytes b → isDevice b ≡ true → deviceBytes (deviceAt b) ≡ b
-  pub size : (d : Device) → DeviceHeld d → length (deviceBytes d) ≡ 592
+  pub size : (d : Device) → DeviceEncodable d → length (deviceBytes d) ≡ 592
   pub unfit : (rs : List Record) → deviceFits rs unfitDevice ≡ false

@@ -41,21 +41,21 @@ use Rattle.agreement.specs.System.{System, Act, moduleStep, supervisorStep, del
 use Rattle.agreement.specs.Compared.{Seen, turnSeen, refusalSeen, callSeen, stepSeen, actSeen, seen, DeviceAct, deviceTurn, deviceRespond, deviceTick, choiceFed, actFed, fed, deviceStep, turningSeen, deviceActSeen, deviceSeen}
 use Rattle.own_bytes.specs.Own.{ownBytes}
 use Rattle.own_bytes.proofs.Parts.{own-parts}
-use Rattle.party_bytes.specs.Module.{moduleBytes, ModuleHeld}
-use Rattle.device_bytes.specs.Device.{ownsBytes, deviceBytes, OwnsHeld, DeviceHeld}
+use Rattle.party_bytes.specs.Module.{moduleBytes, ModuleEncodable}
+use Rattle.device_bytes.specs.Device.{ownsBytes, deviceBytes, OwnsEncodable, DeviceEncodable}
 use Rattle.fields.specs.Fields.{quadBytes, flagByte}
 use Rattle.words.specs.Word.{wordBytes}
 use Rattle.packing.specs.Answer.{Answer, packed, calledAnswer, turnAnswer, turningAnswer, steppedAnswer}
 use Rattle.packing.proofs.Parts.{unpacked}
-use Rattle.interface_laws.specs.Encoded.{moduleAnswer}
+use Rattle.interface_laws.specs.SameCalls.{moduleAnswer}
 use Rattle.interface_laws.specs.Run.{Given, Memory, sensorOf, litresOf, deviceBytesStep, encoded, deviceActAnswer}
 use Rattle.interface_laws.specs.Compared.{Outcome, outcome, moduleOutcome, deviceOutcome, tookTurn, actBytesSeen, bytesSeen, actBytesFed, bytesFed, ownerIn, deviceBytesSeen}
 use Rattle.interface_laws.proofs.OwnParts.{choose}
 use Rattle.interface_laws.proofs.Devices.{slot-fits}
-use Rattle.interface_laws.proofs.Held.{all-held}
-use Rattle.interface_laws.proofs.Encoded.{all-encoded}
+use Rattle.interface_laws.proofs.Encodable.{all-encodable}
+use Rattle.interface_laws.proofs.SameCalls.{same-calls}
 use Rattle.interface_laws.proofs.Sent.{TurnSmall, StepSmall, turn-small, module-sent}
-use Rattle.interface_laws.proofs.Runs.{SystemHeld, flow-back, step-same, step-held, device-same, device-left, device-held}
+use Rattle.interface_laws.proofs.Runs.{SystemEncodable, flow-back, step-same, step-encodable, device-same, device-left, device-encodable}
 
 -- ---- what demand 3 sees, as numbers and bytes
 
@@ -130,7 +130,7 @@ module _ (m : ℕ) (s b own : List ℕ) where
 
 -- ---- modules
 
-own-first : (x : Module) → ModuleHeld x → take 35 (moduleBytes x) ≡ ownBytes (x .own)
+own-first : (x : Module) → ModuleEncodable x → take 35 (moduleBytes x) ≡ ownBytes (x .own)
 unfolding moduleBytes
 own-first x h =
     let o : List ℕ = ownBytes (x .own) in
@@ -167,37 +167,37 @@ turn-fed rs m x b h = go (ltb m (modulesOf rs)) (M.moduleFits rs m x) (short (M.
     go true true false M.waits e k = refl
 
 module _ (image : List ℕ) (accepted : IsPlan image) where
-  module _ (D : System) (h : SystemHeld D) where
+  module _ (D : System) (h : SystemEncodable D) where
     act-seen : (a : Act) → Lent a → actBytesSeen image (encoded D) a ≡ map outcomeOf (actSeen image D a)
     unfolding actBytesSeen actSeen
     act-seen (moduleStep m b) l =
         let c : M.StepCall = M.moduleStep image m (D .moduleAt m) b in
-        ap (λ (a : Answer). cond (tookTurn a) (moduleOutcome m a ∷ []) []) (all-encoded .moduleStep image m (D .moduleAt m) b (h .modules m))
+        ap (λ (a : Answer). cond (tookTurn a) (moduleOutcome m a ∷ []) []) (same-calls .moduleStep image m (D .moduleAt m) b (h .modules m))
         ∙ step-outcomes m (moduleBytes (c .state)) (c .buffer) (take 35 (moduleBytes (c .state))) (c .answer) (c .state .own) (module-sent image accepted m (D .moduleAt m) b l .0)
-        (own-first (c .state) (all-held .moduleStep image m (D .moduleAt m) b (h .modules m)))
+        (own-first (c .state) (all-encodable .moduleStep image m (D .moduleAt m) b (h .modules m)))
     act-seen (supervisorStep v b) l = refl
     act-seen (deliver k) l = refl
     act-seen (respond m e) l =
         let x : Module = D .moduleAt m in
         let z : Module = M.moduleRespond image m x e .state in
         compared (ltb m (modulesOf (recordsOf image))) _ _
-        (ap (moduleOutcome m) (all-encoded .moduleRespond image m x e (h .modules m))
+        (ap (moduleOutcome m) (same-calls .moduleRespond image m x e (h .modules m))
         ∙ call-outcome m (moduleBytes z) [] (take 35 (moduleBytes z)) (M.moduleRespond image m x e .answer) (refusals .modules .respond image m x e .answer)
-        ∙ ap (callOutcome m (M.moduleRespond image m x e .answer)) (own-first z (all-held .moduleRespond image m x e (h .modules m))))
+        ∙ ap (callOutcome m (M.moduleRespond image m x e .answer)) (own-first z (all-encodable .moduleRespond image m x e (h .modules m))))
     act-seen (tick m f) l =
         let x : Module = D .moduleAt m in
         let z : Module = M.moduleTick image m x f .state in
         compared (ltb m (modulesOf (recordsOf image))) _ _
-        (ap (moduleOutcome m) (all-encoded .moduleTick image m x (sensorOf f) (litresOf f) (h .modules m) ∙ ap (λ (r : Flow). moduleAnswer (M.moduleTick image m x r)) (flow-back f))
+        (ap (moduleOutcome m) (same-calls .moduleTick image m x (sensorOf f) (litresOf f) (h .modules m) ∙ ap (λ (r : Flow). moduleAnswer (M.moduleTick image m x r)) (flow-back f))
         ∙ call-outcome m (moduleBytes z) [] (take 35 (moduleBytes z)) (M.moduleTick image m x f .answer) (refusals .modules .tick image m x f .answer)
-        ∙ ap (callOutcome m (M.moduleTick image m x f .answer)) (own-first z (all-held .moduleTick image m x f (h .modules m))))
+        ∙ ap (callOutcome m (M.moduleTick image m x f .answer)) (own-first z (all-encodable .moduleTick image m x f (h .modules m))))
 
     act-fed : NeverRefused image D → (a : Act) → Lent a → actBytesFed image (encoded D) a ≡ actFed (recordsOf image) D a
     unfolding actBytesFed actFed
     act-fed k (moduleStep m b) l =
         let x : Module = D .moduleAt m in
         let c : M.StepCall = M.moduleStep image m x b in
-        ap (λ (a : Answer). cond (tookTurn a) (deviceTurn m ∷ []) []) (all-encoded .moduleStep image m x b (h .modules m))
+        ap (λ (a : Answer). cond (tookTurn a) (deviceTurn m ∷ []) []) (same-calls .moduleStep image m x b (h .modules m))
         ∙ ap (λ (t : Bool). cond t (deviceTurn m ∷ []) []) (step-taken m (moduleBytes (c .state)) (c .buffer) [] (c .answer) (module-sent image accepted m x b l .0))
         ∙ subst (λ (v : Verdict). ((n o : ℕ) → m < modulesOf (recordsOf image) → M.stepBy v (recordsOf image) m x b .answer ≢ Refused n o)
         → cond (tookIn (M.stepBy v (recordsOf image) m x b .answer)) (deviceTurn m ∷ []) [] ≡ cond (ltb m (modulesOf (recordsOf image))) (choiceFed m (M.choice (recordsOf image) m x)) [])
@@ -207,26 +207,26 @@ module _ (image : List ℕ) (accepted : IsPlan image) where
     act-fed k (respond m e) l = refl
     act-fed k (tick m f) l = refl
 
-  pub seen-same : (acts : List Act) → AllLent acts → (D : System) → SystemHeld D → bytesSeen image (encoded D) acts ≡ map outcomeOf (seen image D acts)
+  pub seen-same : (acts : List Act) → AllLent acts → (D : System) → SystemEncodable D → bytesSeen image (encoded D) acts ≡ map outcomeOf (seen image D acts)
   unfolding bytesSeen seen
   seen-same [] l D h = refl
   seen-same (a ∷ acts) l D h =
       ap₂ (λ (x y : List Outcome). x ++ y) (act-seen D h a (l .0))
-      (ap (λ (g : Given Memory). bytesSeen image (g .memory) acts) (step-same image D h accepted a (l .0)) ∙ seen-same acts (l .1) (step image D a) (step-held image D h accepted a (l .0)))
+      (ap (λ (g : Given Memory). bytesSeen image (g .memory) acts) (step-same image D h accepted a (l .0)) ∙ seen-same acts (l .1) (step image D a) (step-encodable image D h accepted a (l .0)))
       ∙ sym (map-append outcomeOf (actSeen image D a) (seen image (step image D a) acts))
 
-  pub fed-same : (acts : List Act) → AllLent acts → (D : System) → SystemHeld D → ((l : List Act) → AllLent l → NeverRefused image (run image D l))
+  pub fed-same : (acts : List Act) → AllLent acts → (D : System) → SystemEncodable D → ((l : List Act) → AllLent l → NeverRefused image (run image D l))
       → bytesFed image (encoded D) acts ≡ fed image D acts
   unfolding bytesFed fed run
   fed-same [] l D h k = refl
   fed-same (a ∷ acts) l D h k =
       ap₂ (λ (x y : List DeviceAct). x ++ y) (act-fed D h (k [] tt) a (l .0))
       (ap (λ (g : Given Memory). bytesFed image (g .memory) acts) (step-same image D h accepted a (l .0))
-      ∙ fed-same acts (l .1) (step image D a) (step-held image D h accepted a (l .0)) (λ r q. k (a ∷ r) (l .0, q)))
+      ∙ fed-same acts (l .1) (step image D a) (step-encodable image D h accepted a (l .0)) (λ r q. k (a ∷ r) (l .0, q)))
 
 -- ---- one device
 
-owns-slot : (l : List Own) (rest : List ℕ) (m : ℕ) → OwnsHeld l → m < length l → take 35 (drop (m * 35) (ownsBytes l ++ rest)) ≡ ownBytes (getD l m emptyOwn)
+owns-slot : (l : List Own) (rest : List ℕ) (m : ℕ) → OwnsEncodable l → m < length l → take 35 (drop (m * 35) (ownsBytes l ++ rest)) ≡ ownBytes (getD l m emptyOwn)
 unfolding ownsBytes
 owns-slot [] rest m h b = absurd (omega arith)
 owns-slot (x ∷ l) rest zero h b =
@@ -237,7 +237,7 @@ owns-slot (x ∷ l) rest (suc m) h b =
     ∙ ap (take 35) (sym (drop-drop (m * 35) 35 (ownBytes x ++ (ownsBytes l ++ rest))) ∙ ap (drop (m * 35)) (drop-at (ownBytes x) (ownsBytes l ++ rest) 35 (own-parts .size x (h .0 .places))))
     ∙ owns-slot l rest m (h .1) (omega arith)
 
-slot : (d : Device) (m : ℕ) → DeviceHeld d → m < 16 → take 35 (drop (m * 35) (deviceBytes d)) ≡ ownBytes (ownAt d m)
+slot : (d : Device) (m : ℕ) → DeviceEncodable d → m < 16 → take 35 (drop (m * 35) (deviceBytes d)) ≡ ownBytes (ownAt d m)
 unfolding deviceBytes
 slot d m h b = owns-slot (d .modules) (d .supervisors) m (h .owns) (omega (arith, h .modules))
 
@@ -267,7 +267,7 @@ module _ (image : List ℕ) (accepted : IsPlan image) where
   abbrev plan : Sound rs
   plan = every-plan image accepted .sound
 
-  turning-small : (d : Device) (m : ℕ) → DeviceHeld d → TurningSmall (turnCall image d m .answer)
+  turning-small : (d : Device) (m : ℕ) → DeviceEncodable d → TurningSmall (turnCall image d m .answer)
   unfolding turnBy turnIn turned
   turning-small d m h = subst (λ (v : Verdict). TurningSmall (turnBy v rs d m .answer)) (sym accepted) (go (deviceNumber rs d m) refl)
     where
@@ -280,31 +280,31 @@ module _ (image : List ℕ) (accepted : IsPlan image) where
       go zero e = turn-small rs plan m (shownBy rs (stateAt d) (supervisorsOf rs)) (ownAt d m) (slot-fits rs plan d m h e)
       go (suc n) e = in-table n (deviceFits rs d) (ltb m (modulesOf rs)) e
 
-  device-act : (d : Device) → DeviceHeld d → (a : DeviceAct) → ownerIn a < 16 → deviceOutcome (ownerIn a) (deviceBytesStep image (deviceBytes d) a) ≡ outcomeOf (deviceActSeen image d a)
+  device-act : (d : Device) → DeviceEncodable d → (a : DeviceAct) → ownerIn a < 16 → deviceOutcome (ownerIn a) (deviceBytesStep image (deviceBytes d) a) ≡ outcomeOf (deviceActSeen image d a)
   unfolding ownerIn deviceActSeen deviceActAnswer deviceStep
   device-act d h (deviceTurn m) l =
       let e : Device = turnCall image d m .device in
       ap (deviceOutcome m) (device-same image accepted d h (deviceTurn m))
-      ∙ ap (outcome m (deviceActAnswer image d (deviceTurn m))) (slot e m (device-held image accepted d h (deviceTurn m)) l)
+      ∙ ap (outcome m (deviceActAnswer image d (deviceTurn m))) (slot e m (device-encodable image accepted d h (deviceTurn m)) l)
       ∙ turning-outcome m (deviceBytes e) [] (turnCall image d m .answer) (ownAt e m) (turning-small d m h)
   device-act d h (deviceRespond m r) l =
       let e : Device = respondCall image d m r .device in
       ap (deviceOutcome m) (device-same image accepted d h (deviceRespond m r))
-      ∙ ap (outcome m (deviceActAnswer image d (deviceRespond m r))) (slot e m (device-held image accepted d h (deviceRespond m r)) l)
+      ∙ ap (outcome m (deviceActAnswer image d (deviceRespond m r))) (slot e m (device-encodable image accepted d h (deviceRespond m r)) l)
       ∙ call-outcome m (deviceBytes e) [] (ownBytes (ownAt e m)) (respondCall image d m r .answer) (refusals .device .respond image d m r .answer)
   device-act d h (deviceTick m f) l =
       let e : Device = tickCall image d m f .device in
       ap (deviceOutcome m) (device-same image accepted d h (deviceTick m f))
-      ∙ ap (outcome m (deviceActAnswer image d (deviceTick m f))) (slot e m (device-held image accepted d h (deviceTick m f)) l)
+      ∙ ap (outcome m (deviceActAnswer image d (deviceTick m f))) (slot e m (device-encodable image accepted d h (deviceTick m f)) l)
       ∙ call-outcome m (deviceBytes e) [] (ownBytes (ownAt e m)) (tickCall image d m f .answer) (refusals .device .tick image d m f .answer)
 
-  pub device-seen : (l : List DeviceAct) → AllBelow l → (d : Device) → DeviceHeld d → deviceBytesSeen image (deviceBytes d) l ≡ map outcomeOf (deviceSeen image d l)
+  pub device-seen : (l : List DeviceAct) → AllBelow l → (d : Device) → DeviceEncodable d → deviceBytesSeen image (deviceBytes d) l ≡ map outcomeOf (deviceSeen image d l)
   unfolding deviceBytesSeen deviceSeen
   device-seen [] b d h = refl
   device-seen (a ∷ l) b d h =
       ap₂ (λ (x : Outcome) (y : List Outcome). x ∷ y) (device-act d h a (b .0))
       (ap (λ (c : Answer). deviceBytesSeen image (c .state) l) (device-same image accepted d h a) ∙ ap (λ (s : List ℕ). deviceBytesSeen image s l) (device-left image accepted d a)
-      ∙ device-seen l (b .1) (deviceStep image d a) (device-held image accepted d h a))
+      ∙ device-seen l (b .1) (deviceStep image d a) (device-encodable image accepted d h a))
 
   fed-act : (D : System) (a : Act) → AllBelow (actFed rs D a)
   unfolding actFed choiceFed ownerIn

@@ -12,7 +12,7 @@ use Rattle.agreement.specs.System.{System, Act, AllLent, run, start}
 use Rattle.agreement.specs.Compared.{DeviceAct, fed, deviceRun}
 use Rattle.agreement.proofs.Demand.{demand}
 use Rattle.party_bytes.specs.Module.{moduleOf}
-use Rattle.device_bytes.specs.Device.{deviceOf, DeviceHeld}
+use Rattle.device_bytes.specs.Device.{deviceOf, DeviceEncodable}
 use Rattle.packing.specs.Flow.{flowOf}
 use Rattle.device_interface.specs.Calls as DeviceCalls
 use Rattle.module_interface.specs.Calls as ModuleCalls
@@ -20,8 +20,8 @@ use Rattle.interface_laws.specs.Run.{Memory, Given, bytesRun, deviceByte
 use Rattle.interface_laws.specs.Compared.{bytesSeen, bytesFed, deviceBytesSeen}
 use Rattle.interface_laws.specs.DemandOverBytes.{OverBytes, DemandOverBytes}
 use Rattle.interface_laws.proofs.Exact.{exact}
-use Rattle.interface_laws.proofs.Held.{all-held}
-use Rattle.interface_laws.proofs.Runs.{SystemHeld, flow-back, run-same, run-held, start-same, start-held, device-run, device-run-held, device-start, decoded-encoded}
+use Rattle.interface_laws.proofs.Encodable.{all-encodable}
+use Rattle.interface_laws.proofs.Runs.{SystemEncodable, flow-back, run-same, run-encodable, start-same, start-encodable, device-run, device-run-encodable, device-start, decoded-encoded}
 use Rattle.interface_laws.proofs.Compared.{outcomeOf, seen-same, fed-same, device-seen, fed-below}
 
 over-bytes : (image : List ℕ) → Bytes image → IsPlan image → (acts : List Act) → AllLent acts → OverBytes image acts
@@ -29,8 +29,8 @@ over-bytes image bytes accepted acts lent =
     let D : System = start image in
     let d : Device = startCall image .device in
     let device : List DeviceAct = fed image D acts in
-    let h : SystemHeld D = start-held image accepted in
-    let k : DeviceHeld d = all-held .deviceStart image in
+    let h : SystemEncodable D = start-encodable image accepted in
+    let k : DeviceEncodable d = all-encodable .deviceStart image in
     let calls = ap (λ (B : Memory). bytesRun image B acts) (start-same image accepted) ∙ run-same image accepted acts lent D h in
     let same = ap (λ (B : Memory). bytesFed image B acts) (start-same image accepted) ∙ fed-same image accepted acts lent D h (λ l q. demand image bytes accepted l q .module-steps) in
     let device-calls = ap₂ (λ (s : List ℕ) (l : List DeviceAct). deviceBytesRun image s l) (device-start image accepted) same ∙ device-run image accepted device d k in
@@ -38,11 +38,11 @@ over-bytes image bytes accepted acts lent =
       equal = ap (λ (B : Memory). bytesSeen image B acts) (start-same image accepted) ∙ seen-same image accepted acts lent D h ∙ ap (map outcomeOf) (demand image bytes accepted acts lent .equal)
           ∙ sym (ap₂ (λ (s : List ℕ) (l : List DeviceAct). deviceBytesSeen image s l) (device-start image accepted) same ∙ device-seen image accepted device (fed-below image accepted acts D) d k);
       calls = calls;
-      states = ap (λ (r : Given Memory). decoded (r .memory)) calls ∙ decoded-encoded (run image D acts) (run-held image accepted acts lent D h);
+      states = ap (λ (r : Given Memory). decoded (r .memory)) calls ∙ decoded-encoded (run image D acts) (run-encodable image accepted acts lent D h);
       demand = demand image bytes accepted acts lent;
       feeds = same;
       device-calls = device-calls;
-      device-state = ap (λ (r : Given (List ℕ)). deviceOf (r .memory)) device-calls ∙ exact .device-again (deviceRun image d device) (device-run-held image accepted device d k);
+      device-state = ap (λ (r : Given (List ℕ)). deviceOf (r .memory)) device-calls ∙ exact .device-again (deviceRun image d device) (device-run-encodable image accepted device d k);
     }
 
 pub demand-over-bytes : DemandOverBytes

@@ -17,11 +17,11 @@ use Rattle.roundtrip.proofs.Shape.{word-small}
 use Rattle.plan.specs.Lists.{listFrom}
 use Rattle.fields.specs.Fields.{bytesFrom, halfAt, quadAt, flagOf, isFlag, isFloat, floatAt, Number}
 use Rattle.fields.proofs.Back.{and-left, and-right}
-use Rattle.own_bytes.specs.Own.{procedureOf, ownOf, isOwn, OwnHeld}
-use Rattle.party_bytes.specs.Module.{moduleAt, moduleBytes, moduleOf, isModule, unfitModule, ModuleHeld}
-use Rattle.party_bytes.specs.Supervisor.{holderByte, holderOf, supervisorAt, supervisorBytes, supervisorOf, unfitSupervisor, SupervisorHeld}
+use Rattle.own_bytes.specs.Own.{procedureOf, ownOf, isOwn, OwnEncodable}
+use Rattle.party_bytes.specs.Module.{moduleAt, moduleBytes, moduleOf, isModule, unfitModule, ModuleEncodable}
+use Rattle.party_bytes.specs.Supervisor.{holderByte, holderOf, supervisorAt, supervisorBytes, supervisorOf, unfitSupervisor, SupervisorEncodable}
 use Rattle.party_bytes.proofs.Parts.{module-parts, supervisor-parts}
-use Rattle.device_bytes.specs.Device.{slotOf, stateOf, deviceAt, deviceBytes, deviceOf, isSlot, isDevice, unfitDevice, OwnsHeld, DeviceHeld}
+use Rattle.device_bytes.specs.Device.{slotOf, stateOf, deviceAt, deviceBytes, deviceOf, isSlot, isDevice, unfitDevice, OwnsEncodable, DeviceEncodable}
 use Rattle.device_bytes.proofs.Parts.{device-parts}
 use Rattle.interface_laws.specs.Exact.{Exact}
 use Rattle.interface_laws.proofs.ByteLists.{bytes-none, bytes-more, bytes-listed}
@@ -48,9 +48,9 @@ module _ (b : List ℕ) (g : Bytes b) where
   places-bytes zero o = bytes-none
   places-bytes (suc n) o = bytes-more (getD b o 0) (bytesFrom b (suc o) n) (g o) (places-bytes n (suc o))
 
-  own-held : isOwn b ≡ true → OwnHeld (ownOf b)
+  own-encodable : isOwn b ≡ true → OwnEncodable (ownOf b)
   unfolding isOwn ownOf procedureOf bytesFrom
-  own-held h =
+  own-encodable h =
       let F : Bool = isFlag (getD b 10 0) in
       let A : Bool = isFloat b 15 in
       let B : Bool = isFloat b 23 in
@@ -67,48 +67,48 @@ module _ (b : List ℕ) (g : Bytes b) where
         outputs = quad-small 31;
       }
 
-  module-is : isModule b ≡ true → ModuleHeld (moduleAt b)
+  module-is : isModule b ≡ true → ModuleEncodable (moduleAt b)
   unfolding isModule moduleAt
   module-is h =
       let L : Bool = eqb (length b) 48 in
       let O : Bool = isOwn b in
       let F : Bool = isFlag (getD b 47 0) in
-      record { own = own-held (and-right L O (and-left (L && O) F h)); held = quad-small 35; received = word-small b 39 g }
+      record { own = own-encodable (and-right L O (and-left (L && O) F h)); held = quad-small 35; received = word-small b 39 g }
 
   holder-small : (out : Bool) → Byte (holderByte (holderOf out (getD b 4 0)))
   unfolding holderByte holderOf
   holder-small true = g 4
   holder-small false = lit< tt
 
-  supervisor-is : SupervisorHeld (supervisorAt b)
+  supervisor-is : SupervisorEncodable (supervisorAt b)
   unfolding supervisorAt
   supervisor-is = record { state = g 0; noted = half-small 1; holder = holder-small (flagOf (getD b 3 0)); last = g 5 }
 
 module _ (b : List ℕ) (g : Bytes b) (all : (k : ℕ) → k < 16 → isSlot b k ≡ true) where
-  slot-held : (i : ℕ) → i < 16 → OwnHeld (slotOf b i)
+  slot-encodable : (i : ℕ) → i < 16 → OwnEncodable (slotOf b i)
   unfolding slotOf isSlot
-  slot-held i h = own-held (drop (i * 35) b) (λ j. subst Byte (sym (getD-drop (i * 35) b j 0)) (g (i * 35 + j))) (all i h)
+  slot-encodable i h = own-encodable (drop (i * 35) b) (λ j. subst Byte (sym (getD-drop (i * 35) b j 0)) (g (i * 35 + j))) (all i h)
 
-  slots-held : (n i : ℕ) → i + n ≤ 16 → OwnsHeld (listFrom (slotOf b) i n)
+  slots-encodable : (n i : ℕ) → i + n ≤ 16 → OwnsEncodable (listFrom (slotOf b) i n)
   unfolding listFrom
-  slots-held zero i h = tt
-  slots-held (suc n) i h = (slot-held i (omega arith), slots-held n (suc i) (omega arith))
+  slots-encodable zero i h = tt
+  slots-encodable (suc n) i h = (slot-encodable i (omega arith), slots-encodable n (suc i) (omega arith))
 
-device-is : (b : List ℕ) → Bytes b → isDevice b ≡ true → DeviceHeld (deviceAt b)
+device-is : (b : List ℕ) → Bytes b → isDevice b ≡ true → DeviceEncodable (deviceAt b)
 unfolding isDevice listFrom
 device-is b g h =
     let L : Bool = eqb (length b) 592 in
     let A : Bool = allBelow (isSlot b) 16 in
     let all : (k : ℕ) → k < 16 → isSlot b k ≡ true = λ k m. is-true (isSlot b k) (all-at (isSlot b) 16 (subst T (sym (and-right L A h)) tt) k m) in
-    record { owns = slots-held b g all 16 0 (omega arith); modules = refl; supervisors = refl; states = bytes-listed (stateOf b) (λ v. unfold stateOf in g (560 + v)) 0 32 }
+    record { owns = slots-encodable b g all 16 0 (omega arith); modules = refl; supervisors = refl; states = bytes-listed (stateOf b) (λ v. unfold stateOf in g (560 + v)) 0 32 }
 
 pub exact : Exact
 exact =
     record {
-      own = λ b g h. own-held b g h;
-      module-held = λ b g h. module-is b g h;
-      supervisor-held = λ b g h. supervisor-is b g;
-      device-held = device-is;
+      own = λ b g h. own-encodable b g h;
+      module-encodable = λ b g h. module-is b g h;
+      supervisor-encodable = λ b g h. supervisor-is b g;
+      device-encodable = device-is;
       module-again = λ x h. unfold moduleOf in
           ap (λ (t : Bool). cond t (moduleAt (moduleBytes x)) unfitModule) (module-parts .stands x h) ∙ module-parts .back x h;
       supervisor-again = λ y h. unfold supervisorOf in

@@ -5,12 +5,12 @@ pub mod ByteLists
 pub mod OwnParts
 pub mod Parties
 pub mod Devices
-pub mod Held
+pub mod Encodable
 pub mod Sent
 pub mod Written
 pub mod Exact
 pub mod Kept
-pub mod Encoded
+pub mod SameCalls
 pub mod Left
 pub mod Runs
 pub mod Compared

@@ -1,4 +1,4 @@
--- An own part that fits the plan can be held in its bytes, if its queue has eight places, its water is of f64 numbers and its outputs are 32; and
+-- An own part that fits the plan can be encoded, if its queue has eight places, its water is of f64 numbers and its outputs have 32 bits; and
 -- a turn, a response and a tick keep these.
 use mathlib.Core.Path.{_≡_, refl, sym, subst}
 use mathlib.Core.List.{List, [], _∷_}
@@ -46,7 +46,7 @@ use Rattle.turn_laws.proofs.Turn.{turn-places, turn-fits}
 use Rattle.turn_laws.proofs.Respond.{respond-places, respond-fits}
 use Rattle.turn_laws.proofs.Tick.{tick-places, tick-fits}
 use Rattle.fields.specs.Fields.{Number}
-use Rattle.own_bytes.specs.Own.{OwnHeld}
+use Rattle.own_bytes.specs.Own.{OwnEncodable}
 use Rattle.interface_laws.proofs.ByteLists.{bytes-none, bytes-more, bytes-joined, bytes-zeros}
 
 -- what holds of both sides of a choice holds of the choice
@@ -209,8 +209,8 @@ module _ (rs : List Record) (plan : Sound rs) (m : ℕ) where
         go true r = pours (eqb (operationAt rs p) 4) (step-parts rs m p r t .water)
         go false r = let z : T (idleFits p) = is-idle r in (search both, search both)
 
-  pub held : (own : Own) → length (own .queue) ≡ 8 → Rest own → T (ownFits rs m own) → OwnHeld own
-  held own n r t =
+  pub encodable : (own : Own) → length (own .queue) ≡ 8 → Rest own → T (ownFits rs m own) → OwnEncodable own
+  encodable own n r t =
       let a = parts rs m own t in
       let s = small (own .procedure) (a .procedure) in
       let w = whole-eighths (own .procedure) (a .procedure) in
@@ -227,27 +227,27 @@ module _ (rs : List Record) (plan : Sound rs) (m : ℕ) where
         outputs = r .outputs;
       }
 
-  module _ (own : Own) (h : OwnHeld own) (t : T (ownFits rs m own)) where
+  module _ (own : Own) (h : OwnEncodable own) (t : T (ownFits rs m own)) where
     rest : Rest own
     rest = record { outputs = h .outputs; water = record { target = h .target .fit; total = h .total .fit } }
 
     few : own .length ≤ 8
     few = sizes rs plan m own t .responses
 
-    pub turn-held : (k : ℕ) → OwnHeld (turnOf rs m k own .own)
-    turn-held k = held (turnOf rs m k own .own) (turn-places rs m own k (h .places)) (turn-rest rs m k own rest) (turn-fits rs m own plan k t)
+    pub turn-encodable : (k : ℕ) → OwnEncodable (turnOf rs m k own .own)
+    turn-encodable k = encodable (turnOf rs m k own .own) (turn-places rs m own k (h .places)) (turn-rest rs m k own rest) (turn-fits rs m own plan k t)
 
-    pub respond-held : (e : ℕ) → OwnHeld (respondOf rs m e own .own)
-    respond-held e = held (respondOf rs m e own .own) (respond-places rs m e own few (h .places)) (respond-rest rs m e own rest) (respond-fits rs m e own t)
+    pub respond-encodable : (e : ℕ) → OwnEncodable (respondOf rs m e own .own)
+    respond-encodable e = encodable (respondOf rs m e own .own) (respond-places rs m e own few (h .places)) (respond-rest rs m e own rest) (respond-fits rs m e own t)
 
-    pub tick-held : (f : Flow) → OwnHeld (tickOf rs f own .own)
-    tick-held f = held (tickOf rs f own .own) (tick-places rs own f few (h .places)) (tick-rest rs f own rest) (tick-fits rs own plan m t f)
+    pub tick-encodable : (f : Flow) → OwnEncodable (tickOf rs f own .own)
+    tick-encodable f = encodable (tickOf rs f own .own) (tick-places rs own f few (h .places)) (tick-rest rs f own rest) (tick-fits rs own plan m t f)
 
-  pub start-held : m < modulesOf rs → OwnHeld (startOwn rs m)
-  start-held l = held (startOwn rs m) (unfold startOwn in refl) (unfold startOwn in record { outputs = pow-pos 32; water = none-f64 }) (start-fits rs plan m l)
+  pub start-encodable : m < modulesOf rs → OwnEncodable (startOwn rs m)
+  start-encodable l = encodable (startOwn rs m) (unfold startOwn in refl) (unfold startOwn in record { outputs = pow-pos 32; water = none-f64 }) (start-fits rs plan m l)
 
-pub empty-held : OwnHeld emptyOwn
-empty-held =
+pub empty-encodable : OwnEncodable emptyOwn
+empty-encodable =
     record {
       state = lit< tt;
       queued = lit< tt;

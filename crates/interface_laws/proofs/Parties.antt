@@ -1,4 +1,4 @@
--- The states that a module's and a supervisor's calls leave can be held in their bytes.
+-- The states that a module's and a supervisor's calls leave can be encoded.
 use mathlib.Core.Path.{_≡_, refl, ap, subst}
 use mathlib.Core.List.{List}
 use mathlib.Core.Option.{Option, none, some}
@@ -47,10 +47,10 @@ use Rattle.permits.specs.declared.Holder.the-variants.{Home, Out}
 use Rattle.permits.specs.declared.ModuleCalled.{ModuleCalled}
 use Rattle.permits.specs.declared.SupervisorCalled.{SupervisorCalled}
 use Rattle.turn_laws.proofs.Found.{supervisor-move}
-use Rattle.own_bytes.specs.Own.{OwnHeld}
-use Rattle.party_bytes.specs.Module.{ModuleHeld}
-use Rattle.party_bytes.specs.Supervisor.{holderByte, SupervisorHeld}
-use Rattle.interface_laws.proofs.OwnParts.{choose, turn-held, respond-held, tick-held, start-held, empty-held}
+use Rattle.own_bytes.specs.Own.{OwnEncodable}
+use Rattle.party_bytes.specs.Module.{ModuleEncodable}
+use Rattle.party_bytes.specs.Supervisor.{holderByte, SupervisorEncodable}
+use Rattle.interface_laws.proofs.OwnParts.{choose, turn-encodable, respond-encodable, tick-encodable, start-encodable, empty-encodable}
 
 -- a call on an image that is refused leaves the state, and one on an accepted image has what the plan promises
 pub judged : (image : List ℕ) (P : Verdict → Type 0) → (Sound (recordsOf image) → P Accepted) → ((n o : ℕ) → P (CheckRefused n o)) → P (verdictOf image)
@@ -86,9 +86,9 @@ pub own-fits : (rs : List Record) (m : ℕ) (x : Module) → M.moduleFits rs m x
 unfolding M.fitsIn
 own-fits rs m x f = let t : T (M.moduleFits rs m x) = holds _ f in search both
 
-module _ (rs : List Record) (m : ℕ) (x : Module) (h : ModuleHeld x) where
+module _ (rs : List Record) (m : ℕ) (x : Module) (h : ModuleEncodable x) where
   abbrev Keeps : ModuleCalled → Type 0
-  Keeps c = ModuleHeld (c .state)
+  Keeps c = ModuleEncodable (c .state)
 
   bid-small : (v : ℕ) → M.bidWith rs m x v ≡ true → v < 32
   unfolding M.bidWith M.missingIn M.isFor
@@ -116,55 +116,55 @@ module _ (rs : List Record) (m : ℕ) (x : Module) (h : ModuleHeld x) where
   delivered (Whole g) s =
       choose Keeps (ltb m (modulesOf rs)) _ _ (λ l. choose Keeps (M.moduleFits rs m x) _ _ (λ f. choose Keeps (named rs g) _ _ (λ n. taken g s) (λ n. h)) (λ f. h)) (λ l. h)
 
-  replied : (r : Replied) → (T (ownFits rs m (x .own)) → OwnHeld (r .own)) → Keeps (M.replyBy Accepted rs m x r)
+  replied : (r : Replied) → (T (ownFits rs m (x .own)) → OwnEncodable (r .own)) → Keeps (M.replyBy Accepted rs m x r)
   unfolding M.replyBy
   replied r k =
       choose Keeps (ltb m (modulesOf rs)) _ _ (λ l. choose Keeps (M.moduleFits rs m x) _ _
       (λ f. record { own = k (own-fits rs m x f); held = h .held; received = h .received }) (λ f. h)) (λ l. h)
 
-  stepped : Sound rs → (b : List ℕ) → ModuleHeld (M.stepBy Accepted rs m x b .state)
+  stepped : Sound rs → (b : List ℕ) → ModuleEncodable (M.stepBy Accepted rs m x b .state)
   unfolding M.stepBy M.stepIn M.stateBy
   stepped plan b =
       choose Keep (ltb m (modulesOf rs)) _ _ (λ l. choose Keep (M.moduleFits rs m x) _ _
       (λ f. choose Keep (short (M.stepBytes rs m x (M.choice rs m x)) b) _ _ (λ s. h) (λ s. by f (M.choice rs m x))) (λ f. h)) (λ l. h)
     where
       Keep : M.StepCall → Type 0
-      Keep c = ModuleHeld (c .state)
+      Keep c = ModuleEncodable (c .state)
 
-      by : M.moduleFits rs m x ≡ true → (c : M.Choice) → ModuleHeld (M.stateBy rs m x c)
-      by f M.takesTurn = record { own = turn-held rs plan m (x .own) (h .own) (own-fits rs m x f) (x .received); held = pow-pos 32; received = pow-pos 64 }
+      by : M.moduleFits rs m x ≡ true → (c : M.Choice) → ModuleEncodable (M.stateBy rs m x c)
+      by f M.takesTurn = record { own = turn-encodable rs plan m (x .own) (h .own) (own-fits rs m x f) (x .received); held = pow-pos 32; received = pow-pos 64 }
       by f (M.bidsTo v) = record { own = h .own; held = h .held; received = h .received }
       by f M.waits = h
 
-pub module-started : (image : List ℕ) (m : ℕ) → ModuleHeld (M.moduleStart image m .state)
+pub module-started : (image : List ℕ) (m : ℕ) → ModuleEncodable (M.moduleStart image m .state)
 unfolding M.startBy
 module-started image m =
-    judged image (λ v. ModuleHeld (M.startBy v (recordsOf image) m .state))
-    (λ plan. choose (λ (c : ModuleCalled). ModuleHeld (c .state)) (ltb m (modulesOf (recordsOf image))) _ _
-    (λ l. record { own = start-held (recordsOf image) plan m (ltb-true m (modulesOf (recordsOf image)) l); held = pow-pos 32; received = pow-pos 64 }) (λ l. empty))
+    judged image (λ v. ModuleEncodable (M.startBy v (recordsOf image) m .state))
+    (λ plan. choose (λ (c : ModuleCalled). ModuleEncodable (c .state)) (ltb m (modulesOf (recordsOf image))) _ _
+    (λ l. record { own = start-encodable (recordsOf image) plan m (ltb-true m (modulesOf (recordsOf image)) l); held = pow-pos 32; received = pow-pos 64 }) (λ l. empty))
     (λ n o. empty)
   where
-    empty : ModuleHeld M.emptyModule
-    empty = record { own = empty-held; held = pow-pos 32; received = pow-pos 64 }
+    empty : ModuleEncodable M.emptyModule
+    empty = record { own = empty-encodable; held = pow-pos 32; received = pow-pos 64 }
 
-module _ (image : List ℕ) (m : ℕ) (x : Module) (h : ModuleHeld x) where
-  pub module-stepped : (b : List ℕ) → ModuleHeld (M.moduleStep image m x b .state)
+module _ (image : List ℕ) (m : ℕ) (x : Module) (h : ModuleEncodable x) where
+  pub module-stepped : (b : List ℕ) → ModuleEncodable (M.moduleStep image m x b .state)
   unfolding M.stepBy
-  module-stepped b = judged image (λ v. ModuleHeld (M.stepBy v (recordsOf image) m x b .state)) (λ plan. stepped (recordsOf image) m x h plan b) (λ n o. h)
+  module-stepped b = judged image (λ v. ModuleEncodable (M.stepBy v (recordsOf image) m x b .state)) (λ plan. stepped (recordsOf image) m x h plan b) (λ n o. h)
 
-  pub module-delivered : (g : List ℕ) → Bytes g → ModuleHeld (M.moduleDeliver image m x g .state)
+  pub module-delivered : (g : List ℕ) → Bytes g → ModuleEncodable (M.moduleDeliver image m x g .state)
   unfolding M.deliverBy
-  module-delivered g s = judged image (λ v. ModuleHeld (M.deliverBy v (recordsOf image) m x (parse g) .state)) (λ plan. delivered (recordsOf image) m x h (parse g) (mask-small g s)) (λ n o. h)
+  module-delivered g s = judged image (λ v. ModuleEncodable (M.deliverBy v (recordsOf image) m x (parse g) .state)) (λ plan. delivered (recordsOf image) m x h (parse g) (mask-small g s)) (λ n o. h)
 
-  module-replied : (r : Replied) → (Sound (recordsOf image) → T (ownFits (recordsOf image) m (x .own)) → OwnHeld (r .own)) → ModuleHeld (M.replyBy (verdictOf image) (recordsOf image) m x r .state)
+  module-replied : (r : Replied) → (Sound (recordsOf image) → T (ownFits (recordsOf image) m (x .own)) → OwnEncodable (r .own)) → ModuleEncodable (M.replyBy (verdictOf image) (recordsOf image) m x r .state)
   unfolding M.replyBy
-  module-replied r k = judged image (λ v. ModuleHeld (M.replyBy v (recordsOf image) m x r .state)) (λ plan. replied (recordsOf image) m x h r (k plan)) (λ n o. h)
+  module-replied r k = judged image (λ v. ModuleEncodable (M.replyBy v (recordsOf image) m x r .state)) (λ plan. replied (recordsOf image) m x h r (k plan)) (λ n o. h)
 
-  pub module-responded : (e : ℕ) → ModuleHeld (M.moduleRespond image m x e .state)
-  module-responded e = module-replied (respondOf (recordsOf image) m e (x .own)) (λ plan t. respond-held (recordsOf image) plan m (x .own) (h .own) t e)
+  pub module-responded : (e : ℕ) → ModuleEncodable (M.moduleRespond image m x e .state)
+  module-responded e = module-replied (respondOf (recordsOf image) m e (x .own)) (λ plan t. respond-encodable (recordsOf image) plan m (x .own) (h .own) t e)
 
-  pub module-ticked : (f : Flow) → ModuleHeld (M.moduleTick image m x f .state)
-  module-ticked f = module-replied (tickOf (recordsOf image) f (x .own)) (λ plan t. tick-held (recordsOf image) plan m (x .own) (h .own) t f)
+  pub module-ticked : (f : Flow) → ModuleEncodable (M.moduleTick image m x f .state)
+  module-ticked f = module-replied (tickOf (recordsOf image) f (x .own)) (λ plan t. tick-encodable (recordsOf image) plan m (x .own) (h .own) t f)
 
 -- ---- supervisors
 
@@ -205,9 +205,9 @@ module _ (rs : List Record) (plan : Sound rs) where
       go none q = h
       go (some y) q = let k = supervisor-move rs plan v st e y q in omega (arith, k .to, states v (k .supervisor))
 
-  module _ (v : ℕ) (y : Supervisor) (h : SupervisorHeld y) where
+  module _ (v : ℕ) (y : Supervisor) (h : SupervisorEncodable y) where
     abbrev Kept : SupervisorCalled → Type 0
-    Kept c = SupervisorHeld (c .state)
+    Kept c = SupervisorEncodable (c .state)
 
     takes : (g : Message) → named rs g ≡ true → Kept (S.takenBy rs v y g)
     unfolding S.takenBy S.applied named holderByte
@@ -227,38 +227,38 @@ module _ (rs : List Record) (plan : Sound rs) where
     received (Whole g) =
         choose Kept (ltb v (supervisorsOf rs)) _ _ (λ l. choose Kept (S.supervisorFits rs v y) _ _ (λ f. choose Kept (named rs g) _ _ (λ n. takes g n) (λ n. h)) (λ f. h)) (λ l. h)
 
-    sent : (o : Option ℕ) → S.served y ≡ o → SupervisorHeld (S.stateAfter y o)
+    sent : (o : Option ℕ) → S.served y ≡ o → SupervisorEncodable (S.stateAfter y o)
     unfolding S.stateAfter holderByte
     sent none e = h
     sent (some m) e =
         let l : m < 16 = served-small y m e in
         record { state = h .state; noted = put-small 16 (y .noted) m false l (h .noted); holder = omega arith; last = omega arith }
 
-    serves : (b : List ℕ) → SupervisorHeld (S.stepBy Accepted rs v y b .state)
+    serves : (b : List ℕ) → SupervisorEncodable (S.stepBy Accepted rs v y b .state)
     unfolding S.stepBy S.stepIn
     serves b =
         choose Keep (ltb v (supervisorsOf rs)) _ _ (λ l. choose Keep (S.supervisorFits rs v y) _ _
         (λ f. choose Keep (short (S.stepBytes rs v y (S.served y)) b) _ _ (λ s. h) (λ s. sent (S.served y) refl)) (λ f. h)) (λ l. h)
       where
         Keep : S.ServeCall → Type 0
-        Keep c = SupervisorHeld (c .state)
+        Keep c = SupervisorEncodable (c .state)
 
-pub supervisor-started : (image : List ℕ) (v : ℕ) → SupervisorHeld (S.supervisorStart image v .state)
+pub supervisor-started : (image : List ℕ) (v : ℕ) → SupervisorEncodable (S.supervisorStart image v .state)
 unfolding S.startBy holderByte
 supervisor-started image v =
-    judged image (λ a. SupervisorHeld (S.startBy a (recordsOf image) v .state))
-    (λ plan. choose (λ (c : SupervisorCalled). SupervisorHeld (c .state)) (ltb v (supervisorsOf (recordsOf image))) _ _
+    judged image (λ a. SupervisorEncodable (S.startBy a (recordsOf image) v .state))
+    (λ plan. choose (λ (c : SupervisorCalled). SupervisorEncodable (c .state)) (ltb v (supervisorsOf (recordsOf image))) _ _
     (λ l. record { state = initial-byte (recordsOf image) plan v (ltb-true v (supervisorsOf (recordsOf image)) l); noted = pow-pos 16; holder = lit< tt; last = lit< tt }) (λ l. empty))
     (λ n o. empty)
   where
-    empty : SupervisorHeld S.emptySupervisor
+    empty : SupervisorEncodable S.emptySupervisor
     empty = record { state = lit< tt; noted = pow-pos 16; holder = lit< tt; last = lit< tt }
 
-module _ (image : List ℕ) (v : ℕ) (y : Supervisor) (h : SupervisorHeld y) where
-  pub supervisor-stepped : (b : List ℕ) → SupervisorHeld (S.supervisorStep image v y b .state)
+module _ (image : List ℕ) (v : ℕ) (y : Supervisor) (h : SupervisorEncodable y) where
+  pub supervisor-stepped : (b : List ℕ) → SupervisorEncodable (S.supervisorStep image v y b .state)
   unfolding S.stepBy
-  supervisor-stepped b = judged image (λ a. SupervisorHeld (S.stepBy a (recordsOf image) v y b .state)) (λ plan. serves (recordsOf image) plan v y h b) (λ n o. h)
+  supervisor-stepped b = judged image (λ a. SupervisorEncodable (S.stepBy a (recordsOf image) v y b .state)) (λ plan. serves (recordsOf image) plan v y h b) (λ n o. h)
 
-  pub supervisor-delivered : (g : List ℕ) → SupervisorHeld (S.supervisorDeliver image v y g .state)
+  pub supervisor-delivered : (g : List ℕ) → SupervisorEncodable (S.supervisorDeliver image v y g .state)
   unfolding S.deliverBy
-  supervisor-delivered g = judged image (λ a. SupervisorHeld (S.deliverBy a (recordsOf image) v y (parse g) .state)) (λ plan. received (recordsOf image) plan v y h (parse g)) (λ n o. h)
+  supervisor-delivered g = judged image (λ a. SupervisorEncodable (S.deliverBy a (recordsOf image) v y (parse g) .state)) (λ plan. received (recordsOf image) plan v y h (parse g)) (λ n o. h)

@@ -1,4 +1,4 @@
--- Lists of calls over bytes and the same lists on states by value, call by call, over states that their bytes can hold.
+-- Lists of calls over bytes and the same lists on states by value, call by call, over states that can be encoded.
 use mathlib.Core.Path.{_≡_, refl, ap, ap₂, _∙_, fun-ext}
 use mathlib.Core.List.{List, [], _∷_, _++_}
 use mathlib.Core.Option.{Option, none, some}
@@ -25,24 +25,24 @@ use Rattle.permits.specs.declared.Supervisor.{Supervisor}
 use Rattle.protocol.specs.Generic.{update, Picked, behind, pick}
 use Rattle.agreement.specs.System.{System, Act, moduleStep, supervisorStep, deliver, respond, tick, Lent, AllLent, sent, sentOut, withModule, withSupervisor, delivered, deliveredAt, step, run, start}
 use Rattle.agreement.specs.Compared.{DeviceAct, deviceTurn, deviceRespond, deviceTick, deviceStep, deviceRun}
-use Rattle.party_bytes.specs.Module.{moduleBytes, ModuleHeld}
-use Rattle.party_bytes.specs.Supervisor.{supervisorBytes, SupervisorHeld}
-use Rattle.device_bytes.specs.Device.{deviceBytes, DeviceHeld}
+use Rattle.party_bytes.specs.Module.{moduleBytes, ModuleEncodable}
+use Rattle.party_bytes.specs.Supervisor.{supervisorBytes, SupervisorEncodable}
+use Rattle.device_bytes.specs.Device.{deviceBytes, DeviceEncodable}
 use Rattle.packing.specs.Answer.{Answer}
 use Rattle.packing.specs.Flow.{flowOf}
 use Rattle.supervisor_interface.specs.Calls as SupervisorCalls
-use Rattle.interface_laws.specs.Encoded.{moduleAnswer, stepAnswer, supervisorAnswer, serveAnswer, deviceAnswer}
+use Rattle.interface_laws.specs.SameCalls.{moduleAnswer, stepAnswer, supervisorAnswer, serveAnswer, deviceAnswer}
 use Rattle.interface_laws.specs.Run.{Memory, Given, moduleSends, supervisorSends, sensorOf, litresOf, onModule, onSupervisor, bytesDelivered, bytesDeliveredAt, bytesStep, bytesRun, bytesStart, deviceBytesStep, deviceBytesRun, deviceBytesStart, encoded, decoded, deliveryAnswers, pickedAnswers, actAnswers, runAnswers, deviceActAnswer, deviceAnswers}
 use Rattle.interface_laws.proofs.OwnParts.{choose}
 use Rattle.interface_laws.proofs.Exact.{exact}
-use Rattle.interface_laws.proofs.Held.{all-held}
-use Rattle.interface_laws.proofs.Encoded.{all-encoded}
+use Rattle.interface_laws.proofs.Encodable.{all-encodable}
+use Rattle.interface_laws.proofs.SameCalls.{same-calls}
 use Rattle.interface_laws.proofs.Sent.{AllBytes, module-sends, supervisor-sends, module-sent, supervisor-sent}
 
--- the states of all parties, and that their bytes can hold them; the messages under way are bytes
-pub record SystemHeld (D : System) : Type 0 where
-  pub modules : (m : ℕ) → ModuleHeld (D .moduleAt m)
-  pub supervisors : (v : ℕ) → SupervisorHeld (D .supervisorAt v)
+-- the states of all parties can be encoded, and the messages under way are bytes
+pub record SystemEncodable (D : System) : Type 0 where
+  pub modules : (m : ℕ) → ModuleEncodable (D .moduleAt m)
+  pub supervisors : (v : ℕ) → SupervisorEncodable (D .supervisorAt v)
   pub messages : AllBytes (D .underWay)
 
 -- ---- the state of one party
@@ -102,33 +102,33 @@ flow-back NoSensor = refl
 
 -- ---- one call
 
-module _ (image : List ℕ) (D : System) (h : SystemHeld D) where
-  with-module : (m : ℕ) (x : Module) (w : List (List ℕ)) → ModuleHeld x → AllBytes w → SystemHeld (withModule D m x w)
-  with-module m x w k b = record { modules = updated ModuleHeld (D .moduleAt) m x (h .modules) k; supervisors = h .supervisors; messages = b }
+module _ (image : List ℕ) (D : System) (h : SystemEncodable D) where
+  with-module : (m : ℕ) (x : Module) (w : List (List ℕ)) → ModuleEncodable x → AllBytes w → SystemEncodable (withModule D m x w)
+  with-module m x w k b = record { modules = updated ModuleEncodable (D .moduleAt) m x (h .modules) k; supervisors = h .supervisors; messages = b }
 
-  with-supervisor : (v : ℕ) (y : Supervisor) (w : List (List ℕ)) → SupervisorHeld y → AllBytes w → SystemHeld (withSupervisor D v y w)
-  with-supervisor v y w k b = record { modules = h .modules; supervisors = updated SupervisorHeld (D .supervisorAt) v y (h .supervisors) k; messages = b }
+  with-supervisor : (v : ℕ) (y : Supervisor) (w : List (List ℕ)) → SupervisorEncodable y → AllBytes w → SystemEncodable (withSupervisor D v y w)
+  with-supervisor v y w k b = record { modules = h .modules; supervisors = updated SupervisorEncodable (D .supervisorAt) v y (h .supervisors) k; messages = b }
 
   supervisor-got : (v : ℕ) (g : List ℕ) (w : List (List ℕ)) → onSupervisor (encoded D) v (SupervisorCalls.deliverBytes image (supervisorBytes (D .supervisorAt v)) v g) w
       ≡ record { answers = supervisorAnswer (S.supervisorDeliver image v (D .supervisorAt v) g) ∷ []; memory = encoded (withSupervisor D v (S.supervisorDeliver image v (D .supervisorAt v) g .state) w) }
   supervisor-got v g w =
-      ap (λ (a : Answer). onSupervisor (encoded D) v a w) (all-encoded .supervisorDeliver image v (D .supervisorAt v) g (h .supervisors v)) ∙ on-supervisor D v _ _ _ w
+      ap (λ (a : Answer). onSupervisor (encoded D) v a w) (same-calls .supervisorDeliver image v (D .supervisorAt v) g (h .supervisors v)) ∙ on-supervisor D v _ _ _ w
 
   message-same : (g : List ℕ) (w : List (List ℕ)) → Bytes g → (p : Parsed)
       → bytesDelivered image (encoded D) g w p ≡ record { answers = deliveryAnswers image D g p; memory = encoded (delivered image D g w p) }
   unfolding bytesDelivered deliveryAnswers delivered
   message-same g w b (Whole (Bid m v)) = supervisor-got v g w
   message-same g w b (Whole (Permit v m k)) =
-      ap (λ (a : Answer). onModule (encoded D) m a w) (all-encoded .moduleDeliver image m (D .moduleAt m) g b (h .modules m)) ∙ on-module D m _ _ _ w
+      ap (λ (a : Answer). onModule (encoded D) m a w) (same-calls .moduleDeliver image m (D .moduleAt m) g b (h .modules m)) ∙ on-module D m _ _ _ w
   message-same g w b (Whole (Release m v e)) = supervisor-got v g w
   message-same g w b Misshapen = refl
 
-  message-held : (g : List ℕ) (w : List (List ℕ)) → Bytes g → AllBytes w → (p : Parsed) → SystemHeld (delivered image D g w p)
+  message-encodable : (g : List ℕ) (w : List (List ℕ)) → Bytes g → AllBytes w → (p : Parsed) → SystemEncodable (delivered image D g w p)
   unfolding delivered
-  message-held g w b s (Whole (Bid m v)) = with-supervisor v _ w (all-held .supervisorDeliver image v (D .supervisorAt v) g (h .supervisors v)) s
-  message-held g w b s (Whole (Permit v m k)) = with-module m _ w (all-held .moduleDeliver image m (D .moduleAt m) g b (h .modules m)) s
-  message-held g w b s (Whole (Release m v e)) = with-supervisor v _ w (all-held .supervisorDeliver image v (D .supervisorAt v) g (h .supervisors v)) s
-  message-held g w b s Misshapen = record { modules = h .modules; supervisors = h .supervisors; messages = s }
+  message-encodable g w b s (Whole (Bid m v)) = with-supervisor v _ w (all-encodable .supervisorDeliver image v (D .supervisorAt v) g (h .supervisors v)) s
+  message-encodable g w b s (Whole (Permit v m k)) = with-module m _ w (all-encodable .moduleDeliver image m (D .moduleAt m) g b (h .modules m)) s
+  message-encodable g w b s (Whole (Release m v e)) = with-supervisor v _ w (all-encodable .supervisorDeliver image v (D .supervisorAt v) g (h .supervisors v)) s
+  message-encodable g w b s Misshapen = record { modules = h .modules; supervisors = h .supervisors; messages = s }
 
   delivery-same : (o : Option (Picked (List ℕ))) → PickedBytes o
       → bytesDeliveredAt image (encoded D) o ≡ record { answers = pickedAnswers image D o; memory = encoded (deliveredAt image D o) }
@@ -136,75 +136,75 @@ module _ (image : List ℕ) (D : System) (h : SystemHeld D) where
   delivery-same none b = refl
   delivery-same (some q) b = message-same (q .item) (q .rest) (b .0) (parse (q .item))
 
-  delivery-held : (o : Option (Picked (List ℕ))) → PickedBytes o → SystemHeld (deliveredAt image D o)
+  delivery-encodable : (o : Option (Picked (List ℕ))) → PickedBytes o → SystemEncodable (deliveredAt image D o)
   unfolding deliveredAt
-  delivery-held none b = h
-  delivery-held (some q) b = message-held (q .item) (q .rest) (b .0) (b .1) (parse (q .item))
+  delivery-encodable none b = h
+  delivery-encodable (some q) b = message-encodable (q .item) (q .rest) (b .0) (b .1) (parse (q .item))
 
   module _ (accepted : IsPlan image) where
     pub step-same : (a : Act) → Lent a → bytesStep image (encoded D) a ≡ record { answers = actAnswers image D a; memory = encoded (step image D a) }
     unfolding bytesStep actAnswers step
     step-same (moduleStep m b) l =
         let c : M.StepCall = M.moduleStep image m (D .moduleAt m) b in
-        ap (λ (a : Answer). onModule (encoded D) m a (D .underWay ++ moduleSends a)) (all-encoded .moduleStep image m (D .moduleAt m) b (h .modules m))
+        ap (λ (a : Answer). onModule (encoded D) m a (D .underWay ++ moduleSends a)) (same-calls .moduleStep image m (D .moduleAt m) b (h .modules m))
         ∙ ap (λ (w : List (List ℕ)). onModule (encoded D) m (stepAnswer c) (D .underWay ++ w)) (module-sends (moduleBytes (c .state)) (c .buffer) (c .answer) (module-sent image accepted m (D .moduleAt m) b l .0))
         ∙ on-module D m (c .state) _ _ (D .underWay ++ sent (c .answer) (c .buffer))
     step-same (supervisorStep v b) l =
         let c : S.ServeCall = S.supervisorStep image v (D .supervisorAt v) b in
-        ap (λ (a : Answer). onSupervisor (encoded D) v a (D .underWay ++ supervisorSends a)) (all-encoded .supervisorStep image v (D .supervisorAt v) b (h .supervisors v))
+        ap (λ (a : Answer). onSupervisor (encoded D) v a (D .underWay ++ supervisorSends a)) (same-calls .supervisorStep image v (D .supervisorAt v) b (h .supervisors v))
         ∙ ap (λ (w : List (List ℕ)). onSupervisor (encoded D) v (serveAnswer c) (D .underWay ++ w)) (supervisor-sends (supervisorBytes (c .state)) (c .buffer) (c .answer) (supervisor-sent image accepted v (D .supervisorAt v) b l .0))
         ∙ on-supervisor D v (c .state) _ _ (D .underWay ++ sentOut (c .answer) (c .buffer))
     step-same (deliver k) l = delivery-same (pick k (D .underWay)) (picked-bytes k (D .underWay) (h .messages))
     step-same (respond m e) l =
-        ap (λ (a : Answer). onModule (encoded D) m a (D .underWay)) (all-encoded .moduleRespond image m (D .moduleAt m) e (h .modules m)) ∙ on-module D m _ _ _ (D .underWay)
+        ap (λ (a : Answer). onModule (encoded D) m a (D .underWay)) (same-calls .moduleRespond image m (D .moduleAt m) e (h .modules m)) ∙ on-module D m _ _ _ (D .underWay)
     step-same (tick m f) l =
         ap (λ (a : Answer). onModule (encoded D) m a (D .underWay))
-        (all-encoded .moduleTick image m (D .moduleAt m) (sensorOf f) (litresOf f) (h .modules m) ∙ ap (λ (r : Flow). moduleAnswer (M.moduleTick image m (D .moduleAt m) r)) (flow-back f))
+        (same-calls .moduleTick image m (D .moduleAt m) (sensorOf f) (litresOf f) (h .modules m) ∙ ap (λ (r : Flow). moduleAnswer (M.moduleTick image m (D .moduleAt m) r)) (flow-back f))
         ∙ on-module D m _ _ _ (D .underWay)
 
-    pub step-held : (a : Act) → Lent a → SystemHeld (step image D a)
+    pub step-encodable : (a : Act) → Lent a → SystemEncodable (step image D a)
     unfolding step
-    step-held (moduleStep m b) l =
-        with-module m _ _ (all-held .moduleStep image m (D .moduleAt m) b (h .modules m)) (all-joined (D .underWay) _ (h .messages) (module-sent image accepted m (D .moduleAt m) b l .1))
-    step-held (supervisorStep v b) l =
-        with-supervisor v _ _ (all-held .supervisorStep image v (D .supervisorAt v) b (h .supervisors v)) (all-joined (D .underWay) _ (h .messages) (supervisor-sent image accepted v (D .supervisorAt v) b l .1))
-    step-held (deliver k) l = delivery-held (pick k (D .underWay)) (picked-bytes k (D .underWay) (h .messages))
-    step-held (respond m e) l = with-module m _ (D .underWay) (all-held .moduleRespond image m (D .moduleAt m) e (h .modules m)) (h .messages)
-    step-held (tick m f) l = with-module m _ (D .underWay) (all-held .moduleTick image m (D .moduleAt m) f (h .modules m)) (h .messages)
+    step-encodable (moduleStep m b) l =
+        with-module m _ _ (all-encodable .moduleStep image m (D .moduleAt m) b (h .modules m)) (all-joined (D .underWay) _ (h .messages) (module-sent image accepted m (D .moduleAt m) b l .1))
+    step-encodable (supervisorStep v b) l =
+        with-supervisor v _ _ (all-encodable .supervisorStep image v (D .supervisorAt v) b (h .supervisors v)) (all-joined (D .underWay) _ (h .messages) (supervisor-sent image accepted v (D .supervisorAt v) b l .1))
+    step-encodable (deliver k) l = delivery-encodable (pick k (D .underWay)) (picked-bytes k (D .underWay) (h .messages))
+    step-encodable (respond m e) l = with-module m _ (D .underWay) (all-encodable .moduleRespond image m (D .moduleAt m) e (h .modules m)) (h .messages)
+    step-encodable (tick m f) l = with-module m _ (D .underWay) (all-encodable .moduleTick image m (D .moduleAt m) f (h .modules m)) (h .messages)
 
 -- ---- every list of calls
 
 module _ (image : List ℕ) (accepted : IsPlan image) where
-  pub run-same : (acts : List Act) → AllLent acts → (D : System) → SystemHeld D
+  pub run-same : (acts : List Act) → AllLent acts → (D : System) → SystemEncodable D
       → bytesRun image (encoded D) acts ≡ record { answers = runAnswers image D acts; memory = encoded (run image D acts) }
   unfolding bytesRun runAnswers run
   run-same [] l D h = refl
   run-same (a ∷ acts) l D h =
       ap (λ (s : Given Memory). record { answers = s .answers ++ bytesRun image (s .memory) acts .answers; memory = bytesRun image (s .memory) acts .memory }) (step-same image D h accepted a (l .0))
-      ∙ ap (λ (r : Given Memory). record { answers = actAnswers image D a ++ r .answers; memory = r .memory }) (run-same acts (l .1) (step image D a) (step-held image D h accepted a (l .0)))
+      ∙ ap (λ (r : Given Memory). record { answers = actAnswers image D a ++ r .answers; memory = r .memory }) (run-same acts (l .1) (step image D a) (step-encodable image D h accepted a (l .0)))
 
-  pub run-held : (acts : List Act) → AllLent acts → (D : System) → SystemHeld D → SystemHeld (run image D acts)
+  pub run-encodable : (acts : List Act) → AllLent acts → (D : System) → SystemEncodable D → SystemEncodable (run image D acts)
   unfolding run
-  run-held [] l D h = h
-  run-held (a ∷ acts) l D h = run-held acts (l .1) (step image D a) (step-held image D h accepted a (l .0))
+  run-encodable [] l D h = h
+  run-encodable (a ∷ acts) l D h = run-encodable acts (l .1) (step image D a) (step-encodable image D h accepted a (l .0))
 
   pub start-same : bytesStart image ≡ encoded (start image)
   unfolding bytesStart start
   start-same =
       ap₂ (λ (f g : ℕ → List ℕ). record { moduleAt = f; supervisorAt = g; underWay = [] })
-      (fun-ext (λ m. all-encoded .moduleZeros image m)) (fun-ext (λ v. all-encoded .supervisorZeros image v))
+      (fun-ext (λ m. same-calls .moduleZeros image m)) (fun-ext (λ v. same-calls .supervisorZeros image v))
 
-  pub start-held : SystemHeld (start image)
+  pub start-encodable : SystemEncodable (start image)
   unfolding start
-  start-held = record { modules = all-held .moduleStart image; supervisors = all-held .supervisorStart image; messages = tt }
+  start-encodable = record { modules = all-encodable .moduleStart image; supervisors = all-encodable .supervisorStart image; messages = tt }
 
   -- ---- the one-device controller
 
-  pub device-same : (d : Device) → DeviceHeld d → (a : DeviceAct) → deviceBytesStep image (deviceBytes d) a ≡ deviceActAnswer image d a
+  pub device-same : (d : Device) → DeviceEncodable d → (a : DeviceAct) → deviceBytesStep image (deviceBytes d) a ≡ deviceActAnswer image d a
   unfolding deviceBytesStep deviceActAnswer
-  device-same d h (deviceTurn m) = all-encoded .deviceTurn image d m h
-  device-same d h (deviceRespond m e) = all-encoded .deviceRespond image d m e h
-  device-same d h (deviceTick m f) = all-encoded .deviceTick image d m (sensorOf f) (litresOf f) h ∙ ap (λ (r : Flow). deviceAnswer (tickCall image d m r)) (flow-back f)
+  device-same d h (deviceTurn m) = same-calls .deviceTurn image d m h
+  device-same d h (deviceRespond m e) = same-calls .deviceRespond image d m e h
+  device-same d h (deviceTick m f) = same-calls .deviceTick image d m (sensorOf f) (litresOf f) h ∙ ap (λ (r : Flow). deviceAnswer (tickCall image d m r)) (flow-back f)
 
   pub device-left : (d : Device) (a : DeviceAct) → deviceActAnswer image d a .state ≡ deviceBytes (deviceStep image d a)
   unfolding deviceActAnswer deviceStep
@@ -212,31 +212,31 @@ module _ (image : List ℕ) (accepted : IsPlan image) where
   device-left d (deviceRespond m e) = refl
   device-left d (deviceTick m f) = refl
 
-  pub device-held : (d : Device) → DeviceHeld d → (a : DeviceAct) → DeviceHeld (deviceStep image d a)
+  pub device-encodable : (d : Device) → DeviceEncodable d → (a : DeviceAct) → DeviceEncodable (deviceStep image d a)
   unfolding deviceStep
-  device-held d h (deviceTurn m) = all-held .deviceTurn image d m h
-  device-held d h (deviceRespond m e) = all-held .deviceRespond image d m e h
-  device-held d h (deviceTick m f) = all-held .deviceTick image d m f h
+  device-encodable d h (deviceTurn m) = all-encodable .deviceTurn image d m h
+  device-encodable d h (deviceRespond m e) = all-encodable .deviceRespond image d m e h
+  device-encodable d h (deviceTick m f) = all-encodable .deviceTick image d m f h
 
-  pub device-run : (acts : List DeviceAct) (d : Device) → DeviceHeld d
+  pub device-run : (acts : List DeviceAct) (d : Device) → DeviceEncodable d
       → deviceBytesRun image (deviceBytes d) acts ≡ record { answers = deviceAnswers image d acts; memory = deviceBytes (deviceRun image d acts) }
   unfolding deviceBytesRun deviceAnswers deviceRun
   device-run [] d h = refl
   device-run (a ∷ acts) d h =
       ap (λ (c : Answer). record { answers = c ∷ deviceBytesRun image (c .state) acts .answers; memory = deviceBytesRun image (c .state) acts .memory }) (device-same d h a)
       ∙ ap (λ (s : List ℕ). record { answers = deviceActAnswer image d a ∷ deviceBytesRun image s acts .answers; memory = deviceBytesRun image s acts .memory }) (device-left d a)
-      ∙ ap (λ (r : Given (List ℕ)). record { answers = deviceActAnswer image d a ∷ r .answers; memory = r .memory }) (device-run acts (deviceStep image d a) (device-held d h a))
+      ∙ ap (λ (r : Given (List ℕ)). record { answers = deviceActAnswer image d a ∷ r .answers; memory = r .memory }) (device-run acts (deviceStep image d a) (device-encodable d h a))
 
-  pub device-run-held : (acts : List DeviceAct) (d : Device) → DeviceHeld d → DeviceHeld (deviceRun image d acts)
+  pub device-run-encodable : (acts : List DeviceAct) (d : Device) → DeviceEncodable d → DeviceEncodable (deviceRun image d acts)
   unfolding deviceRun
-  device-run-held [] d h = h
-  device-run-held (a ∷ acts) d h = device-run-held acts (deviceStep image d a) (device-held d h a)
+  device-run-encodable [] d h = h
+  device-run-encodable (a ∷ acts) d h = device-run-encodable acts (deviceStep image d a) (device-encodable d h a)
 
   pub device-start : deviceBytesStart image ≡ deviceBytes (startCall image .device)
   unfolding deviceBytesStart startBy
-  device-start = all-encoded .deviceStart image (replicate 592 0) (length-replicate {A = ℕ} 592 0) (ap (λ (v : Verdict). startBy v (recordsOf image) .answer) accepted)
+  device-start = same-calls .deviceStart image (replicate 592 0) (length-replicate {A = ℕ} 592 0) (ap (λ (v : Verdict). startBy v (recordsOf image) .answer) accepted)
 
-pub decoded-encoded : (D : System) → SystemHeld D → decoded (encoded D) ≡ D
+pub decoded-encoded : (D : System) → SystemEncodable D → decoded (encoded D) ≡ D
 decoded-encoded D h =
     ap₂ (λ (f : ℕ → Module) (g : ℕ → Supervisor). record { moduleAt = f; supervisorAt = g; underWay = D .underWay })
     (fun-ext (λ m. exact .module-again (D .moduleAt m) (h .modules m))) (fun-ext (λ v. exact .supervisor-again (D .supervisorAt v) (h .supervisors v)))

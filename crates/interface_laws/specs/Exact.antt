@@ -4,24 +4,24 @@ use mathlib.Core.List.{List}
 use mathlib.Core.Bool.{true}
 use Prim.Native.Nat.{ℕ}
 use Rattle.roundtrip.specs.Fits.{Bytes}
-use Rattle.own_bytes.specs.Own.{ownOf, isOwn, OwnHeld}
-use Rattle.party_bytes.specs.Module.{moduleAt, moduleBytes, moduleOf, isModule, ModuleHeld}
-use Rattle.party_bytes.specs.Supervisor.{supervisorAt, supervisorBytes, supervisorOf, isSupervisor, SupervisorHeld}
-use Rattle.device_bytes.specs.Device.{deviceAt, deviceBytes, deviceOf, isDevice, DeviceHeld}
+use Rattle.own_bytes.specs.Own.{ownOf, isOwn, OwnEncodable}
+use Rattle.party_bytes.specs.Module.{moduleAt, moduleBytes, moduleOf, isModule, ModuleEncodable}
+use Rattle.party_bytes.specs.Supervisor.{supervisorAt, supervisorBytes, supervisorOf, isSupervisor, SupervisorEncodable}
+use Rattle.device_bytes.specs.Device.{deviceAt, deviceBytes, deviceOf, isDevice, DeviceEncodable}
 use Rattle.permits.specs.declared.Module.{Module}
 use Rattle.permits.specs.declared.Supervisor.{Supervisor}
 use Rattle.device_states.specs.declared.Device.{Device}
 
 pub record Exact : Type 0 where
-  pub own : (b : List ℕ) → Bytes b → isOwn b ≡ true → OwnHeld (ownOf b)
-  pub module-held : (b : List ℕ) → Bytes b → isModule b ≡ true → ModuleHeld (moduleAt b)
-  pub supervisor-held : (b : List ℕ) → Bytes b → isSupervisor b ≡ true → SupervisorHeld (supervisorAt b)
-  pub device-held : (b : List ℕ) → Bytes b → isDevice b ≡ true → DeviceHeld (deviceAt b)
+  pub own : (b : List ℕ) → Bytes b → isOwn b ≡ true → OwnEncodable (ownOf b)
+  pub module-encodable : (b : List ℕ) → Bytes b → isModule b ≡ true → ModuleEncodable (moduleAt b)
+  pub supervisor-encodable : (b : List ℕ) → Bytes b → isSupervisor b ≡ true → SupervisorEncodable (supervisorAt b)
+  pub device-encodable : (b : List ℕ) → Bytes b → isDevice b ≡ true → DeviceEncodable (deviceAt b)
   -- so bytes written for such a state are read as that state
-  pub module-again : (x : Module) → ModuleHeld x → moduleOf (moduleBytes x) ≡ x
-  pub supervisor-again : (y : Supervisor) → SupervisorHeld y → supervisorOf (supervisorBytes y) ≡ y
-  pub device-again : (d : Device) → DeviceHeld d → deviceOf (deviceBytes d) ≡ d
+  pub module-again : (x : Module) → ModuleEncodable x → moduleOf (moduleBytes x) ≡ x
+  pub supervisor-again : (y : Supervisor) → SupervisorEncodable y → supervisorOf (supervisorBytes y) ≡ y
+  pub device-again : (d : Device) → DeviceEncodable d → deviceOf (deviceBytes d) ≡ d
   -- and what is written are bytes
-  pub module-bytes : (x : Module) → ModuleHeld x → Bytes (moduleBytes x)
-  pub supervisor-bytes : (y : Supervisor) → SupervisorHeld y → Bytes (supervisorBytes y)
-  pub device-bytes : (d : Device) → DeviceHeld d → Bytes (deviceBytes d)
+  pub module-bytes : (x : Module) → ModuleEncodable x → Bytes (moduleBytes x)
+  pub supervisor-bytes : (y : Supervisor) → SupervisorEncodable y → Bytes (supervisorBytes y)
+  pub device-bytes : (d : Device) → DeviceEncodable d → Bytes (deviceBytes d)

@@ -1,8 +1,8 @@
 pub mod Laws
 pub mod Exact
 pub mod Kept
-pub mod Held
-pub mod Encoded
+pub mod Encodable
+pub mod SameCalls
 pub mod Left
 pub mod Run
 pub mod Compared

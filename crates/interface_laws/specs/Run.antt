@@ -28,7 +28,7 @@ use Rattle.device_interface.specs.Calls as DeviceCalls
 use Rattle.module_interface.specs.Calls as ModuleCalls
 use Rattle.supervisor_interface.specs.Calls as SupervisorCalls
 use Rattle.interface_laws.specs.Laws.{numberOf}
-use Rattle.interface_laws.specs.Encoded.{moduleAnswer, stepAnswer, supervisorAnswer, serveAnswer, deviceAnswer, turnAnswer}
+use Rattle.interface_laws.specs.SameCalls.{moduleAnswer, stepAnswer, supervisorAnswer, serveAnswer, deviceAnswer, turnAnswer}
 
 -- the state bytes of all modules and supervisors, and the messages under way
 pub record Memory : Type 0 where
@@ -101,7 +101,7 @@ bytesRun image B (a ∷ l) =
     let s = bytesStep image B a in let r = bytesRun image (s .memory) l in record { answers = s .answers ++ r .answers; memory = r .memory }
 
 -- Each party's start, in memory that is 0 before. What stood there does not matter to a party of the plan (`moduleStart` and `supervisorStart`
--- of specs/Encoded.antt); the start of another is refused and leaves the zeros.
+-- of specs/SameCalls.antt); the start of another is refused and leaves the zeros.
 unfoldable pub bytesStart : List ℕ → Memory
 bytesStart image =
     record {

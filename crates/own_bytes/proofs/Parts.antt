@@ -15,7 +15,7 @@ use Rattle.modules.specs.declared.Own.{Own}
 use Rattle.modules.specs.declared.Procedure.{Procedure}
 use Rattle.fields.specs.Fields.{bytesFrom, halfBytes, halfAt, quadBytes, quadAt, flagByte, flagOf, isFlag, floatBytes, isFloat}
 use Rattle.fields.proofs.Back.{and-left, and-right, from-all, flag-written, half-written, quad-written, float-written, flag-read, flag-is, half-read, quad-read, float-read, float-is}
-use Rattle.own_bytes.specs.Own.{procedureBytes, ownBytes, procedureOf, ownOf, isOwn, unfitOwn, OwnHeld, OwnRead, OwnWritten, OwnParts}
+use Rattle.own_bytes.specs.Own.{procedureBytes, ownBytes, procedureOf, ownOf, isOwn, unfitOwn, OwnEncodable, OwnRead, OwnWritten, OwnParts}
 use Rattle.own_bytes.proofs.Writing.{length-own}
 
 -- ---- an own part written as it was read
@@ -42,7 +42,7 @@ module _ (b : List ℕ) (g : Bytes b) where
 
 -- ---- an own part read as it was written, its queue given place by place
 
-module _ (own : Own) (x : OwnHeld own) (rest : List ℕ) where
+module _ (own : Own) (x : OwnEncodable own) (rest : List ℕ) where
   abbrev bytesWith : List ℕ → List ℕ
   bytesWith q = own .state ∷ own .length ∷ (q ++ procedureBytes (own .procedure) ++ quadBytes (own .outputs)) ++ rest
 
@@ -65,7 +65,7 @@ module _ (own : Own) (x : OwnHeld own) (rest : List ℕ) where
       ∙ ap₂ (λ (r : Bool) (k : ℕ). record { running = r; event = p .event; index = p .index; count = k; water = p .water }) (flag-read (p .running)) (half-read (p .count) [] (x .count)))
       (quad-read (own .outputs) [] (x .outputs))
 
-own-read : (own : Own) (rest : List ℕ) → OwnHeld own → OwnRead own rest
+own-read : (own : Own) (rest : List ℕ) → OwnEncodable own → OwnRead own rest
 unfolding ownBytes bytesFrom
 own-read own rest x =
     let q : bytesFrom (own .queue) 0 8 ≡ own .queue = ap (bytesFrom (own .queue) 0) (sym (x .places)) ∙ from-all (own .queue) in

@@ -47,7 +47,7 @@ unfitOwn = record { state = 0; queue = replicate 8 0; length = 255; procedure = 
 -- ---- what is proved of them
 
 -- an own part as the code's types can hold it, without a NaN
-pub record OwnHeld (own : Own) : Type 0 where
+pub record OwnEncodable (own : Own) : Type 0 where
   pub state : Byte (own .state)
   pub queued : Byte (own .length)
   pub places : length (own .queue) ≡ 8
@@ -69,7 +69,7 @@ abbrev pub OwnWritten : List ℕ → Type 0
 OwnWritten b = ownBytes (ownOf b) ≡ bytesFrom b 0 35
 
 pub record OwnParts : Type 0 where
-  pub read : (own : Own) (rest : List ℕ) → OwnHeld own → OwnRead own rest
+  pub read : (own : Own) (rest : List ℕ) → OwnEncodable own → OwnRead own rest
   pub written : (b : List ℕ) → Bytes b → isOwn b ≡ true → OwnWritten b
   pub unfit : (rs : List Record) (m : ℕ) → ownFits rs m unfitOwn ≡ false
   -- nor is it the slot of a module that the plan lacks

@@ -29,7 +29,7 @@ use Rattle.fields.proofs.Back.{and-left, and-right, from-all, flag-written, hal
 use Rattle.own_bytes.specs.Own.{ownBytes, ownOf, isOwn}
 use Rattle.own_bytes.proofs.Writing.{length-own}
 use Rattle.own_bytes.proofs.Parts.{own-parts}
-use Rattle.party_bytes.specs.Module.{moduleBytes, moduleAt, isModule, unfitModule, ModuleHeld, ModuleParts}
+use Rattle.party_bytes.specs.Module.{moduleBytes, moduleAt, isModule, unfitModule, ModuleEncodable, ModuleParts}
 use Rattle.party_bytes.specs.Supervisor.{isOut, holderByte, holderOf, supervisorBytes, supervisorAt, isSupervisor, unfitSupervisor, SupervisorParts}
 use Rattle.party_bytes.proofs.Laws.{length-module, length-supervisor}
 
@@ -75,7 +75,7 @@ module _ (x : Module) (n : length (x .own .queue) ≡ 8) where
   bid-byte : getD (moduleBytes x) 47 0 ≡ flagByte (x .bid)
   bid-byte = sym (getD-drop 47 (moduleBytes x) 0 0) ∙ ap (λ (s : List ℕ). getD s 0 0) from-bid
 
-module-stands : (x : Module) → ModuleHeld x → isModule (moduleBytes x) ≡ true
+module-stands : (x : Module) → ModuleEncodable x → isModule (moduleBytes x) ≡ true
 unfolding isModule
 module-stands x h =
     let n : length (x .own .queue) ≡ 8 = h .own .places in
@@ -83,7 +83,7 @@ module-stands x h =
     (ap₂ _&&_ (eq-eqb (length (moduleBytes x)) 48 (length-module x n)) (ap isOwn (from-own x n) ∙ own-parts .read (x .own) (b x n ++ (c x n ++ d x n)) (h .own) .stands))
     (ap isFlag (bid-byte x n) ∙ flag-is (x .bid))
 
-module-back : (x : Module) → ModuleHeld x → moduleAt (moduleBytes x) ≡ x
+module-back : (x : Module) → ModuleEncodable x → moduleAt (moduleBytes x) ≡ x
 unfolding moduleAt
 module-back x h =
     let n : length (x .own .queue) ≡ 8 = h .own .places in

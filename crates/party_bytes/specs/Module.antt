@@ -12,7 +12,7 @@ use Rattle.roundtrip.specs.Fits.{Bytes}
 use Rattle.permits.specs.Module.{moduleFits}
 use Rattle.permits.specs.declared.Module.{Module}
 use Rattle.fields.specs.Fields.{quadBytes, quadAt, flagByte, flagOf, isFlag}
-use Rattle.own_bytes.specs.Own.{ownBytes, ownOf, isOwn, OwnHeld, unfitOwn}
+use Rattle.own_bytes.specs.Own.{ownBytes, ownOf, isOwn, OwnEncodable, unfitOwn}
 
 unfoldable pub moduleBytes : Module → List ℕ
 moduleBytes x = ownBytes (x .own) ++ quadBytes (x .held) ++ wordBytes (x .received) ++ (flagByte (x .bid) ∷ [])
@@ -37,15 +37,15 @@ moduleOf b = cond (isModule b) (moduleAt b) unfitModule
 -- ---- what is proved of them
 
 -- a module as the code's types can hold it, without a NaN
-pub record ModuleHeld (x : Module) : Type 0 where
-  pub own : OwnHeld (x .own)
+pub record ModuleEncodable (x : Module) : Type 0 where
+  pub own : OwnEncodable (x .own)
   pub held : x .held < 2 ^ 32
   pub received : x .received < 2 ^ 64
 
 pub record ModuleParts : Type 0 where
   -- decoding what was encoded gives it back
-  pub stands : (x : Module) → ModuleHeld x → isModule (moduleBytes x) ≡ true
-  pub back : (x : Module) → ModuleHeld x → moduleAt (moduleBytes x) ≡ x
+  pub stands : (x : Module) → ModuleEncodable x → isModule (moduleBytes x) ≡ true
+  pub back : (x : Module) → ModuleEncodable x → moduleAt (moduleBytes x) ≡ x
   -- and bytes that stand for a module are those of that module
   pub written : (b : List ℕ) → Bytes b → isModule b ≡ true → moduleBytes (moduleAt b) ≡ b
   pub size : (x : Module) → length (x .own .queue) ≡ 8 → length (moduleBytes x) ≡ 48

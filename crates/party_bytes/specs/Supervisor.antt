@@ -48,7 +48,7 @@ supervisorOf b = cond (isSupervisor b) (supervisorAt b) unfitSupervisor
 -- ---- what is proved of them
 
 -- a supervisor as the code's types can hold it
-pub record SupervisorHeld (y : Supervisor) : Type 0 where
+pub record SupervisorEncodable (y : Supervisor) : Type 0 where
   pub state : Byte (y .state)
   pub noted : y .noted < 2 ^ 16
   pub holder : Byte (holderByte (y .holder))
@@ -56,8 +56,8 @@ pub record SupervisorHeld (y : Supervisor) : Type 0 where
 
 pub record SupervisorParts : Type 0 where
   -- decoding what was encoded gives it back
-  pub stands : (y : Supervisor) → SupervisorHeld y → isSupervisor (supervisorBytes y) ≡ true
-  pub back : (y : Supervisor) → SupervisorHeld y → supervisorAt (supervisorBytes y) ≡ y
+  pub stands : (y : Supervisor) → SupervisorEncodable y → isSupervisor (supervisorBytes y) ≡ true
+  pub back : (y : Supervisor) → SupervisorEncodable y → supervisorAt (supervisorBytes y) ≡ y
   -- and bytes that stand for a supervisor are those of that supervisor
   pub written : (b : List ℕ) → Bytes b → isSupervisor b ≡ true → supervisorBytes (supervisorAt b) ≡ b
   pub size : (y : Supervisor) → length (supervisorBytes y) ≡ 6

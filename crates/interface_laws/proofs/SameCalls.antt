@@ -1,4 +1,4 @@
--- `AllEncoded` of specs/Encoded.antt.
+-- `SameCalls` of specs/SameCalls.antt.
 use mathlib.Core.Path.{_≡_, refl, sym, ap, _∙_}
 use mathlib.Core.Logic.{_≢_}
 use mathlib.Core.List.{List, []}
@@ -34,22 +34,22 @@ use Rattle.permits.specs.declared.Supervisor.{Supervisor}
 use Rattle.permits.specs.declared.ModuleCalled.{ModuleCalled}
 use Rattle.permits.specs.declared.SupervisorCalled.{SupervisorCalled}
 use Rattle.refusals.proofs.Refusals.{refusals}
-use Rattle.party_bytes.specs.Module.{moduleBytes, moduleOf, ModuleHeld}
-use Rattle.party_bytes.specs.Supervisor.{isOut, holderByte, supervisorBytes, SupervisorHeld}
+use Rattle.party_bytes.specs.Module.{moduleBytes, moduleOf, ModuleEncodable}
+use Rattle.party_bytes.specs.Supervisor.{isOut, holderByte, supervisorBytes, SupervisorEncodable}
 use Rattle.party_bytes.proofs.Parts.{module-parts, supervisor-parts}
-use Rattle.device_bytes.specs.Device.{deviceBytes, devicePut, deviceOf, DeviceHeld}
+use Rattle.device_bytes.specs.Device.{deviceBytes, devicePut, deviceOf, DeviceEncodable}
 use Rattle.device_bytes.proofs.Parts.{device-parts}
 use Rattle.packing.specs.Answer.{calledAnswer, turningAnswer, steppedAnswer, servedAnswer, lentAfter, startAnswer}
 use Rattle.packing.specs.Flow.{flowOf}
 use Rattle.device_interface.specs.Calls as DeviceCalls
 use Rattle.module_interface.specs.Calls as ModuleCalls
 use Rattle.supervisor_interface.specs.Calls as SupervisorCalls
-use Rattle.interface_laws.specs.Encoded.{moduleAnswer, stepAnswer, supervisorAnswer, serveAnswer, deviceAnswer, turnAnswer, AllEncoded}
+use Rattle.interface_laws.specs.SameCalls.{moduleAnswer, stepAnswer, supervisorAnswer, serveAnswer, deviceAnswer, turnAnswer, SameCalls}
 use Rattle.interface_laws.proofs.Exact.{exact}
 use Rattle.interface_laws.proofs.Kept.{over, put-over, put-device}
-use Rattle.interface_laws.proofs.OwnParts.{choose, start-held}
+use Rattle.interface_laws.proofs.OwnParts.{choose, start-encodable}
 use Rattle.interface_laws.proofs.Parties.{judged}
-use Rattle.interface_laws.proofs.Held.{all-held}
+use Rattle.interface_laws.proofs.Encodable.{all-encodable}
 
 -- the bytes `before` after a call of number n that puts the bytes `after` there: a refused call leaves the state
 after-call : (n : ℕ) (put before after : List ℕ) → put ≡ after → (n ≢ 0 → after ≡ before) → lentAfter n put before ≡ after
@@ -62,25 +62,25 @@ after-call n put before after p r = go (eqb n 0) refl
 
 -- ---- modules
 
-module _ (n : ℕ) (x z : Module) (h : ModuleHeld x) (k : ModuleHeld z) (r : n ≢ 0 → z ≡ x) where
+module _ (n : ℕ) (x z : Module) (h : ModuleEncodable x) (k : ModuleEncodable z) (r : n ≢ 0 → z ≡ x) where
   module-left : ModuleCalls.moduleAfter n z (moduleBytes x) ≡ moduleBytes z
   module-left =
       after-call n (putAt (moduleBytes z) 0 (moduleBytes x)) (moduleBytes x) (moduleBytes z)
       (put-over (moduleBytes z) (moduleBytes x) (module-parts .size z (k .own .places) ∙ sym (module-parts .size x (h .own .places)))) (λ e. ap moduleBytes (r e))
 
-module-called : (x : Module) (h : ModuleHeld x) (call : Module → ModuleCalled) → ModuleHeld (call x .state) → (calledNumber (call x .answer) ≢ 0 → call x .state ≡ x)
+module-called : (x : Module) (h : ModuleEncodable x) (call : Module → ModuleCalled) → ModuleEncodable (call x .state) → (calledNumber (call x .answer) ≢ 0 → call x .state ≡ x)
     → ModuleCalls.calledOn (call (moduleOf (moduleBytes x))) (moduleBytes x) ≡ moduleAnswer (call x)
 module-called x h call k r =
     ap (λ (y : Module). ModuleCalls.calledOn (call y) (moduleBytes x)) (exact .module-again x h)
     ∙ ap (λ (s : List ℕ). record { number = calledAnswer (call x .answer); state = s; buffer = [] }) (module-left (calledNumber (call x .answer)) x (call x .state) h k r)
 
-module-stepped : (image : List ℕ) (m : ℕ) (x : Module) (b : List ℕ) → ModuleHeld x → ModuleCalls.stepBytes image (moduleBytes x) m b ≡ stepAnswer (moduleStep image m x b)
+module-stepped : (image : List ℕ) (m : ℕ) (x : Module) (b : List ℕ) → ModuleEncodable x → ModuleCalls.stepBytes image (moduleBytes x) m b ≡ stepAnswer (moduleStep image m x b)
 unfolding ModuleCalls.stepBytes
 module-stepped image m x b h =
     let c : StepCall = moduleStep image m x b in
     ap (λ (y : Module). ModuleCalls.stepOn (moduleStep image m y b) (moduleBytes x)) (exact .module-again x h)
     ∙ ap (λ (s : List ℕ). record { number = steppedAnswer (c .answer); state = s; buffer = c .buffer })
-    (module-left (steppedNumber (c .answer)) x (c .state) h (all-held .moduleStep image m x b h) (refusals .modules .step image m x b .state))
+    (module-left (steppedNumber (c .answer)) x (c .state) h (all-encodable .moduleStep image m x b h) (refusals .modules .step image m x b .state))
 
 -- ---- supervisors
 
@@ -90,14 +90,14 @@ module _ (n : ℕ) (y z : Supervisor) (r : n ≢ 0 → z ≡ y) where
       after-call n (putAt (supervisorBytes z) 0 (supervisorBytes y)) (supervisorBytes y) (supervisorBytes z)
       (put-over (supervisorBytes z) (supervisorBytes y) (supervisor-parts .size z ∙ sym (supervisor-parts .size y))) (λ e. ap supervisorBytes (r e))
 
-supervisor-called : (image : List ℕ) (v : ℕ) (y : Supervisor) (g : List ℕ) → SupervisorHeld y → SupervisorCalls.deliverBytes image (supervisorBytes y) v g ≡ supervisorAnswer (supervisorDeliver image v y g)
+supervisor-called : (image : List ℕ) (v : ℕ) (y : Supervisor) (g : List ℕ) → SupervisorEncodable y → SupervisorCalls.deliverBytes image (supervisorBytes y) v g ≡ supervisorAnswer (supervisorDeliver image v y g)
 unfolding SupervisorCalls.deliverBytes
 supervisor-called image v y g h =
     let c : SupervisorCalled = supervisorDeliver image v y g in
     ap (λ (z : Supervisor). SupervisorCalls.calledOn (supervisorDeliver image v z g) (supervisorBytes y)) (exact .supervisor-again y h)
     ∙ ap (λ (s : List ℕ). record { number = calledAnswer (c .answer); state = s; buffer = [] }) (supervisor-left (calledNumber (c .answer)) y (c .state) (refusals .supervisors .deliver image v y g .state))
 
-supervisor-stepped : (image : List ℕ) (v : ℕ) (y : Supervisor) (b : List ℕ) → SupervisorHeld y → SupervisorCalls.stepBytes image (supervisorBytes y) v b ≡ serveAnswer (supervisorStep image v y b)
+supervisor-stepped : (image : List ℕ) (v : ℕ) (y : Supervisor) (b : List ℕ) → SupervisorEncodable y → SupervisorCalls.stepBytes image (supervisorBytes y) v b ≡ serveAnswer (supervisorStep image v y b)
 unfolding SupervisorCalls.stepBytes
 supervisor-stepped image v y b h =
     let c : ServeCall = supervisorStep image v y b in
@@ -107,25 +107,25 @@ supervisor-stepped image v y b h =
 
 -- ---- one device
 
-module _ (n : ℕ) (d z : Device) (h : DeviceHeld d) (k : DeviceHeld z) (r : n ≢ 0 → z ≡ d) where
+module _ (n : ℕ) (d z : Device) (h : DeviceEncodable d) (k : DeviceEncodable z) (r : n ≢ 0 → z ≡ d) where
   device-left : DeviceCalls.deviceAfter n z (deviceBytes d) ≡ deviceBytes z
   device-left =
       after-call n (devicePut z (deviceBytes d)) (deviceBytes d) (deviceBytes z)
       (put-device z (deviceBytes d) (device-parts .size d h) (device-parts .size z k)) (λ e. ap deviceBytes (r e))
 
-device-called : (d : Device) (h : DeviceHeld d) (call : Device → DeviceCalled) → DeviceHeld (call d .device) → (calledNumber (call d .answer) ≢ 0 → call d .device ≡ d)
+device-called : (d : Device) (h : DeviceEncodable d) (call : Device → DeviceCalled) → DeviceEncodable (call d .device) → (calledNumber (call d .answer) ≢ 0 → call d .device ≡ d)
     → DeviceCalls.calledOn (call (deviceOf (deviceBytes d))) (deviceBytes d) ≡ deviceAnswer (call d)
 device-called d h call k r =
     ap (λ (y : Device). DeviceCalls.calledOn (call y) (deviceBytes d)) (exact .device-again d h)
     ∙ ap (λ (s : List ℕ). record { number = calledAnswer (call d .answer); state = s; buffer = [] }) (device-left (calledNumber (call d .answer)) d (call d .device) h k r)
 
-device-turned : (image : List ℕ) (d : Device) (m : ℕ) → DeviceHeld d → DeviceCalls.turnBytes image (deviceBytes d) m ≡ turnAnswer (turnCall image d m)
+device-turned : (image : List ℕ) (d : Device) (m : ℕ) → DeviceEncodable d → DeviceCalls.turnBytes image (deviceBytes d) m ≡ turnAnswer (turnCall image d m)
 unfolding DeviceCalls.turnBytes
 device-turned image d m h =
     let c : DeviceTurned = turnCall image d m in
     ap (λ (z : Device). DeviceCalls.turnedOn (turnCall image z m) (deviceBytes d)) (exact .device-again d h)
     ∙ ap (λ (s : List ℕ). record { number = turningAnswer (c .answer); state = s; buffer = [] })
-    (device-left (turningNumber (c .answer)) d (c .device) h (all-held .deviceTurn image d m h) (refusals .device .turn image d m .state))
+    (device-left (turningNumber (c .answer)) d (c .device) h (all-encodable .deviceTurn image d m h) (refusals .device .turn image d m .state))
 
 -- ---- starts
 
@@ -153,7 +153,7 @@ unfolding ModuleCalls.startBytes M.startBy startAnswer
 module-zeros image m =
     judged image (λ v. Zeros (M.startBy v (recordsOf image) m))
     (λ plan. choose Zeros (ltb m (modulesOf (recordsOf image))) _ _
-    (λ l. started 48 Done (moduleBytes (M.startModule (recordsOf image) m)) (replicate 48 0) refl refl (module-parts .size (M.startModule (recordsOf image) m) (start-held (recordsOf image) plan m (ltb-true m (modulesOf (recordsOf image)) l) .places)))
+    (λ l. started 48 Done (moduleBytes (M.startModule (recordsOf image) m)) (replicate 48 0) refl refl (module-parts .size (M.startModule (recordsOf image) m) (start-encodable (recordsOf image) plan m (ltb-true m (modulesOf (recordsOf image)) l) .places)))
     (λ l. module-zero))
     (λ n o. module-zero)
   where
@@ -172,29 +172,29 @@ supervisor-zeros image v =
     Zeros : SupervisorCalled → Type 0
     Zeros c = startAnswer 6 (c .answer) (supervisorBytes (c .state)) (replicate 6 0) .buffer ≡ supervisorBytes (c .state)
 
-pub all-encoded : AllEncoded
-all-encoded =
+pub same-calls : SameCalls
+same-calls =
     record {
       moduleStep = module-stepped;
       moduleDeliver = λ image m x g b h. unfold ModuleCalls.deliverBytes in
-          module-called x h (λ y. M.moduleDeliver image m y g) (all-held .moduleDeliver image m x g b h) (refusals .modules .deliver image m x g .state);
+          module-called x h (λ y. M.moduleDeliver image m y g) (all-encodable .moduleDeliver image m x g b h) (refusals .modules .deliver image m x g .state);
       moduleRespond = λ image m x e h. unfold ModuleCalls.respondBytes in
-          module-called x h (λ y. M.moduleRespond image m y e) (all-held .moduleRespond image m x e h) (refusals .modules .respond image m x e .state);
+          module-called x h (λ y. M.moduleRespond image m y e) (all-encodable .moduleRespond image m x e h) (refusals .modules .respond image m x e .state);
       moduleTick = λ image m x s l h. unfold ModuleCalls.tickBytes in
-          module-called x h (λ y. M.moduleTick image m y (flowOf s l)) (all-held .moduleTick image m x (flowOf s l) h) (refusals .modules .tick image m x (flowOf s l) .state);
+          module-called x h (λ y. M.moduleTick image m y (flowOf s l)) (all-encodable .moduleTick image m x (flowOf s l) h) (refusals .modules .tick image m x (flowOf s l) .state);
       supervisorStep = supervisor-stepped;
       supervisorDeliver = supervisor-called;
       deviceTurn = device-turned;
       deviceRespond = λ image d m e h. unfold DeviceCalls.respondBytes in
-          device-called d h (λ z. respondCall image z m e) (all-held .deviceRespond image d m e h) (refusals .device .respond image d m e .state);
+          device-called d h (λ z. respondCall image z m e) (all-encodable .deviceRespond image d m e h) (refusals .device .respond image d m e .state);
       deviceTick = λ image d m s l h. unfold DeviceCalls.tickBytes in
-          device-called d h (λ z. tickCall image z m (flowOf s l)) (all-held .deviceTick image d m (flowOf s l) h) (refusals .device .tick image d m (flowOf s l) .state);
+          device-called d h (λ z. tickCall image z m (flowOf s l)) (all-encodable .deviceTick image d m (flowOf s l) h) (refusals .device .tick image d m (flowOf s l) .state);
       moduleStart = λ image m l e d. unfold ModuleCalls.startBytes in
-          started 48 (M.moduleStart image m .answer) (moduleBytes (M.moduleStart image m .state)) l d e (module-parts .size (M.moduleStart image m .state) (all-held .moduleStart image m .own .places));
+          started 48 (M.moduleStart image m .answer) (moduleBytes (M.moduleStart image m .state)) l d e (module-parts .size (M.moduleStart image m .state) (all-encodable .moduleStart image m .own .places));
       supervisorStart = λ image v l e d. unfold SupervisorCalls.startBytes in
           started 6 (S.supervisorStart image v .answer) (supervisorBytes (S.supervisorStart image v .state)) l d e (supervisor-parts .size (S.supervisorStart image v .state));
       deviceStart = λ image l e d. unfold DeviceCalls.startBytes in
-          started 592 (startCall image .answer) (deviceBytes (startCall image .device)) l d e (device-parts .size (startCall image .device) (all-held .deviceStart image));
+          started 592 (startCall image .answer) (deviceBytes (startCall image .device)) l d e (device-parts .size (startCall image .device) (all-encodable .deviceStart image));
       moduleZeros = module-zeros;
       supervisorZeros = supervisor-zeros;
     }

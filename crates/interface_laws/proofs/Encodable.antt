@@ -1,10 +1,10 @@
--- `AllHeld` of specs/Held.antt.
-use Rattle.interface_laws.specs.Held.{AllHeld}
+-- `AllEncodable` of specs/Encodable.antt.
+use Rattle.interface_laws.specs.Encodable.{AllEncodable}
 use Rattle.interface_laws.proofs.Parties.{module-started, module-stepped, module-delivered, module-responded, module-ticked, supervisor-started, supervisor-stepped, supervisor-delivered}
 use Rattle.interface_laws.proofs.Devices.{device-started, device-turned, device-responded, device-ticked}
 
-pub all-held : AllHeld
-all-held =
+pub all-encodable : AllEncodable
+all-encodable =
     record {
       moduleStart = module-started;
       moduleStep = λ image m x b h. module-stepped image m x h b;

@@ -1,4 +1,4 @@
--- A call over bytes is the call on the state that they are. Given the bytes of a state that they can hold, it gives the number of the call's
+-- A call over bytes is the call on the state that they are. Given the bytes of a state that can be encoded, it gives the number of the call's
 -- answer, the bytes of the state that the call leaves and its buffer, for every image and every argument, refused or not. A message is a list of
 -- bytes.
 use Prim.Native.Nat.{ℕ}
@@ -18,9 +18,9 @@ use Rattle.permits.specs.declared.Module.{Module}
 use Rattle.permits.specs.declared.Supervisor.{Supervisor}
 use Rattle.permits.specs.declared.ModuleCalled.{ModuleCalled}
 use Rattle.permits.specs.declared.SupervisorCalled.{SupervisorCalled}
-use Rattle.party_bytes.specs.Module.{moduleBytes, ModuleHeld}
-use Rattle.party_bytes.specs.Supervisor.{supervisorBytes, SupervisorHeld}
-use Rattle.device_bytes.specs.Device.{deviceBytes, DeviceHeld}
+use Rattle.party_bytes.specs.Module.{moduleBytes, ModuleEncodable}
+use Rattle.party_bytes.specs.Supervisor.{supervisorBytes, SupervisorEncodable}
+use Rattle.device_bytes.specs.Device.{deviceBytes, DeviceEncodable}
 use Rattle.packing.specs.Answer.{Answer, calledAnswer, turningAnswer, steppedAnswer, servedAnswer}
 use Rattle.packing.specs.Flow.{flowOf}
 use Rattle.device_interface.specs.Calls as DeviceCalls
@@ -46,24 +46,24 @@ deviceAnswer c = record { number = calledAnswer (c .answer); state = deviceBytes
 abbrev pub turnAnswer : DeviceTurned → Answer
 turnAnswer c = record { number = turningAnswer (c .answer); state = deviceBytes (c .device); buffer = [] }
 
-pub record AllEncoded : Type 0 where
-  pub moduleStep : (image : List ℕ) (m : ℕ) (x : Module) (b : List ℕ) → ModuleHeld x
+pub record SameCalls : Type 0 where
+  pub moduleStep : (image : List ℕ) (m : ℕ) (x : Module) (b : List ℕ) → ModuleEncodable x
       → ModuleCalls.stepBytes image (moduleBytes x) m b ≡ stepAnswer (M.moduleStep image m x b)
-  pub moduleDeliver : (image : List ℕ) (m : ℕ) (x : Module) (g : List ℕ) → Bytes g → ModuleHeld x
+  pub moduleDeliver : (image : List ℕ) (m : ℕ) (x : Module) (g : List ℕ) → Bytes g → ModuleEncodable x
       → ModuleCalls.deliverBytes image (moduleBytes x) m g ≡ moduleAnswer (M.moduleDeliver image m x g)
-  pub moduleRespond : (image : List ℕ) (m : ℕ) (x : Module) (e : ℕ) → ModuleHeld x
+  pub moduleRespond : (image : List ℕ) (m : ℕ) (x : Module) (e : ℕ) → ModuleEncodable x
       → ModuleCalls.respondBytes image (moduleBytes x) m e ≡ moduleAnswer (M.moduleRespond image m x e)
-  pub moduleTick : (image : List ℕ) (m : ℕ) (x : Module) (s : ℕ) (l : Float) → ModuleHeld x
+  pub moduleTick : (image : List ℕ) (m : ℕ) (x : Module) (s : ℕ) (l : Float) → ModuleEncodable x
       → ModuleCalls.tickBytes image (moduleBytes x) m s l ≡ moduleAnswer (M.moduleTick image m x (flowOf s l))
-  pub supervisorStep : (image : List ℕ) (v : ℕ) (y : Supervisor) (b : List ℕ) → SupervisorHeld y
+  pub supervisorStep : (image : List ℕ) (v : ℕ) (y : Supervisor) (b : List ℕ) → SupervisorEncodable y
       → SupervisorCalls.stepBytes image (supervisorBytes y) v b ≡ serveAnswer (S.supervisorStep image v y b)
-  pub supervisorDeliver : (image : List ℕ) (v : ℕ) (y : Supervisor) (g : List ℕ) → SupervisorHeld y
+  pub supervisorDeliver : (image : List ℕ) (v : ℕ) (y : Supervisor) (g : List ℕ) → SupervisorEncodable y
       → SupervisorCalls.deliverBytes image (supervisorBytes y) v g ≡ supervisorAnswer (S.supervisorDeliver image v y g)
-  pub deviceTurn : (image : List ℕ) (d : Device) (m : ℕ) → DeviceHeld d
+  pub deviceTurn : (image : List ℕ) (d : Device) (m : ℕ) → DeviceEncodable d
       → DeviceCalls.turnBytes image (deviceBytes d) m ≡ turnAnswer (turnCall image d m)
-  pub deviceRespond : (image : List ℕ) (d : Device) (m e : ℕ) → DeviceHeld d
+  pub deviceRespond : (image : List ℕ) (d : Device) (m e : ℕ) → DeviceEncodable d
       → DeviceCalls.respondBytes image (deviceBytes d) m e ≡ deviceAnswer (respondCall image d m e)
-  pub deviceTick : (image : List ℕ) (d : Device) (m s : ℕ) (l : Float) → DeviceHeld d
+  pub deviceTick : (image : List ℕ) (d : Device) (m s : ℕ) (l : Float) → DeviceEncodable d
       → DeviceCalls.tickBytes image (deviceBytes d) m s l ≡ deviceAnswer (tickCall image d m (flowOf s l))
   -- an accepted start writes the starting state, whatever stood there
   pub moduleStart : (image : List ℕ) (m : ℕ) (l : List ℕ) → length l ≡ 48 → M.moduleStart image m .answer ≡ Done
