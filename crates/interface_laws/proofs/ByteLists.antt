@@ -8,7 +8,7 @@ use lib.Dec.{lit<}
 use Rattle.roundtrip.specs.Fits.{Byte, Bytes}
 use Rattle.words.specs.Word.{wordBytes}
 use Rattle.fields.specs.Fields.{halfBytes, quadBytes, flagByte}
-use Rattle.supervisor_records.specs.Looks.{listFrom}
+use Rattle.plan.specs.Lists.{listFrom}
 
 pub bytes-none : Bytes []
 bytes-none zero = lit< tt
