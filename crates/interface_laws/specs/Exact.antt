@@ -1,4 +1,5 @@
--- What is read from bytes that stand for a state has no NaN and numbers within the code's types. With `stands`, `back` and `written` of the crates below, encoding and decoding are inverse to each other.
+-- What is read from bytes that stand for a state has no NaN and numbers within the code's types. With `stands`, `back` and `written` of the crates
+-- below, encoding and decoding are inverse to each other.
 use mathlib.Core.Path.{_≡_}
 use mathlib.Core.List.{List}
 use mathlib.Core.Bool.{true}
