@@ -95,31 +95,7 @@ seen s i = go (leb (length s) i) (eqb (bodyLen (getD s i 0)) noLen) (leb (bodyLe
         record { inside = h; known = eqb-false _ _ q; next = refl; fits = omega arith; is = refl }
     go false false false p q r = leb-false _ _ p
 
--- what a shape tells: the kind, and the read
-pub shape-kind : ℕ → Shape → ℕ
-shape-kind d (WholeThere k b n) = k
-shape-kind d UnknownThere = d
-shape-kind d CutThere = d
-shape-kind d NothingThere = d
-
-module _ (s : List ℕ) (i : ℕ) where
-  kind-of-shape : shape-kind (getD s i 0) (shapeAt s i) ≡ getD s i 0
-  unfolding shapeAt shape-kind
-  kind-of-shape = go (leb (length s) i) (eqb (bodyLen (getD s i 0)) noLen) (leb (bodyLen (getD s i 0)) (length s - (i + 1)))
-    where
-      shape : Bool → Bool → Bool → Shape
-      shape a u w = cond a NothingThere (cond u UnknownThere (cond w (WholeThere (getD s i 0) (i + 1) (i + 1 + bodyLen (getD s i 0))) CutThere))
-
-      go : (a u w : Bool) → shape-kind (getD s i 0) (shape a u w) ≡ getD s i 0
-      go true u w = refl
-      go false true w = refl
-      go false false true = refl
-      go false false false = refl
-
-  pub kind-there : {k b n : ℕ} → shapeAt s i ≡ WholeThere k b n → k ≡ getD s i 0
-  unfolding shape-kind
-  kind-there e = sym (ap (shape-kind (getD s i 0)) e) ∙ kind-of-shape
-
+-- what a shape tells of the read
 pub reads-by : (s : List ℕ) (i : ℕ) {x : Shape} → x ≡ shapeAt s i → readAt s i ≡ readBy s x
 unfolding readAt
 reads-by s i e = ap (readBy s) (sym e)
@@ -183,21 +159,6 @@ module _ (s : List ℕ) (i : ℕ) {r : Read} where
   pub less-by : {t : Record} (n : ℕ) → r ≡ readAt s i → r ≡ Whole t n → length s - n < length s - i
   less-by n e g = let w = told-by e g in omega arith
 
-  pub records-by : {t : Record} {n : ℕ} → r ≡ readAt s i → r ≡ Whole t n → recordsIn (walkFrom s i) ≡ t ∷ recordsIn (walkFrom s n)
-  unfolding recordsIn
-  records-by e g = ap recordsIn (walks-by e g)
-
-  pub no-records-by : r ≡ readAt s i → OneOf (1 ∷ 2 ∷ 3 ∷ []) (tagOf the-type r) → recordsIn (walkFrom s i) ≡ []
-  unfolding recordsIn
-  no-records-by e t = ap recordsIn (walks s i ∙ ap (next s i) (sym e)) ∙ none r t
-    where
-      none : (r : Read) → OneOf (1 ∷ 2 ∷ 3 ∷ []) (tagOf the-type r) → recordsIn (next s i r) ≡ []
-      none (Whole t n) o = absurd (miss (1 ∷ 2 ∷ 3 ∷ []) 0 tt o)
-      none Unknown o = refl
-      none Cut o = refl
-      none Nothing o = refl
-
--- a whole record, forwards
 pub reads-whole : (s : List ℕ) (i : ℕ) → i < length s → (bodyLen (getD s i 0) ≡ noLen → ⊥) → bodyLen (getD s i 0) ≤ length s - (i + 1)
     → readAt s i ≡ Whole (recordOf (getD s i 0) (drop (i + 1) s)) (i + 1 + bodyLen (getD s i 0))
 reads-whole s i h u w = reads-by s i (sym (shapes-whole s i h u w))
@@ -206,12 +167,6 @@ reads-whole s i h u w = reads-by s i (sym (shapes-whole s i h u w))
 module _ (s : List ℕ) (i : ℕ) {x : Shape} where
   pub read-there : {k b n : ℕ} → x ≡ shapeAt s i → x ≡ WholeThere k b n → readAt s i ≡ Whole (recordOf k (drop b s)) n
   read-there e g = reads-by s i e ∙ ap (readBy s) g
-
-  pub known-there : {k b n : ℕ} → x ≡ shapeAt s i → x ≡ WholeThere k b n → bodyLen k ≡ noLen → ⊥
-  known-there e g z = told-by s i refl (read-there e g) .known (ap bodyLen (sym (kind-there s i (sym e ∙ g))) ∙ z)
-
-  pub less-there : {k b : ℕ} (n : ℕ) → x ≡ shapeAt s i → x ≡ WholeThere k b n → length s - n < length s - i
-  less-there n e g = less-by s i n refl (read-there e g)
 
   pub whole-there : {k b n : ℕ} {r : Record} → x ≡ shapeAt s i → x ≡ WholeThere k b n → r ≡ recordOf k (drop b s) → Whole r n ≡ readAt s i
   whole-there {n = n} e g f = ap (λ (y : Record). Whole y n) f ∙ sym (read-there e g)
@@ -254,58 +209,3 @@ kind-kept k b h =
     go false false false false false false false true a8 e0 e1 e2 e3 e4 e5 e6 e7 e8 h = sym (eqb-true _ _ e7)
     go false false false false false false false false true e0 e1 e2 e3 e4 e5 e6 e7 e8 h = sym (eqb-true _ _ e8)
     go false false false false false false false false false e0 e1 e2 e3 e4 e5 e6 e7 e8 h = absurd (h refl)
-
--- the records from i, by what a caller of `shape_at` is told, also where it reads the record at the same offset
-module _ (s : List ℕ) (i : ℕ) {x : Shape} where
-  pub records-there : {k b n : ℕ} → x ≡ shapeAt s i → x ≡ WholeThere k b n → recordsIn (walkFrom s i) ≡ recordOf k (drop b s) ∷ recordsIn (walkFrom s n)
-  records-there e g = records-by s i refl (read-there s i e g)
-
-  pub kind-in-there : {k b n : ℕ} → x ≡ shapeAt s i → x ≡ WholeThere k b n → keyOf (recordOf k (drop b s)) .kind ≡ k
-  kind-in-there {k = k} {b = b} e g = kind-kept k (drop b s) (known-there s i e g)
-
-  pub no-records-there : x ≡ shapeAt s i → OneOf (1 ∷ 2 ∷ 3 ∷ []) (tagOf shape-type x) → recordsIn (walkFrom s i) ≡ []
-  unfolding recordsIn
-  no-records-there e t = ap recordsIn (walks s i ∙ ap (next s i) (reads-by s i e)) ∙ none x t
-    where
-      none : (z : Shape) → OneOf (1 ∷ 2 ∷ 3 ∷ []) (tagOf shape-type z) → recordsIn (next s i (readBy s z)) ≡ []
-      none (WholeThere k b n) o = absurd (miss (1 ∷ 2 ∷ 3 ∷ []) 0 tt o)
-      none UnknownThere o = refl
-      none CutThere o = refl
-      none NothingThere o = refl
-
-  module _ {k b n m : ℕ} {y : Read} {r : Record} (e : x ≡ shapeAt s i) (g : x ≡ WholeThere k b n) (f : y ≡ readAt s i) (h : y ≡ Whole r m) where
-    pub read-is-there : r ≡ recordOf k (drop b s)
-    read-is-there = told-by s i f h .is ∙ sym (told-by s i refl (read-there s i e g) .is)
-
-    pub records-read-there : recordsIn (walkFrom s i) ≡ r ∷ recordsIn (walkFrom s n)
-    records-read-there = records-there e g ∙ ap (λ (z : Record). z ∷ recordsIn (walkFrom s n)) (sym read-is-there)
-
-    pub kind-read-there : keyOf r .kind ≡ k
-    kind-read-there = ap (λ (z : Record). keyOf z .kind) read-is-there ∙ kind-in-there e g
-
--- a look-up among the records from i, by the same
-module _ (p : RecordKey) (s : List ℕ) (i : ℕ) {x : Shape} {y : Found} where
-  pub finds-by : {k b n : ℕ} {r : Record} {q : RecordKey} {t : Bool} → x ≡ shapeAt s i → x ≡ WholeThere k b n → q ≡ keyOf (recordOf k (drop b s))
-      → t ≡ sameKey q p → t ≡ true → r ≡ recordOf k (drop b s) → findIn p (recordsIn (walkFrom s i)) ≡ y → It r ≡ y
-  unfolding findIn
-  finds-by {k = k} {b = b} e g h m f w v =
-      let a : sameKey (keyOf (recordOf k (drop b s))) p ≡ true = cc in
-      ap It w ∙ sym (ap (findIn p) (records-there s i e g) ∙ simp a) ∙ v
-
-  pub again-by : {k b : ℕ} (n : ℕ) {q : RecordKey} {t : Bool} → x ≡ shapeAt s i → x ≡ WholeThere k b n → q ≡ keyOf (recordOf k (drop b s))
-      → t ≡ sameKey q p → t ≡ false → findIn p (recordsIn (walkFrom s i)) ≡ y → findIn p (recordsIn (walkFrom s n)) ≡ y
-  unfolding findIn
-  again-by {k = k} {b = b} n e g h m f v =
-      let a : sameKey (keyOf (recordOf k (drop b s))) p ≡ false = cc in
-      sym (ap (findIn p) (records-there s i e g) ∙ simp a) ∙ v
-
-  pub passes-by : {k b : ℕ} (n : ℕ) → x ≡ shapeAt s i → x ≡ WholeThere k b n → (k ≡ p .kind → ⊥) → findIn p (recordsIn (walkFrom s i)) ≡ y
-      → findIn p (recordsIn (walkFrom s n)) ≡ y
-  unfolding sameKey
-  passes-by {k = k} {b = b} n e g d v =
-      let a : sameKey (keyOf (recordOf k (drop b s))) p ≡ false = simp (ne-eqb _ _ (λ z. d (sym (kind-in-there s i e g) ∙ z))) in
-      again-by n e g refl refl a v
-
-  pub missing-by : x ≡ shapeAt s i → OneOf (1 ∷ 2 ∷ 3 ∷ []) (tagOf shape-type x) → findIn p (recordsIn (walkFrom s i)) ≡ y → Missing ≡ y
-  unfolding findIn
-  missing-by e t v = sym (ap (findIn p) (no-records-there s i e t)) ∙ v

@@ -1,11 +1,9 @@
-// The reader of records by slice and offset, and the look-up by kind and key.
+// The reader of records by slice and offset.
 ghost use mathlib.Core.Path.{_≡_};
 ghost use Prim.Native.Nat.{_≤_};
 ghost use lib.ListN.{length, drop};
 ghost use Rattle.records.specs.Key.{keyBy, keyOf};
 ghost use Rattle.reader.specs.Read.{recordOf, shapeAt, readAt};
-ghost use Rattle.reader.specs.Find.{findIn};
-ghost use Rattle.reader.specs.Walk.{recordsOf};
 use records::Record;
 use records::RecordKey;
 
@@ -137,6 +135,7 @@ pub fn read_at(s: &[u8], at: usize) -> Read
     }
 }
 
+// What a look-up by kind and key finds.
 pub enum Found {
     It(Record),
     Missing,
@@ -171,24 +170,5 @@ pub fn key_at(kind: u8, s: &[u8], b: usize) -> RecordKey
         0x16 => key_by(0x16, first, second, 0),
         0x17 => key_by(0x17, first, second, 0),
         _ => key_by(0x1f, 0, 0, 0),
-    }
-}
-
-// The first record with a kind and key, as far as the image can be read, also after an end record; in an accepted plan the end
-// record is the last. The keys of the kind alone are compared, and only the record found is read whole.
-pub fn find(s: &[u8], key: RecordKey) -> Found
-    ensures { λ r. ⌜ r ≡ findIn key (recordsOf (now (s .entry))) ⌝ }
-{
-    let mut i: usize = 0;
-    loop {
-        let Shape::Whole(k, b, next) = shape_at(s, i) else {
-            return Found::Missing;
-        };
-        if k == key.kind {
-            if records::same_key(key_at(k, s, b), key) {
-                return Found::It(record_of(k, s, b));
-            }
-        }
-        i = next;
     }
 }
