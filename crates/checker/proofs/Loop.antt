@@ -39,9 +39,9 @@ use Rattle.checker.specs.declared.Fields.{Fields}
 use Rattle.checker.specs.declared.Examined.{Examined}
 use Rattle.checker.specs.declared.Examined.the-variants.{Accepted, Refused}
 use Rattle.checker.specs.Examined.{examinedBy, examinedOf}
-use Rattle.checker.specs.Stretch.{checkBy, Reached, Stretch, Passed, contextBy, eventsBy, modulesBy, supervisorsBy, headed}
+use Rattle.checker.specs.Stretch.{checkBy, Reached, Stretch, Passed, notedPast, contextBy, eventsBy, modulesBy, supervisorsBy, headed}
 use Rattle.checker.specs.Stretch.{atEvents, atModules, atModuleMoves, atSupervisors, atDisablings, atSteps, standsAt, fieldsAt, endKept}
-use Rattle.checker.proofs.Stretch.{both, stands-there, reads-whole, reads-head}
+use Rattle.checker.proofs.Stretch.{both, stands-there, reads-whole, reads-head, noted-past}
 
 agree : (n : ℕ) (rs : List Record) (w : Walk) → Valid rs → checkBy n (contextOf rs) w ≡ checkWalk n rs w
 unfolding checkBy checkWalk contextOf Valid
@@ -137,25 +137,26 @@ head-by s {f = f} l e h g i z =
     (begins s refl refl l)
 
 -- past a stretch
-pub past : (s : List ℕ) (k : ℕ) {c d : Context} {i j : ℕ} {p q : Places} → Stretch s k c i d j → q ≡ notedAt p (c .last .kind) (d .last .kind) i → Reached s c i p → Reached s d j q
+pub past : (s : List ℕ) (k : ℕ) {c d : Context} {i j : ℕ} {p q : Places} → Stretch s k c i d j → q ≡ notedPast p (c .last .kind) k i j → Reached s c i p → Reached s d j q
 past s k {c} {d} {i} {j} {p} {q} h e r =
     record {
       checked = h .same ∙ r .checked;
-      noted = ap (λ (a : Places). notedIn a (d .last .kind) (walkFrom s j)) e ∙ h .notes p ∙ r .noted;
+      noted =
+          ap (λ (a : Places). notedIn a (d .last .kind) (walkFrom s j)) (e ∙ noted-past p (c .last .kind) (d .last .kind) k i j (h .some)) ∙ h .notes p ∙ r .noted;
     }
 
 -- ---- all stretches
 
-pub noted-from : (a k i : ℕ) (o : Places) {p q : Places} → q ≡ notedAt p a k i → p ≡ o → q ≡ notedAt o a k i
-noted-from a k i o e f = e ∙ ap (λ (x : Places). notedAt x a k i) f
+pub noted-from : (a k i j : ℕ) (o : Places) {p q : Places} → q ≡ notedPast p a k i j → p ≡ o → q ≡ notedPast o a k i j
+noted-from a k i j o e f = e ∙ ap (λ (x : Places). notedPast x a k i j) f
 
 module _ (s : List ℕ) (n : Counts) (known controllable : ℕ) (owner steps : List ℕ) where
   -- from the head on
   pub after-three : (q eq mq vq : RecordKey) (i e m v : ℕ) (vs : Supervisors) (modules : ℕ) (owner₀ states₀ states : List ℕ) {p ep mp vp : Places}
       → Reached s (contextBy q n (eventsBy 0 0 owner₀ steps) (modulesBy 0 states₀) vs) i p
-      → Passed s 0x11 (atEvents q n 0 0 owner₀) i (atEvents eq n known controllable owner) e → ep ≡ notedAt p (q .kind) (eq .kind) i
-      → Passed s 0x12 (atModules eq n 0 states₀) e (atModules mq n modules states) m → mp ≡ notedAt ep (eq .kind) (mq .kind) e
-      → Passed s 0x13 (atModuleMoves mq n known owner modules states) m (atModuleMoves vq n known owner modules states) v → vp ≡ notedAt mp (mq .kind) (vq .kind) m
+      → Passed s 0x11 (atEvents q n 0 0 owner₀) i (atEvents eq n known controllable owner) e → ep ≡ notedPast p (q .kind) 0x11 i e
+      → Passed s 0x12 (atModules eq n 0 states₀) e (atModules mq n modules states) m → mp ≡ notedPast ep (eq .kind) 0x12 e m
+      → Passed s 0x13 (atModuleMoves mq n known owner modules states) m (atModuleMoves vq n known owner modules states) v → vp ≡ notedPast mp (mq .kind) 0x13 m v
       → Reached s (contextBy vq n (eventsBy known controllable owner steps) (modulesBy modules states) vs) v vp
   unfolding Passed atEvents atModules atModuleMoves
   after-three q eq mq vq i e m v vs modules owner₀ states₀ states h a x b y c z =
@@ -166,12 +167,12 @@ module _ (s : List ℕ) (n : Counts) (known controllable : ℕ) (owner steps : L
   -- from the supervisors on
   pub after-seven : (q vq mq dq sq : RecordKey) (i v m d x : ℕ) (ms : Modules) (supervisors : ℕ) (states₀ alphabet₀ states alphabet counts : List ℕ) {p vp mp dp sp : Places}
       → Reached s (contextBy q n (eventsBy known controllable owner steps) ms (supervisorsBy 0 states₀ alphabet₀)) i p
-      → Passed s 0x14 (atSupervisors q n known 0 states₀ alphabet₀) i (atSupervisors vq n known supervisors states alphabet) v → vp ≡ notedAt p (q .kind) (vq .kind) i
+      → Passed s 0x14 (atSupervisors q n known 0 states₀ alphabet₀) i (atSupervisors vq n known supervisors states alphabet) v → vp ≡ notedPast p (q .kind) 0x14 i v
       → Passed s 0x15 (atSupervisors vq n known supervisors states alphabet) v (atSupervisors mq n known supervisors states alphabet) m
-      → mp ≡ notedAt vp (vq .kind) (mq .kind) v
+      → mp ≡ notedPast vp (vq .kind) 0x15 v m
       → Passed s 0x16 (atDisablings mq n known controllable supervisors states alphabet) m (atDisablings dq n known controllable supervisors states alphabet) d
-      → dp ≡ notedAt mp (mq .kind) (dq .kind) m
-      → Passed s 0x17 (atSteps dq n known controllable owner steps) d (atSteps sq n known controllable owner counts) x → sp ≡ notedAt dp (dq .kind) (sq .kind) d
+      → dp ≡ notedPast mp (mq .kind) 0x16 m d
+      → Passed s 0x17 (atSteps dq n known controllable owner steps) d (atSteps sq n known controllable owner counts) x → sp ≡ notedPast dp (dq .kind) 0x17 d x
       → Reached s (contextBy sq n (eventsBy known controllable owner counts) ms (supervisorsBy supervisors states alphabet)) x sp
   unfolding Passed atSupervisors atDisablings atSteps
   after-seven q vq mq dq sq i v m t x ms supervisors states₀ alphabet₀ states alphabet counts h a w b u c y d z =

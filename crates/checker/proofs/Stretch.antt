@@ -3,15 +3,16 @@ use mathlib.Core.Path.{_≡_, refl, sym, ap, _∙_, subst}
 use mathlib.Core.Logic.{_⊎_, inl, inr}
 use mathlib.Core.List.{List}
 use mathlib.Core.Bool.{Bool, true, false, cond, not, _&&_, _||_, false≢true}
-use Prim.Native.Nat.{ℕ, _+_, _-_, _%_, _^_, _≤_, _<_}
+use Prim.Native.Nat.{ℕ, _+_, _-_, _*_, _%_, _^_, _≤_, _<_}
 use native.Mathlib.Nat.{le-refl, lt-of-le-of-lt, mod-eq-of-lt}
 use native.Mathlib.Omega.{arith}
 use lib.ListN.{length, getD, set, drop}
 use lib.Seq.{getD-drop}
 use lib.Dec.{eqb, leb, ltb}
-use borrow.Author.Tests.{not-false, lt-ltb, ltb-true, leb-true, eqb-true, ne-eqb, lt-leb}
+use borrow.Author.Tests.{not-false, lt-ltb, ltb-true, ltb-false, leb-true, eqb-true, eq-eqb, ne-eqb, lt-leb}
 use lib.Bits.{bitAnd}
 use Rattle.bits.specs.Bit.{bit, everyEvent, putBit}
+use Rattle.bits.proofs.Laws.{bit-and, bit-above, bit-low-ones, shl-one}
 use Rattle.words.specs.Word.{wordAt}
 use Rattle.words.proofs.Laws.{word-drop}
 use Rattle.records.specs.Kinds.{kindOf, bodyLen, noLen}
@@ -32,8 +33,16 @@ use Rattle.context.specs.declared.Context.{Context}
 use Rattle.context.specs.Context.{withEntry, withBit, countsAfter, eventsAfter, modulesAfter, supervisorsAfter, withRecord, ownerAt, stepsAt}
 use Rattle.judge.specs.Judge.{indexBy, orderBy, namesBy, rulesBy, allBy, judgeBy}
 use Rattle.checker.specs.declared.Fields.{Fields}
-use Rattle.checker.specs.Stretch.{checkBy, Stretch, Passed, atEvents, atModules, atModuleMoves, atSupervisors, atDisablings, atSteps}
-use Rattle.checker.specs.Stretch.{standsAt, fieldsAt, eventKept, moduleKept, supervisorKept, moveNamed, disablingNamed, respondFits, stepKept}
+use Rattle.checker.specs.Stretch.{checkBy, Stretch, Passed, notedPast, atEvents, atModules, atModuleMoves, atSupervisors, atDisablings, atSteps}
+use Rattle.checker.specs.Stretch.{standsAt, fieldsAt, eventKept, moduleKept, supervisorKept, Below, moveNamed, disablingNamed, respondFits, stepKept}
+
+and-true : (a : Bool) → (a && true) ≡ a
+and-true true = refl
+and-true false = refl
+
+and-false : (a : Bool) → (a && false) ≡ false
+and-false true = refl
+and-false false = refl
 
 pub both : (a b : Bool) → (a && b) ≡ true → (a ≡ true) × (b ≡ true)
 both true b e = (refl, e)
@@ -168,12 +177,18 @@ unfolding notedAt placeBy
 noted-same p k at = simp none-between
 
 -- a stretch and one record more of its kind
-noted-again : (p : Places) (a b k i j : ℕ) → (b ≡ k) ⊎ ((i ≡ j) × (b ≡ a)) → notedAt (notedAt p a b i) b k j ≡ notedAt p a k i
-noted-again p a b k i j (inl e) = ap (λ (x : ℕ). notedAt (notedAt p a x i) x k j) e ∙ noted-same (notedAt p a k i) k j
+noted-again : (p : Places) (a b k i j : ℕ) → ((b ≡ k) × (i < j)) ⊎ ((i ≡ j) × (b ≡ a)) → notedAt (notedAt p a b i) b k j ≡ notedAt p a k i
+noted-again p a b k i j (inl e) = ap (λ (x : ℕ). notedAt (notedAt p a x i) x k j) (e .0) ∙ noted-same (notedAt p a k i) k j
 noted-again p a b k i j (inr e) =
     ap (λ (x : ℕ). notedAt (notedAt p a x i) x k j) (e .1)
     ∙ ap (λ (q : Places). notedAt q a k j) (noted-same p a i)
     ∙ ap (λ (x : ℕ). notedAt p a k x) (sym (e .0))
+
+-- the places after a stretch
+pub noted-past : (p : Places) (a b k i j : ℕ) → ((b ≡ k) × (i < j)) ⊎ ((i ≡ j) × (b ≡ a)) → notedPast p a k i j ≡ notedAt p a b i
+unfolding notedPast
+noted-past p a b k i j (inl e) = let l : i < j = e .1 in simp (ne-eqb j i (λ z. absurd (omega arith))) (ap (λ (x : ℕ). notedAt p a x i) (sym (e .0)))
+noted-past p a b k i j (inr e) = simp (eq-eqb j i (sym (e .0))) (sym (noted-same p a i) ∙ ap (λ (x : ℕ). notedAt p a x i) (sym (e .1)))
 
 -- ---- one record more
 
@@ -188,7 +203,7 @@ begins-stretch s k c i r =
     }
 
 module _ (s : List ℕ) (k : ℕ) {c d : Context} {i j : ℕ} where
-  reaches : (m : ℕ) {r : Record} → readAt s j ≡ Whole r m → j ≤ m → judgeBy d r ≡ 0 → kindOf r ≡ k → keyOf r .kind ≡ k → (k ≡ 0x1f → ⊥)
+  reaches : (m : ℕ) {r : Record} → readAt s j ≡ Whole r m → j < m → judgeBy d r ≡ 0 → kindOf r ≡ k → keyOf r .kind ≡ k → (k ≡ 0x1f → ⊥)
       → Stretch s k c i d j → Stretch s k c i (withRecord d r) m
   unfolding checkBy notedIn
   reaches m {r} e l z f g u h =
@@ -207,29 +222,69 @@ module _ (s : List ℕ) (k : ℕ) {c d : Context} {i j : ℕ} where
             ∙ ap (λ (x : ℕ). notedIn (notedAt (notedAt p (c .last .kind) (d .last .kind) i) (d .last .kind) x j) x (walkFrom s m)) (sym f)
             ∙ sym (ap (notedIn (notedAt p (c .last .kind) (d .last .kind) i) (d .last .kind)) w)
             ∙ h .notes p;
-        some = inl g;
+        some = inl (g, omega arith);
       }
+
+-- what a move names, by masks of the numbers declared
+record Names (f : Fields) (known count st events named : ℕ) : Type 0 where
+  pub owner : (ltb (f .first) count && bit known (f .first)) ≡ true
+  pub from : ltb (f .second) st ≡ true
+  pub event : (ltb (f .third) named && bit events (f .third)) ≡ true
+  pub to : ltb (f .fourth) st ≡ true
+
+-- all bits of a mask are below 64
+pub all-below : (m n : ℕ) → m < 2 ^ 64 → 64 ≤ n → Below m n m
+unfolding Below
+all-below m n l h e = go (ltb e n) refl
+  where
+    go : (b : Bool) → ltb e n ≡ b → bit m e ≡ (bit m e && b)
+    go true q = sym (and-true (bit m e))
+    go false q = let a : n ≤ e = ltb-false e n q in bit-above 64 m e l (omega arith) ∙ sym (and-false (bit m e))
+
+-- those of a mask and as many ones
+pub ones-below : (m n : ℕ) → n < 64 → Below m n (bitAnd m ((1 * 2 ^ n) % 2 ^ 64 - 1))
+unfolding Below
+ones-below m n h e = ap (λ (x : ℕ). bit (bitAnd m (x - 1)) e) (shl-one 64 n h) ∙ bit-and m (2 ^ n - 1) e ∙ ap (λ (b : Bool). bit m e && b) (bit-low-ones n e)
+
+below-told : (m n r e : ℕ) → Below m n r → bit r e ≡ true → (ltb e n && bit m e) ≡ true
+unfolding Below
+below-told m n r e h t = let b = both (bit m e) (ltb e n) (sym (h e) ∙ t) in simp (b .0, b .1)
+
+move-told : (f : Fields) (known count a st events named m : ℕ) → Below known count a → Below events named m → moveNamed f a st m ≡ true → Names f known count st events named
+move-told f known count a st events named m u1 u2 h =
+    let x = both (bit a (f .first) && ltb (f .second) st && bit m (f .third)) (ltb (f .fourth) st) h in
+    let y = both (bit a (f .first) && ltb (f .second) st) (bit m (f .third)) (x .0) in
+    let z = both (bit a (f .first)) (ltb (f .second) st) (y .0) in
+    record { owner = below-told known count a (f .first) u1 (z .0); from = z .1; event = below-told events named m (f .third) u2 (y .1); to = x .1 }
+
+-- the same within an alphabet
+and-told : (f : Fields) (a st m x : ℕ) → moveNamed f a st (bitAnd m x) ≡ true → (moveNamed f a st m ≡ true) × (bit x (f .third) ≡ true)
+and-told f a st m x h =
+    let t = both (bit a (f .first) && ltb (f .second) st && bit (bitAnd m x) (f .third)) (ltb (f .fourth) st) h in
+    let y = both (bit a (f .first) && ltb (f .second) st) (bit (bitAnd m x) (f .third)) (t .0) in
+    let z = both (bit m (f .third)) (bit x (f .third)) (sym (bit-and m x (f .third)) ∙ y .1) in
+    (simp (y .0, z .0, t .1), z .1)
 
 -- what a respond step names
 module _ (n : Counts) (ev : Events) (e x : ℕ) where
   abbrev same : ℕ → Bool
   same y = eqb (getD (ev .owner) y 0) (getD (ev .owner) e 0)
 
-  abbrev known : Bool
-  known = ltb x (n .events) && bit (ev .known) x
+  abbrev declared : Bool
+  declared = ltb x (n .events) && bit (ev .known) x
 
   abbrev uncontrollable : Bool
   uncontrollable = not (bit (ev .controllable) x)
 
   respond-told : (b : Bool) → (not b || respondFits x (n .events) (ev .known) (ev .controllable) (same (x % 64))) ≡ true
-      → ((not b || cond (ltb x 64) known false) ≡ true) × ((not b || cond (ltb x 64) (uncontrollable && eqb (ownerAt ev x) (ownerAt ev e)) false) ≡ true)
+      → ((not b || cond (ltb x 64) declared false) ≡ true) × ((not b || cond (ltb x 64) (uncontrollable && eqb (ownerAt ev x) (ownerAt ev e)) false) ≡ true)
   respond-told false h = (refl, refl)
   respond-told true h = go (ltb x 64) refl h
     where
-      go : (t : Bool) → ltb x 64 ≡ t → cond t (known && (uncontrollable && same (x % 64))) false ≡ true
-          → (cond t known false ≡ true) × (cond t (uncontrollable && eqb (ownerAt ev x) (ownerAt ev e)) false ≡ true)
+      go : (t : Bool) → ltb x 64 ≡ t → cond t (declared && (uncontrollable && same (x % 64))) false ≡ true
+          → (cond t declared false ≡ true) × (cond t (uncontrollable && eqb (ownerAt ev x) (ownerAt ev e)) false ≡ true)
       go true p q =
-          let r = both known (uncontrollable && same (x % 64)) q in
+          let r = both declared (uncontrollable && same (x % 64)) q in
           let m : x % 64 ≡ x = mod-eq-of-lt (ltb-true x 64 p) in
           (r .0, subst (λ (y : ℕ). uncontrollable && same y ≡ true) m (r .1))
       go false p q = absurd (false≢true q)
@@ -287,32 +342,35 @@ module _ (s : List ℕ) (c : Context → Context) (i : ℕ) (n : Counts) (p : Re
       in
       subst (λ (x : Context). Stretch s 0x14 (c r) i x (j + 12)) w d
 
-  pub module-move-step : (events : ℕ) (owner : List ℕ) (known : ℕ) (states : List ℕ) {y : ℕ} → b ≡ standsAt s j 0x13 5 → not b ≡ false → f .first < 16 → f .third < 64
-      → y ≡ f .third → kept ≡ moveNamed f (n .modules) known (getD states k 0) (n .events) events → o ≡ precedes p (keyBy 0x13 (f .first) (f .second) (f .third))
-      → not ((o && kept) && eqb (getD owner y 0) (f .first)) ≡ false → Passed s 0x13 c i (atModuleMoves p n events owner known states) j
+  pub module-move-step : (events : ℕ) (owner : List ℕ) (known : ℕ) (states : List ℕ) (a m : ℕ) {y : ℕ} → Below known (n .modules) a → Below events (n .events) m
+      → b ≡ standsAt s j 0x13 5 → not b ≡ false → f .first < 16 → f .third < 64 → y ≡ f .third → kept ≡ moveNamed f a (getD states k 0) m
+      → o ≡ precedes p (keyBy 0x13 (f .first) (f .second) (f .third)) → not ((o && kept) && eqb (getD owner y 0) (f .first)) ≡ false
+      → Passed s 0x13 c i (atModuleMoves p n events owner known states) j
       → Passed s 0x13 c i (atModuleMoves (keyBy 0x13 (f .first) (f .second) (f .third)) n events owner known states) (j + 5)
   unfolding Passed atModuleMoves judgeBy orderBy indexBy namesBy rulesBy allBy inRange keyOf kindOf countsAfter eventsAfter modulesAfter supervisorsAfter
-  module-move-step events owner known states {y} e b1 l l2 y1 n1 o1 h v r =
+  module-move-step events owner known states a m {y} u1 u2 e b1 l l2 y1 n1 o1 h v r =
       let w : Bool = eqb (getD owner y 0) (f .first) in
       let q = both (o && kept) w (not-false _ h) in
-      let m = both o kept (q .0) in
-      let n2 : moveNamed f (n .modules) known (getD states (f .first) 0) (n .events) events ≡ kept = cc in
+      let t = both o kept (q .0) in
+      let n2 : moveNamed f a (getD states (f .first) 0) m ≡ kept = cc in
+      let z = move-told f known (n .modules) a (getD states (f .first) 0) events (n .events) m u1 u2 (n2 ∙ t .1) in
       let w2 : eqb (getD owner (f .third) 0) (f .first) ≡ w = cc in
       reaches s 0x13 (j + 5) (reads-module-move s j g (stands-told s j 0x13 5 e b1)) (omega arith)
-      (simp (sym o1 ∙ m .0, n2 ∙ m .1, w2 ∙ q .1)) refl refl (λ z. absurd (omega arith)) (v r)
+      (simp (sym o1 ∙ t .0, z .owner, z .from, z .event, z .to, w2 ∙ q .1)) refl refl (λ z. absurd (omega arith)) (v r)
 
-  pub supervisor-move-step : (events known : ℕ) (states alphabet : List ℕ) {w : Bool} → b ≡ standsAt s j 0x15 5 → not b ≡ false → f .first < 32
-      → kept ≡ moveNamed f (n .supervisors) known (getD states k 0) (n .events) events → o ≡ precedes p (keyBy 0x15 (f .first) (f .second) (f .third))
-      → w ≡ bit (getD alphabet k 0) (f .third) → not ((o && kept) && w) ≡ false → Passed s 0x15 c i (atSupervisors p n events known states alphabet) j
+  pub supervisor-move-step : (events known : ℕ) (states alphabet : List ℕ) (a m : ℕ) → Below known (n .supervisors) a → Below events (n .events) m
+      → b ≡ standsAt s j 0x15 5 → not b ≡ false → f .first < 32 → kept ≡ moveNamed f a (getD states k 0) (bitAnd m (getD alphabet k 0))
+      → o ≡ precedes p (keyBy 0x15 (f .first) (f .second) (f .third)) → not (o && kept) ≡ false → Passed s 0x15 c i (atSupervisors p n events known states alphabet) j
       → Passed s 0x15 c i (atSupervisors (keyBy 0x15 (f .first) (f .second) (f .third)) n events known states alphabet) (j + 5)
   unfolding Passed atSupervisors judgeBy orderBy indexBy namesBy rulesBy allBy inRange keyOf kindOf countsAfter eventsAfter modulesAfter supervisorsAfter
-  supervisor-move-step events known states alphabet {w} e b1 l n1 o1 w1 h v r =
-      let q = both (o && kept) w (not-false _ h) in
-      let m = both o kept (q .0) in
-      let n2 : moveNamed f (n .supervisors) known (getD states (f .first) 0) (n .events) events ≡ kept = cc in
-      let w2 : bit (getD alphabet (f .first) 0) (f .third) ≡ w = cc in
+  supervisor-move-step events known states alphabet a m u1 u2 e b1 l n1 o1 h v r =
+      let q = both o kept (not-false _ h) in
+      let x : ℕ = getD alphabet (f .first) 0 in
+      let n2 : moveNamed f a (getD states (f .first) 0) (bitAnd m x) ≡ kept = cc in
+      let t = and-told f a (getD states (f .first) 0) m x (n2 ∙ q .1) in
+      let z = move-told f known (n .supervisors) a (getD states (f .first) 0) events (n .events) m u1 u2 (t .0) in
       reaches s 0x15 (j + 5) (reads-supervisor-move s j g (stands-told s j 0x15 5 e b1)) (omega arith)
-      (simp (sym o1 ∙ m .0, n2 ∙ m .1, w2 ∙ q .1)) refl refl (λ z. absurd (omega arith)) (v r)
+      (simp (sym o1 ∙ q .0, z .owner, z .from, z .event, z .to, t .1)) refl refl (λ z. absurd (omega arith)) (v r)
 
   pub disabling-step : (events controllable known : ℕ) (states alphabet : List ℕ) {x : ℕ} {w : Bool} → b ≡ standsAt s j 0x16 11 → not b ≡ false → f .first < 32
       → x ≡ wordAt s (j + 3) → kept ≡ disablingNamed f x (n .supervisors) known (getD states k 0) events → o ≡ precedes p (keyBy 0x16 (f .first) (f .second) 0)

@@ -1,5 +1,5 @@
 -- The check by what it remembers, and what it is to pass a stretch of records of one kind that are not faulty.
-use Prim.Native.Nat.{ℕ, _+_, _-_, _≤_}
+use Prim.Native.Nat.{ℕ, _+_, _-_, _≤_, _<_}
 use mathlib.Core.Path.{_≡_}
 use mathlib.Core.Logic.{_⊎_}
 use mathlib.Core.List.{List}
@@ -43,11 +43,15 @@ pub record Stretch (s : List ℕ) (k : ℕ) (c : Context) (i : ℕ) (d : Context
   pub further : i ≤ j
   pub same : checkBy (length s) d (walkFrom s j) ≡ checkBy (length s) c (walkFrom s i)
   pub notes : (p : Places) → notedIn (notedAt p (c .last .kind) (d .last .kind) i) (d .last .kind) (walkFrom s j) ≡ notedIn p (c .last .kind) (walkFrom s i)
-  pub some : (d .last .kind ≡ k) ⊎ ((i ≡ j) × (d .last .kind ≡ c .last .kind))
+  pub some : ((d .last .kind ≡ k) × (i < j)) ⊎ ((i ≡ j) × (d .last .kind ≡ c .last .kind))
 
 -- the same whatever else is remembered
 unfoldable pub Passed : List ℕ → ℕ → (Context → Context) → ℕ → (Context → Context) → ℕ → Type 0
 Passed s k c i d j = (r : Context) → Stretch s k (c r) i (d r) j
+
+-- the places after a stretch of the kind k from i to j, after a record of the kind a
+unfoldable pub notedPast : Places → ℕ → ℕ → ℕ → ℕ → Places
+notedPast p a k i j = cond (eqb j i) p (notedAt p a k i)
 
 -- ---- contexts by their parts
 
@@ -115,10 +119,13 @@ supervisorKept f x n events =
     inRange (Supervisor (f .first) (f .second) (f .third) x)
     && (ltb (f .first) (n .supervisors) && ltb (f .third) (f .second) && everyEvent x (bit events))
 
--- a move names a declared automaton, two of its states and a declared event
-abbrev pub moveNamed : Fields → ℕ → ℕ → ℕ → ℕ → ℕ → Bool
-moveNamed f n known states events named =
-    (ltb (f .first) n && bit known (f .first)) && ltb (f .second) states && (ltb (f .third) events && bit named (f .third)) && ltb (f .fourth) states
+-- r has the bits of the mask m that are below n
+unfoldable pub Below : ℕ → ℕ → ℕ → Type 0
+Below m n r = (e : ℕ) → bit r e ≡ (bit m e && ltb e n)
+
+-- a move names an automaton of a mask, two of its states and an event of a mask
+abbrev pub moveNamed : Fields → ℕ → ℕ → ℕ → Bool
+moveNamed f known states named = bit known (f .first) && ltb (f .second) states && bit named (f .third) && ltb (f .fourth) states
 
 -- a disabling names a declared supervisor, one of its states and declared events
 abbrev pub disablingNamed : Fields → ℕ → ℕ → ℕ → ℕ → ℕ → Bool

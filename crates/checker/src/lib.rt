@@ -6,9 +6,9 @@ ghost use Prim.Native.Nat.{_+_, _%_, _≤_, _<_};
 ghost use Rattle.rules.specs.Check.{verdictOf, endAt};
 ghost use Rattle.places.specs.Places.{nowhere};
 ghost use Rattle.checker.specs.Examined.{examinedBy, examinedOf};
-ghost use Rattle.checker.specs.Stretch.{Reached, Passed, contextBy, eventsBy, modulesBy, supervisorsBy, headed};
+ghost use Rattle.checker.specs.Stretch.{Reached, Passed, notedPast, contextBy, eventsBy, modulesBy, supervisorsBy, headed};
 ghost use Rattle.checker.specs.Stretch.{atEvents, atModules, atModuleMoves, atSupervisors, atDisablings, atSteps};
-ghost use Rattle.checker.specs.Stretch.{standsAt, fieldsAt, eventKept, moduleKept, supervisorKept, moveNamed, disablingNamed, respondFits, stepKept, endKept};
+ghost use Rattle.checker.specs.Stretch.{standsAt, fieldsAt, eventKept, moduleKept, supervisorKept, Below, moveNamed, disablingNamed, respondFits, stepKept, endKept};
 use context::Context;
 use context::Counts;
 use context::Events;
@@ -116,13 +116,24 @@ fn supervisor_kept(f: Fields, x: u64, n: Counts, events: u64) -> bool
         & ((f.first < n.supervisors) & (f.third < f.second) & bits::within(x, events))
 }
 
-fn move_named(f: Fields, n: u8, known: u64, states: u8, events: u8, named: u64) -> bool
-    ensures { λ t. ⌜ t ≡ moveNamed f n known states events named ⌝ }
+// The bits of a mask that are below n.
+fn below(m: u64, n: u8) -> u64
+    ensures { λ r. ⌜ Below m n r ⌝ }
 {
-    (f.first < n)
-        & bits::has(known, f.first)
+    if n < 64 {
+        let b = 1u64 << n;
+        m & (b - 1)
+    } else {
+        m
+    }
+}
+
+fn move_named(f: Fields, known: u64, states: u8, named: u64) -> bool
+    ensures { λ t. ⌜ t ≡ moveNamed f known states named ⌝ }
+{
+    bits::has(known, f.first)
         & (f.second < states)
-        & ((f.third < events) & bits::has(named, f.third))
+        & bits::has(named, f.third)
         & (f.fourth < states)
 }
 
@@ -315,7 +326,9 @@ fn module_moves(
             second: f.second,
             third: e,
         };
-        let named = move_named(f, n.modules, known, count, n.events, events);
+        let numbers = below(known, n.modules);
+        let names = below(events, n.events);
+        let named = move_named(f, numbers, count, names);
         if !(records::precedes(last, key) & named & (of == m)) {
             return Place { last, next: i };
         }
@@ -413,8 +426,10 @@ fn supervisor_moves(
             second: f.second,
             third: f.third,
         };
-        let named = move_named(f, n.supervisors, known, count, n.events, events);
-        if !(records::precedes(last, key) & named & bits::has(own, f.third)) {
+        let numbers = below(known, n.supervisors);
+        let names = below(events, n.events);
+        let named = move_named(f, numbers, count, names & own);
+        if !(records::precedes(last, key) & named) {
             return Place { last, next: i };
         }
         last = key;
@@ -585,6 +600,17 @@ fn judged(image: &[u8], from: usize, before: Context, found: Places) -> Examined
     }
 }
 
+// The places after a stretch of records of a kind.
+fn noted_past(p: Places, last: u8, kind: u8, from: usize, next: usize) -> Places
+    ensures { λ r. ⌜ r ≡ notedPast p last kind from next ⌝ }
+{
+    if next == from {
+        p
+    } else {
+        places::noted(p, last, kind, from)
+    }
+}
+
 // After the module moves: the records from the supervisors on. `sizes` has the states of each module.
 fn after_modules(
     image: &[u8],
@@ -606,10 +632,10 @@ fn after_modules(
     let mut counts = [0u8; 64];
     let v = supervisors(image, from, before, n, known, &mut states, &mut alphabet);
     let vq = v.last;
-    let vp = places::noted(found, before.kind, vq.kind, from);
+    let vp = noted_past(found, before.kind, 0x14, from, v.next);
     let m = supervisor_moves(image, v.next, vq, n, known, v.known, &states, &alphabet);
     let mq = m.last;
-    let mp = places::noted(vp, vq.kind, mq.kind, v.next);
+    let mp = noted_past(vp, vq.kind, 0x15, v.next, m.next);
     let d = disablings(
         image,
         m.next,
@@ -622,7 +648,7 @@ fn after_modules(
         &alphabet,
     );
     let dq = d.last;
-    let dp = places::noted(mp, mq.kind, dq.kind, m.next);
+    let dp = noted_past(mp, mq.kind, 0x16, m.next, d.next);
     let s = steps(
         image,
         d.next,
@@ -634,7 +660,7 @@ fn after_modules(
         &mut counts,
     );
     let sq = s.last;
-    let sp = places::noted(dp, dq.kind, sq.kind, d.next);
+    let sp = noted_past(dp, dq.kind, 0x17, d.next, s.next);
     if end_kept(image, s.next, sq, n, modules, v.known, known) {
         let p = places::noted(sp, sq.kind, 0x1f, s.next);
         return end_at(image, s.next, p);
@@ -677,13 +703,13 @@ fn after_head(image: &[u8], n: Counts) -> Examined
     let mut states = [0u8; 16];
     let e = events(image, 4, head, n, &mut owner);
     let eq = e.last;
-    let ep = places::noted(places::nowhere(), 0x10, eq.kind, 4);
+    let ep = noted_past(places::nowhere(), 0x10, 0x11, 4, e.next);
     let m = modules(image, e.next, eq, n, &mut states);
     let mq = m.last;
-    let mp = places::noted(ep, eq.kind, mq.kind, e.next);
+    let mp = noted_past(ep, eq.kind, 0x12, e.next, m.next);
     let v = module_moves(image, m.next, mq, n, e.known, &owner, m.known, &states);
     let vq = v.last;
-    let vp = places::noted(mp, mq.kind, vq.kind, m.next);
+    let vp = noted_past(mp, mq.kind, 0x13, m.next, v.next);
     after_modules(
         image,
         v.next,

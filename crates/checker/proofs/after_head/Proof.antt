@@ -9,20 +9,20 @@ events-requires c κs = search needs
 nowhere-requires : tie.Need-nowhere-requires
 nowhere-requires c κs = search needs
 
-noted-requires : tie.Need-noted-requires
-noted-requires c κs = search needs
+noted-past-requires : tie.Need-noted-past-requires
+noted-past-requires c κs = search needs
 
 modules-requires : tie.Need-modules-requires
 modules-requires c κs = search needs
 
-noted-requires-2 : tie.Need-noted-requires-2
-noted-requires-2 c κs = search needs
+noted-past-requires-2 : tie.Need-noted-past-requires-2
+noted-past-requires-2 c κs = search needs
 
 module-moves-requires : tie.Need-module-moves-requires
 module-moves-requires c κs = search needs
 
-noted-requires-3 : tie.Need-noted-requires-3
-noted-requires-3 c κs = search needs
+noted-past-requires-3 : tie.Need-noted-past-requires-3
+noted-past-requires-3 c κs = search needs
 
 after-modules-requires : tie.Need-after-modules-requires
 after-modules-requires c κs =
@@ -31,8 +31,8 @@ after-modules-requires c κs =
     let e = m .before .before .before .before in
     let a = e .before .before .before in
     after-three _ _ _ _ _ _ _ _ _ _ _ _ _ _ _ _ _ _ _ (a .before .before .before .pre) (a .events .ensures)
-    (noted-from _ _ _ _ (e .noted .ensures) (e .before .nowhere .ensures))
-    (m .before .before .modules .ensures) (m .noted2 .ensures) (v .before .before .module-moves .ensures) (v .noted3 .ensures)
+    (noted-from _ _ _ _ _ (e .noted-past .ensures) (e .before .nowhere .ensures))
+    (m .before .before .modules .ensures) (m .noted-past2 .ensures) (v .before .before .module-moves .ensures) (v .noted-past3 .ensures)
 
 returns : tie.Need-returns
 returns c = search needs
@@ -43,10 +43,10 @@ after-head-spec =
     (tie.spec
     events-requires
     nowhere-requires
-    noted-requires
+    noted-past-requires
     modules-requires
-    noted-requires-2
+    noted-past-requires-2
     module-moves-requires
-    noted-requires-3
+    noted-past-requires-3
     after-modules-requires
     returns)

@@ -6,32 +6,32 @@ use Rattle.checker.proofs.after_modules.Tie as tie
 supervisors-requires : tie.Need-supervisors-requires
 supervisors-requires c κs = search needs
 
-noted-requires : tie.Need-noted-requires
-noted-requires c κs = search needs
+noted-past-requires : tie.Need-noted-past-requires
+noted-past-requires c κs = search needs
 
 supervisor-moves-requires : tie.Need-supervisor-moves-requires
 supervisor-moves-requires c κs = search needs
 
-noted-requires-2 : tie.Need-noted-requires-2
-noted-requires-2 c κs = search needs
+noted-past-requires-2 : tie.Need-noted-past-requires-2
+noted-past-requires-2 c κs = search needs
 
 disablings-requires : tie.Need-disablings-requires
 disablings-requires c κs = search needs
 
-noted-requires-3 : tie.Need-noted-requires-3
-noted-requires-3 c κs = search needs
+noted-past-requires-3 : tie.Need-noted-past-requires-3
+noted-past-requires-3 c κs = search needs
 
 steps-requires : tie.Need-steps-requires
 steps-requires c κs = search needs
 
-noted-requires-4 : tie.Need-noted-requires-4
-noted-requires-4 c κs = search needs
+noted-past-requires-4 : tie.Need-noted-past-requires-4
+noted-past-requires-4 c κs = search needs
 
 end-kept-requires : tie.Need-end-kept-requires
 end-kept-requires c κs = search needs
 
-noted-requires-5 : tie.Need-noted-requires-5
-noted-requires-5 c κs = search needs
+noted-requires : tie.Need-noted-requires
+noted-requires c κs = search needs
 
 end-at-requires : tie.Need-end-at-requires
 end-at-requires c κs = end-inside _ _ _ _ _ _ _ (c .before .before .end-kept .ensures) (c .before .if1 .taken)
@@ -44,10 +44,10 @@ returns c =
     let m = d .before .before .before .before .before in
     let v = m .before .before .before .before .before in
     end-by _ _ _ _ _ _ _ (e .end-kept .ensures) (c .before .before .if1 .taken)
-    (after-seven _ _ _ _ _ _ _ _ _ _ _ _ _ _ _ _ _ _ _ _ _ _ _ (v .before .before .before .before .before .before .pre) (v .before .before .supervisors .ensures) (v .noted .ensures)
-    (m .before .before .supervisor-moves .ensures) (m .noted2 .ensures) (d .before .before .disablings .ensures) (d .noted3 .ensures)
-    (a .before .before .steps .ensures) (a .noted4 .ensures))
-    (c .before .noted5 .ensures) (c .end-at .ensures)
+    (after-seven _ _ _ _ _ _ _ _ _ _ _ _ _ _ _ _ _ _ _ _ _ _ _ (v .before .before .before .before .before .before .pre) (v .before .before .supervisors .ensures) (v .noted-past .ensures)
+    (m .before .before .supervisor-moves .ensures) (m .noted-past2 .ensures) (d .before .before .disablings .ensures) (d .noted-past3 .ensures)
+    (a .before .before .steps .ensures) (a .noted-past4 .ensures))
+    (c .before .noted .ensures) (c .end-at .ensures)
 
 judged-requires : tie.Need-judged-requires
 judged-requires c κs =
@@ -55,9 +55,9 @@ judged-requires c κs =
     let d = a .before .before .before .before in
     let m = d .before .before .before .before .before in
     let v = m .before .before .before .before .before in
-    after-seven _ _ _ _ _ _ _ _ _ _ _ _ _ _ _ _ _ _ _ _ _ _ _ (v .before .before .before .before .before .before .pre) (v .before .before .supervisors .ensures) (v .noted .ensures)
-    (m .before .before .supervisor-moves .ensures) (m .noted2 .ensures) (d .before .before .disablings .ensures) (d .noted3 .ensures)
-    (a .before .before .steps .ensures) (a .noted4 .ensures)
+    after-seven _ _ _ _ _ _ _ _ _ _ _ _ _ _ _ _ _ _ _ _ _ _ _ (v .before .before .before .before .before .before .pre) (v .before .before .supervisors .ensures) (v .noted-past .ensures)
+    (m .before .before .supervisor-moves .ensures) (m .noted-past2 .ensures) (d .before .before .disablings .ensures) (d .noted-past3 .ensures)
+    (a .before .before .steps .ensures) (a .noted-past4 .ensures)
 
 returns-2 : tie.Need-returns-2
 returns-2 c = search needs
@@ -67,15 +67,15 @@ after-modules-spec =
     tie.close
     (tie.spec
     supervisors-requires
-    noted-requires
+    noted-past-requires
     supervisor-moves-requires
-    noted-requires-2
+    noted-past-requires-2
     disablings-requires
-    noted-requires-3
+    noted-past-requires-3
     steps-requires
-    noted-requires-4
+    noted-past-requires-4
     end-kept-requires
-    noted-requires-5
+    noted-requires
     end-at-requires
     returns
     judged-requires

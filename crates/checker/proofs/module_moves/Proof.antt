@@ -43,6 +43,12 @@ wide-requires-2 c κs = search needs
 element-copy-out-of : tie.Need-element-copy-out-of Inv-loop μ-loop
 element-copy-out-of c = search needs
 
+below-requires : tie.Need-below-requires Inv-loop μ-loop
+below-requires c κs = search needs
+
+below-requires-2 : tie.Need-below-requires-2 Inv-loop μ-loop
+below-requires-2 c κs = search needs
+
 move-named-requires : tie.Need-move-named-requires Inv-loop μ-loop
 move-named-requires c κs = search needs
 
@@ -77,6 +83,8 @@ module-moves-spec =
     element-copy-out-count
     wide-requires-2
     element-copy-out-of
+    below-requires
+    below-requires-2
     move-named-requires
     precedes-requires
     returns-4

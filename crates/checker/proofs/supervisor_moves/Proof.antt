@@ -40,14 +40,17 @@ mul-own c = search needs
 element-copy-out-own : tie.Need-element-copy-out-own Inv-loop μ-loop
 element-copy-out-own c = search needs
 
+below-requires : tie.Need-below-requires Inv-loop μ-loop
+below-requires c κs = search needs
+
+below-requires-2 : tie.Need-below-requires-2 Inv-loop μ-loop
+below-requires-2 c κs = search needs
+
 move-named-requires : tie.Need-move-named-requires Inv-loop μ-loop
 move-named-requires c κs = search needs
 
 precedes-requires : tie.Need-precedes-requires Inv-loop μ-loop
 precedes-requires c κs = search needs
-
-has-requires : tie.Need-has-requires Inv-loop μ-loop
-has-requires c κs = search needs
 
 returns-3 : tie.Need-returns-3 Inv-loop μ-loop
 returns-3 c = search needs
@@ -76,9 +79,10 @@ supervisor-moves-spec =
     element-copy-out-count
     mul-own
     element-copy-out-own
+    below-requires
+    below-requires-2
     move-named-requires
     precedes-requires
-    has-requires
     returns-3
     add-i
     loop-less
