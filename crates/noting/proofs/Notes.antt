@@ -1,4 +1,4 @@
--- The notes of 16 modules: one put, and all turned round by the place last served.
+-- The notes of 16 modules: one put, and all rotated by the place last served.
 use mathlib.Core.Path.{_≡_, refl, sym, ap, ap₂, _∙_}
 use mathlib.Core.Bool.{Bool, true, false, _&&_, _||_, and-true, or-false}
 use Prim.Native.Nat.{ℕ, zero, suc, _+_, _-_, _*_, _/_, _%_, _^_, _≤_, _<_}
@@ -52,7 +52,7 @@ bit-shl-low m (suc s) (suc e) h =
     ap (λ (x : ℕ). bit x (suc e)) (doubled m s) ∙ bit-up (m * 2 ^ s * 2) e ∙ ap (λ (x : ℕ). bit x e) (let q : m * 2 ^ s * 2 / 2 ≡ m * 2 ^ s = omega arith in q)
     ∙ bit-shl-low m s e (le-of-suc-le-suc h)
 
--- ---- the mask turned round
+-- ---- the mask rotated
 
 module _ (n : ℕ) (p : n < 2 ^ 16) where
   -- a mask of 16 bits twice has each bit again 16 places up
@@ -68,20 +68,20 @@ module _ (n : ℕ) (p : n < 2 ^ 16) where
           let q : j ≡ 16 + j % 16 = omega arith in
           ap (λ (b : Bool). b || bit (n * 2 ^ 16) j) (bit-above 16 n j p k) ∙ ap (bit (n * 2 ^ 16)) q ∙ bit-shl n 16 (j % 16)
 
-  -- what the code of `turned` computes
+  -- what the code of `rotated` computes
   abbrev round : ℕ → ℕ
   round last = bitAnd (bitOr n (n * 2 ^ 16 % 2 ^ 64) / 2 ^ (last + 1)) (2 ^ 16 - 1)
 
-  turned-bit : (last : ℕ) → last < 16 → (k : ℕ) → k < 16 → bit (round last) k ≡ bit n (placeAfter last k)
+  rotated-bit : (last : ℕ) → last < 16 → (k : ℕ) → k < 16 → bit (round last) k ≡ bit n (placeAfter last k)
   unfolding placeAfter
-  turned-bit last h k l =
+  rotated-bit last h k l =
       let s : n * 2 ^ 16 % 2 ^ 64 ≡ n * 2 ^ 16 = shl-exact 16 16 64 p (lit≤ tt) in
       bit-and (bitOr n (n * 2 ^ 16 % 2 ^ 64) / 2 ^ (last + 1)) (2 ^ 16 - 1) k
       ∙ ap₂ _&&_ (ap (λ (x : ℕ). bit (bitOr n x / 2 ^ (last + 1)) k) s ∙ bit-shr (bitOr n (n * 2 ^ 16)) (last + 1) k) (bit-low-ones 16 k ∙ lt-ltb k 16 l)
       ∙ and-true (bit (bitOr n (n * 2 ^ 16)) (last + 1 + k)) ∙ twice-bit (last + 1 + k) (omega arith)
       ∙ ap (λ (x : ℕ). bit n (x % 16)) (let q : last + 1 + k ≡ last + suc k = omega arith in q)
 
-  pub turned-by : (last : ℕ) → last < 16 → least (bit (round last)) 64 ≡ least (λ k. bit n (placeAfter last k)) 16
-  turned-by last h =
+  pub rotated-by : (last : ℕ) → last < 16 → least (bit (round last)) 64 ≡ least (λ k. bit n (placeAfter last k)) 16
+  rotated-by last h =
       least-more (bit (round last)) 16 48 (λ j l. bit-above 16 (round last) j (lt-of-le-of-lt (and-le-r (bitOr n (n * 2 ^ 16 % 2 ^ 64) / 2 ^ (last + 1)) (2 ^ 16 - 1)) (lit< tt)) l)
-      ∙ least-same (bit (round last)) (λ k. bit n (placeAfter last k)) 16 (turned-bit last h)
+      ∙ least-same (bit (round last)) (λ k. bit n (placeAfter last k)) 16 (rotated-bit last h)

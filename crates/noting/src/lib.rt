@@ -62,7 +62,7 @@ pub fn fits(image: &[u8], places: Places, v: u8, y: Supervisor) -> bool
 // ---- the module that is served
 
 // The noted modules by their places after the last served: bit k is the note of the k-th.
-fn turned(noted: u16, last: u8) -> u64
+fn rotated(noted: u16, last: u8) -> u64
     requires { ⌜ last < 16 ⌝ }
     ensures { λ r. ⌜ least (bit r) 64 ≡ least (λ k. bit noted (placeAfter last k)) 16 ⌝ }
 {
@@ -79,7 +79,7 @@ pub fn served(y: Supervisor) -> Maybe
     let last = y.last % 16;
     match holder {
         Holder::Home => {
-            let Maybe::Just(k) = bits::lowest(turned(y.noted, last)) else {
+            let Maybe::Just(k) = bits::lowest(rotated(y.noted, last)) else {
                 return Maybe::Nothing;
             };
             Maybe::Just((last + 1 + k) % 16)

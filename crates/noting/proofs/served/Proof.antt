@@ -7,8 +7,8 @@ use Rattle.noting.proofs.served.Tie as tie
 enum-told : tie.Need-enum-told
 enum-told c = search needs
 
-turned-requires : tie.Need-turned-requires
-turned-requires c κs = search needs
+rotated-requires : tie.Need-rotated-requires
+rotated-requires c κs = search needs
 
 lowest-requires : tie.Need-lowest-requires
 lowest-requires c κs = search needs
@@ -26,7 +26,7 @@ add-t8 : tie.Need-add-t8
 add-t8 c = search needs
 
 add-t9 : tie.Need-add-t9
-add-t9 c = omega (arith, lowest-below (c .before .before .before .before .turned .result) (c .before .before .before .lowest .ensures) (c .before .k .given .1))
+add-t9 c = omega (arith, lowest-below (c .before .before .before .before .rotated .result) (c .before .before .before .lowest .ensures) (c .before .k .given .1))
 
 enum-told-3 : tie.Need-enum-told-3
 enum-told-3 c = search needs
@@ -42,7 +42,7 @@ served-spec =
     tie.close
     (tie.spec
     enum-told
-    turned-requires
+    rotated-requires
     lowest-requires
     enum-known-k
     enum-told-2
