@@ -6,7 +6,7 @@ use Prim.Native.Nat.{ℕ, suc, _+_, _*_, _-_, _≤_, _<_}
 use native.Mathlib.Nat.{zero-add}
 use native.Mathlib.Omega.{arith}
 use lib.ListN.{length, getD, set, take, drop, length-append, length-drop}
-use lib.Seq.{sets, sets-eq, take-all, drop-cons, drop-length}
+use lib.Seq.{sets, sets-eq, length-sets, take-all, drop-cons, drop-length}
 use borrow.Author.Tests.{eq-eqb, ne-eqb, le-leb, lt-leb}
 use Rattle.bits.specs.Bit.{allBelow}
 use Rattle.messages.specs.Message.{putAt}
@@ -104,15 +104,16 @@ module _ (owns : List Own) (l : List ℕ) where
 
 module _ (l : List ℕ) (d : Device) where
   pub device-put : {s t : List ℕ} → 592 ≤ length l → length (d .supervisors) ≡ 32 → s ≡ sets l 0 (ownsBytes (d .modules)) → length (ownsBytes (d .modules)) ≡ 560
-      → t ≡ sets s 560 (d .supervisors) → t ≡ devicePut d l
+      → t ≡ putAt (d .supervisors) 560 s → t ≡ devicePut d l
   unfolding devicePut deviceBytes
-  device-put h n v k w =
+  device-put {s} h n v k w =
       let a : List ℕ = ownsBytes (d .modules) in
       let b : List ℕ = a ++ d .supervisors in
       let at : 560 ≡ 0 + length a = omega (arith, k) in
       let fit : 0 + length b ≤ length l = omega (arith, length-append a (d .supervisors), k) in
+      let room : 560 + length (d .supervisors) ≤ length s = omega (arith, h, n, ap length v, length-sets l 0 a) in
       simp (le-leb 592 (length l) h)
-      (w ∙ ap (λ (x : List ℕ). sets x 560 (d .supervisors)) v ∙ join l a (d .supervisors) 0 560 at ∙ sets-eq b l 0 fit ∙ ap (λ (j : ℕ). b ++ drop j l) (zero-add (length b)))
+      (w ∙ put-sets (d .supervisors) 560 s room ∙ ap (λ (x : List ℕ). sets x 560 (d .supervisors)) v ∙ join l a (d .supervisors) 0 560 at ∙ sets-eq b l 0 fit ∙ ap (λ (j : ℕ). b ++ drop j l) (zero-add (length b)))
 
   pub device-short : length l < 592 → l ≡ devicePut d l
   unfolding devicePut

@@ -128,17 +128,6 @@ fn put_slots(s: &mut [u8], owns: [Own; 16])
     }
 }
 
-fn put_states(s: &mut [u8], states: [u8; 32])
-    requires { ⌜ 592 ≤ length (now s) ⌝ }
-    ensures { λ _. ⌜ now (s .exit) ≡ sets (now (s .entry)) 560 states ⌝ }
-{
-    let mut i: usize = 0;
-    while i < 32 {
-        s[560 + i] = states[i];
-        i += 1;
-    }
-}
-
 // Puts the bytes of a device at the start, if there is room for all; else the slice stays.
 pub fn put_device(s: &mut [u8], d: Device)
     ensures { λ _. ⌜ now (s .exit) ≡ devicePut d (now (s .entry)) ⌝ }
@@ -147,6 +136,6 @@ pub fn put_device(s: &mut [u8], d: Device)
         let modules = d.modules;
         let supervisors = d.supervisors;
         put_slots(&mut *s, modules);
-        put_states(&mut *s, supervisors);
+        words::put_bytes(&mut *s, 560, &supervisors);
     }
 }

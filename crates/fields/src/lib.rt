@@ -105,26 +105,20 @@ pub fn flag_of(b: bool) -> u8
 pub fn put_half(s: &mut [u8], o: usize, x: u16)
     ensures { λ _. ⌜ now (s .exit) ≡ putAt (halfBytes x) o (now (s .entry)) ⌝ }
 {
-    if 2 <= s.len() {
-        if o <= s.len() - 2 {
-            s[o] = (x / 0x100 % 256) as u8;
-            s[o + 1] = (x % 256) as u8;
-        }
-    }
+    words::put_bytes(s, o, &[(x / 0x100 % 256) as u8, (x % 256) as u8]);
 }
 
 // Puts the four bytes of a number.
 pub fn put_quad(s: &mut [u8], o: usize, x: u32)
     ensures { λ _. ⌜ now (s .exit) ≡ putAt (quadBytes x) o (now (s .entry)) ⌝ }
 {
-    if 4 <= s.len() {
-        if o <= s.len() - 4 {
-            s[o] = (x / 0x1000000 % 256) as u8;
-            s[o + 1] = (x / 0x10000 % 256) as u8;
-            s[o + 2] = (x / 0x100 % 256) as u8;
-            s[o + 3] = (x % 256) as u8;
-        }
-    }
+    let bytes = [
+        (x / 0x1000000 % 256) as u8,
+        (x / 0x10000 % 256) as u8,
+        (x / 0x100 % 256) as u8,
+        (x % 256) as u8,
+    ];
+    words::put_bytes(s, o, &bytes);
 }
 
 // Puts the eight bytes of a number.

@@ -1,37 +1,25 @@
 -- Laws of a message's bytes in a buffer.
 use mathlib.Core.Path.{_≡_, refl, sym, ap, _∙_}
-use mathlib.Core.List.{List, _++_}
+use mathlib.Core.List.{List, [], _∷_, _++_}
 use mathlib.Core.Bool.{Bool, true, false, not}
 use Prim.Native.Nat.{ℕ, _+_, _-_, _≤_, _<_}
 use native.Mathlib.Nat.{zero-add}
 use native.Mathlib.Omega.{arith}
+use native.Mathlib.Numerals.{towards-suc}
 use lib.ListN.{length, drop}
-use lib.Seq.{sets, sets-eq}
-use borrow.Author.Tests.{le-leb, lt-leb, ltb-true, ltb-false}
+use lib.Seq.{sets, sets-eq, length-sets}
+use borrow.Author.Tests.{ltb-true, ltb-false}
+use Rattle.words.specs.Word.{wordBytes, wordPut}
+use Rattle.words.proofs.Laws.{put-room}
 use Rattle.messages.specs.Message.{messageBytes, fitsAt, putAt, short, written}
 use Rattle.messages.specs.Write.{Wrote}
 use Rattle.messages.specs.declared.Message.{Message}
+use Rattle.messages.specs.declared.Message.the-variants.{Permit}
+pub use Rattle.words.proofs.Laws.{fits, fits-not, put-sets, put-not}
 
 -- a message is as long as the case that it is
 pub length-as : {g h : Message} → g ≡ h → length (messageBytes g) ≡ length (messageBytes h)
 length-as e = ap (λ (x : Message). length (messageBytes x)) e
-
-module _ (bytes : List ℕ) (at : ℕ) (b : List ℕ) where
-  pub fits : at + length bytes ≤ length b → fitsAt bytes at b ≡ true
-  unfolding fitsAt
-  fits h = le-leb (at + length bytes) (length b) h
-
-  pub fits-not : length b < at + length bytes → fitsAt bytes at b ≡ false
-  unfolding fitsAt
-  fits-not h = lt-leb (at + length bytes) (length b) h
-
-  pub put-sets : at + length bytes ≤ length b → putAt bytes at b ≡ sets b at bytes
-  unfolding putAt
-  put-sets h = simp (fits h) (sym (sets-eq bytes b at h))
-
-  pub put-not : length b < at + length bytes → putAt bytes at b ≡ b
-  unfolding putAt
-  put-not h = simp (fits-not h)
 
 -- at 0 a message fits that is not too long
 pub start-fits : (bytes b : List ℕ) → fitsAt bytes 0 b ≡ not (short bytes b)
@@ -52,6 +40,23 @@ pub put-short : (bytes b : List ℕ) → short bytes b ≡ true → putAt bytes 
 put-short bytes b h =
     let l : length b < length bytes = ltb-true (length b) (length bytes) h in
     put-not bytes 0 b (omega arith)
+
+-- from what the code of `put_message` is told: the case h that the message is
+module _ (g : Message) (at : ℕ) (b : List ℕ) {h : Message} (e : g ≡ h) where
+  pub whole-put : {s : List ℕ} → at + length (messageBytes g) ≤ length b → s ≡ putAt (messageBytes h) at b → s ≡ sets b at (messageBytes g)
+  whole-put room w =
+      let r : at + length (messageBytes h) ≤ length b = omega (arith, length-as e) in
+      w ∙ put-sets (messageBytes h) at b r ∙ ap (λ (x : Message). sets b at (messageBytes x)) (sym e)
+
+pub permit-put : (g : Message) (at : ℕ) (b : List ℕ) {v m k : ℕ} {s t : List ℕ} → g ≡ Permit v m k → at + length (messageBytes g) ≤ length b
+    → s ≡ putAt (0x02 ∷ v ∷ m ∷ []) at b → t ≡ wordPut s (at + 3) k → t ≡ sets b at (messageBytes g)
+unfolding messageBytes wordBytes
+permit-put g at b {v} {m} {k} {s} e room w f =
+    let l : length (messageBytes g) ≡ 11 = length-as e in
+    let z : s ≡ sets b at (0x02 ∷ v ∷ m ∷ []) = w ∙ put-sets (0x02 ∷ v ∷ m ∷ []) at b (omega arith) in
+    let n : length s ≡ length b = ap length z ∙ length-sets b at (0x02 ∷ v ∷ m ∷ []) in
+    f ∙ put-room s (at + 3) k (omega arith) ∙ ap (λ (x : List ℕ). sets x (at + 3) (wordBytes k)) z
+    ∙ rw e (simp towards-suc)
 
 -- from what the code of `write` is told: the message's length n
 module _ (g : Message) (at : ℕ) (b : List ℕ) {n : ℕ} (e : n ≡ length (messageBytes g)) where

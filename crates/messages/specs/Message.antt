@@ -1,15 +1,17 @@
 -- Document 01, "Permits and messages": "Messages: `01` bid (module, supervisor); `02` permit (supervisor, module, 8-byte mask); `03` release
 -- (module, supervisor, event, or FF for no event). Body lengths are 2, 10 and 3, and nothing may follow".
-use Prim.Native.Nat.{ℕ, suc, _+_}
+use Prim.Native.Nat.{ℕ, suc}
 use mathlib.Core.List.{List, [], _∷_, _++_}
 use mathlib.Core.Bool.{Bool, cond, _&&_}
-use lib.ListN.{length, getD, take, drop}
-use lib.Dec.{eqb, leb, ltb}
+use lib.ListN.{length, getD, drop}
+use lib.Dec.{eqb, ltb}
 use Rattle.words.specs.Word.{wordAt, wordBytes}
 use Rattle.messages.specs.declared.Message.{Message}
 use Rattle.messages.specs.declared.Message.the-variants.{Bid, Permit, Release}
 use Rattle.messages.specs.declared.Parsed.{Parsed}
 use Rattle.messages.specs.declared.Parsed.the-variants.{Whole, Misshapen}
+-- bytes put into a buffer, passed on
+unfoldable pub use Rattle.words.specs.Word.{fitsAt, putAt}
 
 -- FF, no event
 abbrev pub noEvent : ℕ
@@ -27,14 +29,6 @@ short answer buffer = ltb (length buffer) (length answer)
 -- "An accepted call writes its answer from the buffer's start and nothing else."
 abbrev pub written : List ℕ → List ℕ → List ℕ
 written answer buffer = answer ++ drop (length answer) buffer
-
--- whether there is room for bytes at an offset of a buffer
-unfoldable pub fitsAt : List ℕ → ℕ → List ℕ → Bool
-fitsAt bytes at buffer = leb (at + length bytes) (length buffer)
-
--- the bytes put there, if there is room; else the buffer stays
-unfoldable pub putAt : List ℕ → ℕ → List ℕ → List ℕ
-putAt bytes at buffer = cond (fitsAt bytes at buffer) (take at buffer ++ bytes ++ drop (at + length bytes) buffer) buffer
 
 -- the kind 01, 02 or 03 and exactly its body's bytes after it
 abbrev pub shaped : ℕ → ℕ → List ℕ → Bool

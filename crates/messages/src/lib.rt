@@ -1,6 +1,5 @@
 // Messages between modules and supervisors: specs/Message.antt.
 ghost use mathlib.Core.Path.{_≡_};
-ghost use mathlib.Core.List.{[], _∷_};
 ghost use Prim.Native.Nat.{_+_, _≤_};
 ghost use lib.ListN.{length};
 ghost use lib.Seq.{sets};
@@ -76,29 +75,21 @@ pub fn length_of(g: Message) -> usize
     }
 }
 
-// The three bytes at an offset.
-fn put_three(s: &mut [u8], at: usize, k: u8, a: u8, b: u8)
-    requires { ⌜ at + 3 ≤ length (now s) ⌝ }
-    ensures { λ r. ⌜ now (s .exit) ≡ sets (now (s .entry)) at (k ∷ a ∷ b ∷ []) ⌝ }
-{
-    s[at] = k;
-    s[at + 1] = a;
-    s[at + 2] = b;
-}
-
 // The message's bytes at an offset.
 fn put_message(g: Message, s: &mut [u8], at: usize)
     requires { ⌜ at + length (messageBytes g) ≤ length (now s) ⌝ }
     ensures { λ r. ⌜ now (s .exit) ≡ sets (now (s .entry)) at (messageBytes g) ⌝ }
 {
     match g {
-        Message::Bid { owner, supervisor } => put_three(s, at, 0x01, owner, supervisor),
+        Message::Bid { owner, supervisor } => {
+            words::put_bytes(s, at, &[0x01, owner, supervisor]);
+        }
         Message::Permit {
             supervisor,
             owner,
             mask,
         } => {
-            put_three(&mut *s, at, 0x02, supervisor, owner);
+            words::put_bytes(&mut *s, at, &[0x02, supervisor, owner]);
             words::put_word(&mut *s, at + 3, mask);
         }
         Message::Release {
@@ -106,8 +97,7 @@ fn put_message(g: Message, s: &mut [u8], at: usize)
             supervisor,
             event,
         } => {
-            put_three(&mut *s, at, 0x03, owner, supervisor);
-            s[at + 3] = event;
+            words::put_bytes(s, at, &[0x03, owner, supervisor, event]);
         }
     }
 }

@@ -1,12 +1,12 @@
 -- Laws of bytes put one after the other.
 use mathlib.Core.Path.{_≡_, refl, sym, ap, _∙_}
 use mathlib.Core.List.{List, [], _∷_, _++_}
-use Prim.Native.Nat.{ℕ, suc, _+_, _≤_, _<_}
+use Prim.Native.Nat.{ℕ, _+_, _≤_}
 use native.Mathlib.Omega.{arith}
-use lib.ListN.{length, getD, set, drop, length-append}
-use lib.Seq.{sets, drop-cons, drop-length}
-use Rattle.messages.specs.Message.{putAt}
-use Rattle.words.specs.Word.{wordBytes}
+use lib.ListN.{length, length-append}
+use lib.Seq.{sets}
+use Rattle.words.specs.Word.{putAt, wordBytes}
+use Rattle.words.proofs.Laws.{put-sets}
 use Rattle.modules.specs.declared.Own.{Own}
 use Rattle.modules.specs.declared.Procedure.{Procedure}
 use Rattle.fields.specs.Fields.{halfBytes, quadBytes, flagByte, floatBytes}
@@ -24,40 +24,26 @@ length-own own n =
     let c : List ℕ = procedureBytes (own .procedure) in
     omega (arith, n, length-append (a ++ own .queue ++ c) (quadBytes (own .outputs)), length-append (a ++ own .queue) c, length-append a (own .queue), length-procedure (own .procedure))
 
--- ---- a loop that puts the members of a list, the first i of which stand there
-
-module _ (o : ℕ) (q l : List ℕ) where
-  pub put-on : (s : List ℕ) (i : ℕ) {x : ℕ} → i < length q → x ≡ getD q i 0 → sets s (o + i) (drop i q) ≡ sets l o q → sets (set s (o + i) x) (o + (i + 1)) (drop (i + 1) q) ≡ sets l o q
-  put-on s i {x} h e w =
-      let n : o + (i + 1) ≡ suc (o + i) = omega arith in
-      let m : i + 1 ≡ suc i = omega arith in
-      ap (λ (k : ℕ). sets (set s (o + i) x) k (drop (i + 1) q)) n
-      ∙ ap (λ (k : ℕ). sets (set s (o + i) x) (suc (o + i)) (drop k q)) m
-      ∙ ap (λ (y : ℕ). sets s (o + i) (y ∷ drop (suc i) q)) e
-      ∙ ap (sets s (o + i)) (sym (drop-cons q i 0 h)) ∙ w
-
-  pub put-done : (s : List ℕ) (i : ℕ) → length q ≡ i → sets s (o + i) (drop i q) ≡ sets l o q → s ≡ sets l o q
-  put-done s i e w = sym (ap (λ (r : List ℕ). sets s (o + i) r) (ap (λ (k : ℕ). drop k q) (sym e) ∙ drop-length q)) ∙ w
-
 -- ---- the pieces of a procedure and of an own part, from what the code is told
 
 module _ (l : List ℕ) (o : ℕ) where
-  pub procedure-put : {s1 s2 s3 s4 : List ℕ} (p : Procedure) {f : ℕ} → o + 21 ≤ length l → f ≡ flagByte (p .running) → s1 ≡ sets l o (f ∷ p .event ∷ p .index ∷ [])
+  pub procedure-put : {s1 s2 s3 s4 : List ℕ} (p : Procedure) {f : ℕ} → o + 21 ≤ length l → f ≡ flagByte (p .running) → s1 ≡ putAt (f ∷ p .event ∷ p .index ∷ []) o l
       → s2 ≡ putAt (halfBytes (p .count)) (o + 3) s1 → s3 ≡ putAt (floatBytes (p .water .target)) (o + 5) s2 → s4 ≡ putAt (floatBytes (p .water .total)) (o + 13) s3
       → s4 ≡ sets l o (procedureBytes p)
   unfolding procedureBytes halfBytes wordBytes
-  procedure-put p {f} room z e g h k =
+  procedure-put {s1} p {f} room z e g h k =
+      let first : s1 ≡ sets l o (f ∷ p .event ∷ p .index ∷ []) = e ∙ put-sets (f ∷ p .event ∷ p .index ∷ []) o l (omega arith) in
       let a : List ℕ = flagByte (p .running) ∷ p .event ∷ p .index ∷ [] in
       let b : List ℕ = halfBytes (p .count) in
       let c : List ℕ = floatBytes (p .water .target) in
       let d : List ℕ = floatBytes (p .water .total) in
-      next l o (a ++ b ++ c) d (o + 13) (next l o (a ++ b) c (o + 5) (next l o a b (o + 3) (e ∙ ap (λ (y : ℕ). sets l o (y ∷ p .event ∷ p .index ∷ [])) z) refl (omega arith) g) refl (omega arith) h) refl (omega arith) k
+      next l o (a ++ b ++ c) d (o + 13) (next l o (a ++ b) c (o + 5) (next l o a b (o + 3) (first ∙ ap (λ (y : ℕ). sets l o (y ∷ p .event ∷ p .index ∷ [])) z) refl (omega arith) g) refl (omega arith) h) refl (omega arith) k
 
-  pub own-put : {s1 s2 s3 s4 : List ℕ} (own : Own) → length (own .queue) ≡ 8 → o + 35 ≤ length l → s1 ≡ sets l o (own .state ∷ own .length ∷ [])
-      → s2 ≡ sets s1 (o + 2) (own .queue) → s3 ≡ sets s2 (o + 10) (procedureBytes (own .procedure)) → s4 ≡ putAt (quadBytes (own .outputs)) (o + 31) s3
+  pub own-put : {s1 s2 s3 s4 : List ℕ} (own : Own) → length (own .queue) ≡ 8 → o + 35 ≤ length l → s1 ≡ putAt (own .state ∷ own .length ∷ []) o l
+      → s2 ≡ putAt (own .queue) (o + 2) s1 → s3 ≡ sets s2 (o + 10) (procedureBytes (own .procedure)) → s4 ≡ putAt (quadBytes (own .outputs)) (o + 31) s3
       → s4 ≡ sets l o (ownBytes own)
   unfolding ownBytes
-  own-put own n room e g h k =
+  own-put {s1} {s2} own n room e g h k =
       let a : List ℕ = own .state ∷ own .length ∷ [] in
       let b : List ℕ = own .queue in
       let c : List ℕ = procedureBytes (own .procedure) in
@@ -66,4 +52,6 @@ module _ (l : List ℕ) (o : ℕ) where
       let v : o + 10 ≡ o + length (a ++ b) = omega (arith, length-append a b) in
       let w : o + 31 ≡ o + length (a ++ b ++ c) = omega arith in
       let r : o + length (a ++ b ++ c ++ d) ≤ length l = omega (arith, length-append (a ++ b ++ c) d, length-quad (own .outputs)) in
-      next l o (a ++ b ++ c) d (o + 31) (h ∙ ap (λ (x : List ℕ). sets x (o + 10) c) (g ∙ ap (λ (x : List ℕ). sets x (o + 2) b) e ∙ join l a b o (o + 2) refl) ∙ join l (a ++ b) c o (o + 10) v) w r k
+      let first : s1 ≡ sets l o a = e ∙ put-sets a o l (omega arith) in
+      let second : s2 ≡ sets l o (a ++ b) = next l o a b (o + 2) first refl (omega (arith, length-append a b)) g in
+      next l o (a ++ b ++ c) d (o + 31) (h ∙ ap (λ (x : List ℕ). sets x (o + 10) c) second ∙ join l (a ++ b) c o (o + 10) v) w r k

@@ -1,6 +1,5 @@
 // A module's own part in the bytes of a state: specs/Own.antt.
 ghost use mathlib.Core.Path.{_≡_};
-ghost use mathlib.Core.List.{[], _∷_};
 ghost use Prim.Native.Nat.{_+_, _≤_};
 ghost use lib.ListN.{length};
 ghost use lib.Seq.{sets};
@@ -79,39 +78,12 @@ pub fn is_own(s: &[u8]) -> bool
 
 // ---- an own part written
 
-fn put_two(s: &mut [u8], o: usize, a: u8, b: u8)
-    requires { ⌜ o + 2 ≤ length (now s) ⌝ }
-    ensures { λ _. ⌜ now (s .exit) ≡ sets (now (s .entry)) o (a ∷ b ∷ []) ⌝ }
-{
-    s[o] = a;
-    s[o + 1] = b;
-}
-
-fn put_three(s: &mut [u8], o: usize, a: u8, b: u8, c: u8)
-    requires { ⌜ o + 3 ≤ length (now s) ⌝ }
-    ensures { λ _. ⌜ now (s .exit) ≡ sets (now (s .entry)) o (a ∷ b ∷ c ∷ []) ⌝ }
-{
-    s[o] = a;
-    s[o + 1] = b;
-    s[o + 2] = c;
-}
-
-fn put_queue(s: &mut [u8], o: usize, q: [u8; 8])
-    requires { ⌜ o + 8 ≤ length (now s) ⌝ }
-    ensures { λ _. ⌜ now (s .exit) ≡ sets (now (s .entry)) o q ⌝ }
-{
-    let mut i: usize = 0;
-    while i < 8 {
-        s[o + i] = q[i];
-        i += 1;
-    }
-}
-
 fn put_procedure(s: &mut [u8], o: usize, p: Procedure)
     requires { ⌜ o + 21 ≤ length (now s) ⌝ }
     ensures { λ _. ⌜ now (s .exit) ≡ sets (now (s .entry)) o (procedureBytes p) ⌝ }
 {
-    put_three(&mut *s, o, fields::flag_of(p.running), p.event, p.index);
+    let head = [fields::flag_of(p.running), p.event, p.index];
+    words::put_bytes(&mut *s, o, &head);
     fields::put_half(&mut *s, o + 3, p.count);
     fields::put_float(&mut *s, o + 5, p.water.target);
     fields::put_float(&mut *s, o + 13, p.water.total);
@@ -123,8 +95,8 @@ fn put_own_in(s: &mut [u8], o: usize, own: Own)
 {
     let queue = own.queue;
     let procedure = own.procedure;
-    put_two(&mut *s, o, own.state, own.length);
-    put_queue(&mut *s, o + 2, queue);
+    words::put_bytes(&mut *s, o, &[own.state, own.length]);
+    words::put_bytes(&mut *s, o + 2, &queue);
     put_procedure(&mut *s, o + 10, procedure);
     fields::put_quad(&mut *s, o + 31, own.outputs);
 }

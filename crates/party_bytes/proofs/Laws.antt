@@ -1,5 +1,5 @@
 -- The bytes of a party read and put, from what the code is told.
-use mathlib.Core.Path.{_≡_, refl, sym, ap, _∙_}
+use mathlib.Core.Path.{_≡_, refl, sym, ap, ap₂, _∙_}
 use mathlib.Core.List.{List, [], _∷_, _++_}
 use mathlib.Core.Bool.{Bool, true, false}
 use Prim.Native.Nat.{ℕ, _+_, _/_, _%_, _≤_, _<_}
@@ -86,15 +86,8 @@ module _ (l : List ℕ) (x : Module) (n : length (x .own .queue) ≡ 8) where
   pub module-short : length l < 48 → l ≡ putAt (moduleBytes x) 0 l
   module-short h = sym (put-not (moduleBytes x) 0 l (omega (arith, length-module x n)))
 
-module _ (l : List ℕ) (y : Supervisor) where
-  pub supervisor-put : {f m : ℕ} {o : Bool} → 6 ≤ length l → o ≡ isOut (y .holder) → f ≡ flagByte o → m ≡ holderByte (y .holder)
-      → set (set (set (set (set (set l 0 (y .state)) 1 (y .noted / 0x100 % 256)) 2 (y .noted % 256)) 3 f) 4 m) 5 (y .last) ≡ putAt (supervisorBytes y) 0 l
-  unfolding supervisorBytes halfBytes
-  supervisor-put {f} {m} h w e g =
-      let fit : 0 + length (supervisorBytes y) ≤ length l = omega (arith, length-supervisor y) in
-      ap (λ (k : ℕ). set (set (set (set (set (set l 0 (y .state)) 1 (y .noted / 0x100 % 256)) 2 (y .noted % 256)) 3 k) 4 m) 5 (y .last)) (e ∙ ap flagByte w)
-      ∙ ap (λ (k : ℕ). set (set (set (set (set (set l 0 (y .state)) 1 (y .noted / 0x100 % 256)) 2 (y .noted % 256)) 3 (flagByte (isOut (y .holder)))) 4 k) 5 (y .last)) g
-      ∙ sym (put-sets (supervisorBytes y) 0 l fit)
-
-  pub supervisor-short : length l < 6 → l ≡ putAt (supervisorBytes y) 0 l
-  supervisor-short h = sym (put-not (supervisorBytes y) 0 l (omega (arith, length-supervisor y)))
+pub supervisor-put : (l : List ℕ) (y : Supervisor) {f m : ℕ} {o : Bool} {s : List ℕ} → o ≡ isOut (y .holder) → f ≡ flagByte o → m ≡ holderByte (y .holder)
+    → s ≡ putAt (y .state ∷ y .noted / 0x100 % 256 ∷ y .noted % 256 ∷ f ∷ m ∷ y .last ∷ []) 0 l → s ≡ putAt (supervisorBytes y) 0 l
+unfolding supervisorBytes halfBytes
+supervisor-put l y w e g k =
+    k ∙ ap₂ (λ (p q : ℕ). putAt (y .state ∷ y .noted / 0x100 % 256 ∷ y .noted % 256 ∷ p ∷ q ∷ y .last ∷ []) 0 l) (e ∙ ap flagByte w) g

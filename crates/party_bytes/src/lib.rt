@@ -142,15 +142,10 @@ fn holder_byte(h: Holder) -> u8
 pub fn put_supervisor(s: &mut [u8], y: Supervisor)
     ensures { λ _. ⌜ now (s .exit) ≡ putAt (supervisorBytes y) 0 (now (s .entry)) ⌝ }
 {
-    if 6 <= s.len() {
-        let holder = y.holder;
-        let flag = fields::flag_of(is_out(holder));
-        let out = holder_byte(holder);
-        s[0] = y.state;
-        s[1] = (y.noted / 0x100 % 256) as u8;
-        s[2] = (y.noted % 256) as u8;
-        s[3] = flag;
-        s[4] = out;
-        s[5] = y.last;
-    }
+    let holder = y.holder;
+    let flag = fields::flag_of(is_out(holder));
+    let out = holder_byte(holder);
+    let high = (y.noted / 0x100 % 256) as u8;
+    let low = (y.noted % 256) as u8;
+    words::put_bytes(s, 0, &[y.state, high, low, flag, out, y.last]);
 }

@@ -1,13 +1,60 @@
--- Laws of the number that eight bytes are.
+-- Laws of bytes put into a list, and of the number that eight bytes are.
 use mathlib.Core.Path.{_≡_, refl, sym, ap, _∙_}
-use mathlib.Core.List.{List, _++_, map}
-use Prim.Native.Nat.{ℕ, _+_, _*_, _/_, _%_, _^_, _≤_, _<_}
+use mathlib.Core.List.{List, _∷_, _++_, map}
+use mathlib.Core.Bool.{true, false}
+use Prim.Native.Nat.{ℕ, suc, _+_, _-_, _*_, _/_, _%_, _^_, _≤_, _<_}
 use native.Mathlib.Nat.{add-assoc, div-div-eq-div-mul, div-add-mod'}
 use native.Mathlib.Omega.{arith}
-use lib.ListN.{length, getD, drop, length-map, List·getD-eq-default}
-use lib.Seq.{sets, getD-drop}
+use lib.ListN.{length, getD, set, drop, length-map, List·getD-eq-default}
+use lib.Seq.{sets, sets-eq, getD-drop, drop-cons, drop-length}
 use borrow.Author.Tests.{le-leb, lt-leb}
-use Rattle.words.specs.Word.{wordAt, wordBytes, wordPut, appendByte}
+use Rattle.words.specs.Word.{fitsAt, putAt, wordAt, wordBytes, wordPut, appendByte}
+
+-- ---- bytes put
+
+module _ (bytes : List ℕ) (at : ℕ) (b : List ℕ) where
+  pub fits : at + length bytes ≤ length b → fitsAt bytes at b ≡ true
+  unfolding fitsAt
+  fits h = le-leb (at + length bytes) (length b) h
+
+  pub fits-not : length b < at + length bytes → fitsAt bytes at b ≡ false
+  unfolding fitsAt
+  fits-not h = lt-leb (at + length bytes) (length b) h
+
+  pub put-sets : at + length bytes ≤ length b → putAt bytes at b ≡ sets b at bytes
+  unfolding putAt
+  put-sets h = simp (fits h) (sym (sets-eq bytes b at h))
+
+  pub put-not : length b < at + length bytes → putAt bytes at b ≡ b
+  unfolding putAt
+  put-not h = simp (fits-not h)
+
+-- room for n bytes at an offset, as the code tests it
+module _ (bytes l : List ℕ) (o : ℕ) {n : ℕ} (e : length bytes ≡ n) where
+  pub room : {s : List ℕ} → n ≤ length l → o ≤ length l - n → s ≡ sets l o bytes → s ≡ putAt bytes o l
+  room h k w = w ∙ sym (put-sets bytes o l (omega arith))
+
+  pub far : n ≤ length l → length l - n < o → l ≡ putAt bytes o l
+  far h k = sym (put-not bytes o l (omega arith))
+
+  pub narrow : length l < n → l ≡ putAt bytes o l
+  narrow h = sym (put-not bytes o l (omega arith))
+
+-- a loop that puts the members of a list, the first i of which stand there
+module _ (o : ℕ) (q l : List ℕ) where
+  pub put-on : (s : List ℕ) (i : ℕ) {x : ℕ} → i < length q → x ≡ getD q i 0 → sets s (o + i) (drop i q) ≡ sets l o q → sets (set s (o + i) x) (o + (i + 1)) (drop (i + 1) q) ≡ sets l o q
+  put-on s i {x} h e w =
+      let n : o + (i + 1) ≡ suc (o + i) = omega arith in
+      let m : i + 1 ≡ suc i = omega arith in
+      ap (λ (k : ℕ). sets (set s (o + i) x) k (drop (i + 1) q)) n
+      ∙ ap (λ (k : ℕ). sets (set s (o + i) x) (suc (o + i)) (drop k q)) m
+      ∙ ap (λ (y : ℕ). sets s (o + i) (y ∷ drop (suc i) q)) e
+      ∙ ap (sets s (o + i)) (sym (drop-cons q i 0 h)) ∙ w
+
+  pub put-done : (s : List ℕ) (i : ℕ) → length q ≡ i → sets s (o + i) (drop i q) ≡ sets l o q → s ≡ sets l o q
+  put-done s i e w = sym (ap (λ (r : List ℕ). sets s (o + i) r) (ap (λ (k : ℕ). drop k q) (sym e) ∙ drop-length q)) ∙ w
+
+-- ---- numbers of eight bytes
 
 -- past the end
 pub word-none : (s : List ℕ) (o : ℕ) → length s ≤ o → wordAt s o ≡ 0
@@ -28,13 +75,10 @@ pub word-drop : (b : ℕ) (s : List ℕ) (o : ℕ) → wordAt (drop b s) o ≡ w
 unfolding wordAt
 word-drop b s o = simp (getD-drop, add-assoc)
 
+-- the bytes of a number put, if there is room for them
 pub put-room : (s : List ℕ) (o x : ℕ) → o + 8 ≤ length s → wordPut s o x ≡ sets s o (wordBytes x)
-unfolding wordPut
-put-room s o x h = simp (le-leb (o + 8) (length s) h)
-
-pub put-short : (s : List ℕ) (o x : ℕ) → length s < o + 8 → wordPut s o x ≡ s
-unfolding wordPut
-put-short s o x h = simp (lt-leb (o + 8) (length s) h)
+unfolding wordPut wordBytes
+put-room s o x h = put-sets (wordBytes x) o s h
 
 -- one digit more
 up : (x c : ℕ) → appendByte (x / (c * 256)) (x / c % 256) ≡ x / c

@@ -1,10 +1,17 @@
--- Numbers of eight bytes. Document 01: "Multi-byte values are big-endian".
+-- Bytes put into a list, and numbers of eight bytes. Document 01: "Multi-byte values are big-endian".
 use Prim.Native.Nat.{ℕ, _+_, _*_, _/_, _%_}
-use mathlib.Core.List.{List, [], _∷_}
-use mathlib.Core.Bool.{cond}
-use lib.ListN.{length, getD}
+use mathlib.Core.List.{List, [], _∷_, _++_}
+use mathlib.Core.Bool.{Bool, cond}
+use lib.ListN.{length, getD, take, drop}
 use lib.Dec.{leb}
-use lib.Seq.{sets}
+
+-- whether there is room for bytes at an offset of a buffer
+unfoldable pub fitsAt : List ℕ → ℕ → List ℕ → Bool
+fitsAt bytes at buffer = leb (at + length bytes) (length buffer)
+
+-- the bytes put there, if there is room; else the buffer stays
+unfoldable pub putAt : List ℕ → ℕ → List ℕ → List ℕ
+putAt bytes at buffer = cond (fitsAt bytes at buffer) (take at buffer ++ bytes ++ drop (at + length bytes) buffer) buffer
 
 -- a number with one byte appended
 abbrev pub appendByte : ℕ → ℕ → ℕ
@@ -23,4 +30,4 @@ wordBytes x =
 
 -- the list with the eight bytes of x at an offset, if it has room for all
 unfoldable pub wordPut : List ℕ → ℕ → ℕ → List ℕ
-wordPut s o x = cond (leb (o + 8) (length s)) (sets s o (wordBytes x)) s
+wordPut s o x = putAt (wordBytes x) o s

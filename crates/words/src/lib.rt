@@ -3,7 +3,7 @@ ghost use mathlib.Core.Path.{_≡_};
 ghost use Prim.Native.Nat.{_<_, _≤_, _+_};
 ghost use lib.ListN.{length, getD};
 ghost use lib.Seq.{sets};
-ghost use Rattle.words.specs.Word.{wordAt, wordBytes, wordPut};
+ghost use Rattle.words.specs.Word.{putAt, wordAt, wordPut};
 
 // A byte as an index.
 pub fn wide(b: u8) -> usize
@@ -52,27 +52,42 @@ pub fn word_at(s: &[u8], o: usize) -> u64
     if o < s.len() { word_in(s, o) } else { 0 }
 }
 
-fn put_in(s: &mut [u8], o: usize, x: u64)
-    requires { ⌜ o + 8 ≤ length (now s) ⌝ }
-    ensures { λ r. ⌜ now (s .exit) ≡ sets (now (s .entry)) o (wordBytes x) ⌝ }
+fn put_in(s: &mut [u8], o: usize, bytes: &[u8])
+    requires { ⌜ o + length (now bytes) ≤ length (now s) ⌝ }
+    ensures { λ _. ⌜ now (s .exit) ≡ sets (now (s .entry)) o (now (bytes .entry)) ⌝ }
 {
-    s[o] = (x / 0x100000000000000 % 256) as u8;
-    s[o + 1] = (x / 0x1000000000000 % 256) as u8;
-    s[o + 2] = (x / 0x10000000000 % 256) as u8;
-    s[o + 3] = (x / 0x100000000 % 256) as u8;
-    s[o + 4] = (x / 0x1000000 % 256) as u8;
-    s[o + 5] = (x / 0x10000 % 256) as u8;
-    s[o + 6] = (x / 0x100 % 256) as u8;
-    s[o + 7] = (x % 256) as u8;
+    let mut i: usize = 0;
+    while i < bytes.len() {
+        s[o + i] = bytes[i];
+        i += 1;
+    }
 }
 
-// Puts the eight bytes of a number at an index, if there is room for all; else the slice stays.
+// Puts bytes at an index, if there is room for all; else the slice stays.
+pub fn put_bytes(s: &mut [u8], o: usize, bytes: &[u8])
+    ensures { λ _. ⌜ now (s .exit) ≡ putAt (now (bytes .entry)) o (now (s .entry)) ⌝ }
+{
+    let n = bytes.len();
+    if n <= s.len() {
+        if o <= s.len() - n {
+            put_in(&mut *s, o, bytes);
+        }
+    }
+}
+
+// Puts the eight bytes of a number likewise.
 pub fn put_word(s: &mut [u8], o: usize, x: u64)
     ensures { λ r. ⌜ now (s .exit) ≡ wordPut (now (s .entry)) o x ⌝ }
 {
-    if 8 <= s.len() {
-        if o <= s.len() - 8 {
-            put_in(&mut *s, o, x);
-        }
-    }
+    let bytes = [
+        (x / 0x100000000000000 % 256) as u8,
+        (x / 0x1000000000000 % 256) as u8,
+        (x / 0x10000000000 % 256) as u8,
+        (x / 0x100000000 % 256) as u8,
+        (x / 0x1000000 % 256) as u8,
+        (x / 0x10000 % 256) as u8,
+        (x / 0x100 % 256) as u8,
+        (x % 256) as u8,
+    ];
+    put_bytes(s, o, &bytes);
 }

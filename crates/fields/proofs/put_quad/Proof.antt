@@ -1,75 +1,42 @@
-use Rattle.fields.proofs.Writing.{quad-put, far, narrow, length-quad}
-use lib.ListN.{length-set}
-use native.Mathlib.Omega.{arith}
+use Rattle.fields.specs.Fields.{quadBytes}
 use borrow.Author.Needs.{needs}
 use Rattle.fields.proofs.put_quad.Statement.{statement}
 use Rattle.fields.proofs.put_quad.Tie as tie
 
-sub-if2 : tie.Need-sub-if2
-sub-if2 c = search needs
+cast-t7 : tie.Need-cast-t7
+cast-t7 c = search needs
 
-cast-s : tie.Need-cast-s
-cast-s c = search needs
+cast-t10 : tie.Need-cast-t10
+cast-t10 c = search needs
 
-slice-write-s : tie.Need-slice-write-s
-slice-write-s c = search needs
+cast-t13 : tie.Need-cast-t13
+cast-t13 c = search needs
 
-cast-s-2 : tie.Need-cast-s-2
-cast-s-2 c = search needs
+cast-t15 : tie.Need-cast-t15
+cast-t15 c = search needs
 
-add-s : tie.Need-add-s
-add-s c = search needs
+slice-aggregate-put-bytes : tie.Need-slice-aggregate-put-bytes
+slice-aggregate-put-bytes c = search needs
 
-slice-write-s-2 : tie.Need-slice-write-s-2
-slice-write-s-2 c = simp length-set (omega arith)
-
-cast-s-3 : tie.Need-cast-s-3
-cast-s-3 c = search needs
-
-add-s-2 : tie.Need-add-s-2
-add-s-2 c = search needs
-
-slice-write-s-3 : tie.Need-slice-write-s-3
-slice-write-s-3 c = simp length-set (omega arith)
-
-cast-s-4 : tie.Need-cast-s-4
-cast-s-4 c = search needs
-
-add-s-3 : tie.Need-add-s-3
-add-s-3 c = search needs
-
-slice-write-s-4 : tie.Need-slice-write-s-4
-slice-write-s-4 c = simp length-set (omega arith)
+put-bytes-requires : tie.Need-put-bytes-requires
+put-bytes-requires c κs = search needs
 
 same-length : tie.Need-same-length
 same-length c = search needs
 
 returns : tie.Need-returns
-returns c = search quad-put
-
-returns-2 : tie.Need-returns-2
-returns-2 c = search (far, length-quad)
-
-returns-3 : tie.Need-returns-3
-returns-3 c = search (narrow, length-quad)
+unfolding quadBytes
+returns c = search needs
 
 pub put-quad-spec : {M : Type 1} → statement M
 put-quad-spec =
     tie.close
     (tie.spec
-    sub-if2
-    cast-s
-    slice-write-s
-    cast-s-2
-    add-s
-    slice-write-s-2
-    cast-s-3
-    add-s-2
-    slice-write-s-3
-    cast-s-4
-    add-s-3
-    slice-write-s-4
+    cast-t7
+    cast-t10
+    cast-t13
+    cast-t15
+    slice-aggregate-put-bytes
+    put-bytes-requires
     same-length
-    returns
-    returns-2
-    returns-3)
+    returns)

@@ -1,4 +1,4 @@
-use Rattle.fields.proofs.Writing.{word-put}
+use Rattle.words.specs.Word.{wordPut}
 use borrow.Author.Needs.{needs}
 use Rattle.fields.proofs.put_word.Statement.{statement}
 use Rattle.fields.proofs.put_word.Tie as tie
@@ -10,7 +10,8 @@ same-length : tie.Need-same-length
 same-length c = search needs
 
 returns : tie.Need-returns
-returns c = search word-put
+unfolding wordPut
+returns c = search needs
 
 pub put-word-spec : {M : Type 1} → statement M
 put-word-spec = tie.close (tie.spec put-word-requires same-length returns)

@@ -1,5 +1,5 @@
 use Rattle.modules.proofs.Queue.{eight}
-use Rattle.fields.proofs.Writing.{room, far, narrow}
+use Rattle.words.proofs.Laws.{room, far, narrow}
 use Rattle.own_bytes.proofs.Writing.{length-own}
 use borrow.Author.Needs.{needs}
 use Rattle.own_bytes.proofs.put_own.Statement.{statement}

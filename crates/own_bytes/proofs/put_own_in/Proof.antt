@@ -4,14 +4,20 @@ use borrow.Author.Needs.{needs}
 use Rattle.own_bytes.proofs.put_own_in.Statement.{statement}
 use Rattle.own_bytes.proofs.put_own_in.Tie as tie
 
-put-two-requires : tie.Need-put-two-requires
-put-two-requires c κs = search needs
+slice-aggregate-put-bytes : tie.Need-slice-aggregate-put-bytes
+slice-aggregate-put-bytes c = search needs
 
-add-put-queue : tie.Need-add-put-queue
-add-put-queue c = search needs
+put-bytes-requires : tie.Need-put-bytes-requires
+put-bytes-requires c κs = search needs
 
-put-queue-requires : tie.Need-put-queue-requires
-put-queue-requires c κs = search needs
+add-put-bytes : tie.Need-add-put-bytes
+add-put-bytes c = search needs
+
+slice-aggregate-put-bytes-2 : tie.Need-slice-aggregate-put-bytes-2
+slice-aggregate-put-bytes-2 c = search needs
+
+put-bytes-requires-2 : tie.Need-put-bytes-requires-2
+put-bytes-requires-2 c κs = search needs
 
 add-put-procedure : tie.Need-add-put-procedure
 add-put-procedure c = search needs
@@ -35,9 +41,11 @@ pub put-own-in-spec : {M : Type 1} → statement M
 put-own-in-spec =
     tie.close
     (tie.spec
-    put-two-requires
-    add-put-queue
-    put-queue-requires
+    slice-aggregate-put-bytes
+    put-bytes-requires
+    add-put-bytes
+    slice-aggregate-put-bytes-2
+    put-bytes-requires-2
     add-put-procedure
     put-procedure-requires
     add-put-quad

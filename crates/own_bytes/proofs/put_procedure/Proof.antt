@@ -6,8 +6,11 @@ use Rattle.own_bytes.proofs.put_procedure.Tie as tie
 flag-of-requires : tie.Need-flag-of-requires
 flag-of-requires c κs = search needs
 
-put-three-requires : tie.Need-put-three-requires
-put-three-requires c κs = search needs
+slice-aggregate-put-bytes : tie.Need-slice-aggregate-put-bytes
+slice-aggregate-put-bytes c = search needs
+
+put-bytes-requires : tie.Need-put-bytes-requires
+put-bytes-requires c κs = search needs
 
 add-put-half : tie.Need-add-put-half
 add-put-half c = search needs
@@ -38,7 +41,8 @@ put-procedure-spec =
     tie.close
     (tie.spec
     flag-of-requires
-    put-three-requires
+    slice-aggregate-put-bytes
+    put-bytes-requires
     add-put-half
     put-half-requires
     add-put-float

@@ -1,113 +1,65 @@
-use native.Mathlib.Omega.{arith}
-use native.Mathlib.Numerals.{towards-suc}
-use lib.ListN.{length-set}
-use Rattle.words.specs.Word.{wordBytes}
 use borrow.Author.Needs.{needs}
+use mathlib.Core.Path.{_≡_, refl}
+use Prim.Native.Nat.{_+_, _-_, _≤_, _<_}
+use native.Mathlib.Nat.{add-zero}
+use native.Mathlib.Omega.{arith}
+use lib.ListN.{length, drop, length-set}
+use lib.Seq.{sets}
+use Rattle.words.proofs.Laws.{put-on, put-done}
 use Rattle.words.proofs.put_in.Statement.{statement}
 use Rattle.words.proofs.put_in.Tie as tie
 
-cast-s : tie.Need-cast-s
-cast-s c = search needs
+abbrev Inv-loop : tie.InvT-loop
+Inv-loop s₀ o bytes i₀ s i = (sets s (o + i) (drop i bytes) ≡ sets s₀ o bytes) × (length s ≡ length s₀) × (i ≤ length bytes)
 
-slice-write-s : tie.Need-slice-write-s
-slice-write-s c = search needs
+abbrev μ-loop : tie.MeasureT-loop
+μ-loop s₀ o bytes i₀ s i = length bytes - i
 
-cast-s-2 : tie.Need-cast-s-2
-cast-s-2 c = search needs
+loop-holds : tie.Need-loop-holds Inv-loop μ-loop
+loop-holds c = (simp add-zero, refl, omega arith)
 
-add-s : tie.Need-add-s
+shared-slice-read-s : tie.Need-shared-slice-read-s Inv-loop μ-loop
+shared-slice-read-s c = search needs
+
+add-s : tie.Need-add-s Inv-loop μ-loop
 add-s c = search needs
 
-slice-write-s-2 : tie.Need-slice-write-s-2
-slice-write-s-2 c = simp length-set (omega arith)
+slice-write-s : tie.Need-slice-write-s Inv-loop μ-loop
+slice-write-s c = search needs
 
-cast-s-3 : tie.Need-cast-s-3
-cast-s-3 c = search needs
+add-i : tie.Need-add-i Inv-loop μ-loop
+add-i c = search needs
 
-add-s-2 : tie.Need-add-s-2
-add-s-2 c = search needs
+loop-less : tie.Need-loop-less Inv-loop μ-loop
+loop-less c = search needs
 
-slice-write-s-3 : tie.Need-slice-write-s-3
-slice-write-s-3 c = simp length-set (omega arith)
+loop-again : tie.Need-loop-again Inv-loop μ-loop
+loop-again c =
+    let at = c .before .before .before .args in
+    let loop = c .before .before .loop in
+    (put-on (at .o) (at .bytes .now) (at .s .now) (loop .s) (loop .i) (search needs) refl (loop .inv .0), simp length-set (loop .inv .1), omega arith)
 
-cast-s-4 : tie.Need-cast-s-4
-cast-s-4 c = search needs
+same-length : tie.Need-same-length Inv-loop μ-loop
+same-length c = search needs
 
-add-s-3 : tie.Need-add-s-3
-add-s-3 c = search needs
-
-slice-write-s-4 : tie.Need-slice-write-s-4
-slice-write-s-4 c = simp length-set (omega arith)
-
-cast-s-5 : tie.Need-cast-s-5
-cast-s-5 c = search needs
-
-add-s-4 : tie.Need-add-s-4
-add-s-4 c = search needs
-
-slice-write-s-5 : tie.Need-slice-write-s-5
-slice-write-s-5 c = simp length-set (omega arith)
-
-cast-s-6 : tie.Need-cast-s-6
-cast-s-6 c = search needs
-
-add-s-5 : tie.Need-add-s-5
-add-s-5 c = search needs
-
-slice-write-s-6 : tie.Need-slice-write-s-6
-slice-write-s-6 c = simp length-set (omega arith)
-
-cast-s-7 : tie.Need-cast-s-7
-cast-s-7 c = search needs
-
-add-s-6 : tie.Need-add-s-6
-add-s-6 c = search needs
-
-slice-write-s-7 : tie.Need-slice-write-s-7
-slice-write-s-7 c = simp length-set (omega arith)
-
-cast-s-8 : tie.Need-cast-s-8
-cast-s-8 c = search needs
-
-add-s-7 : tie.Need-add-s-7
-add-s-7 c = search needs
-
-slice-write-s-8 : tie.Need-slice-write-s-8
-slice-write-s-8 c = simp length-set (omega arith)
-
-same-length : tie.Need-same-length
-same-length c = simp length-set
-
-returns : tie.Need-returns
-unfolding wordBytes
-returns c = simp towards-suc
+returns : tie.Need-returns Inv-loop μ-loop
+returns c =
+    let at = c .before .before .args in
+    let loop = c .before .loop in
+    put-done (at .o) (at .bytes .now) (at .s .now) (loop .s) (loop .i) (omega arith) (loop .inv .0)
 
 pub put-in-spec : {M : Type 1} → statement M
 put-in-spec =
     tie.close
     (tie.spec
-    cast-s
-    slice-write-s
-    cast-s-2
+    Inv-loop
+    μ-loop
+    loop-holds
+    shared-slice-read-s
     add-s
-    slice-write-s-2
-    cast-s-3
-    add-s-2
-    slice-write-s-3
-    cast-s-4
-    add-s-3
-    slice-write-s-4
-    cast-s-5
-    add-s-4
-    slice-write-s-5
-    cast-s-6
-    add-s-5
-    slice-write-s-6
-    cast-s-7
-    add-s-6
-    slice-write-s-7
-    cast-s-8
-    add-s-7
-    slice-write-s-8
+    slice-write-s
+    add-i
+    loop-less
+    loop-again
     same-length
     returns)
