@@ -34,7 +34,7 @@ use Rattle.context.specs.Context.{withEntry, withBit, countsAfter, eventsAfter,
 use Rattle.judge.specs.Judge.{indexBy, orderBy, namesBy, rulesBy, allBy, judgeBy}
 use Rattle.checker.specs.declared.Fields.{Fields}
 use Rattle.checker.specs.Stretch.{checkBy, Stretch, Passed, notedPast, atEvents, atModules, atModuleMoves, atSupervisors, atDisablings, atSteps}
-use Rattle.checker.specs.Stretch.{standsAt, fieldsAt, eventKept, moduleKept, supervisorKept, Below, moveNamed, disablingNamed, respondFits, stepKept}
+use Rattle.checker.specs.Stretch.{standsAt, fieldsAt, supervisorKept, Below, moveNamed, disablingNamed, respondFits, stepKept}
 
 and-true : (a : Bool) → (a && true) ≡ a
 and-true true = refl
@@ -289,16 +289,17 @@ module _ (n : Counts) (ev : Events) (e x : ℕ) where
           (r .0, subst (λ (y : ℕ). uncontrollable && same y ≡ true) m (r .1))
       go false p q = absurd (false≢true q)
 
-module _ (s : List ℕ) (c : Context → Context) (i : ℕ) (n : Counts) (p : RecordKey) (j : ℕ) {b : Bool} {f : Fields} {k : ℕ} {o kept : Bool} (g : f ≡ fieldsAt s j) (k1 : k ≡ f .first) where
+module _ (s : List ℕ) (c : Context → Context) (i : ℕ) (n : Counts) (p : RecordKey) (j : ℕ) {b : Bool} {f : Fields} {k : ℕ} {o : Bool} (g : f ≡ fieldsAt s j) (k1 : k ≡ f .first) where
   pub event-step : (known controllable : ℕ) (owner : List ℕ) {a t : ℕ} → b ≡ standsAt s j 0x11 4 → not b ≡ false → f .first < 64
-      → kept ≡ eventKept f n → o ≡ precedes p (keyBy 0x11 (f .first) 0 0) → not (o && kept) ≡ false
+      → o ≡ precedes p (keyBy 0x11 (f .first) 0 0) → not (o && (leb (f .third) 1 && (ltb (f .first) (n .events) && ltb (f .second) (n .modules)))) ≡ false
       → a ≡ putBit known (f .first) true → t ≡ putBit controllable (f .first) (eqb (f .third) 1)
       → Passed s 0x11 c i (atEvents p n known controllable owner) j
       → Passed s 0x11 c i (atEvents (keyBy 0x11 (f .first) 0 0) n a t (set owner k (f .second))) (j + 4)
-  unfolding Passed atEvents judgeBy orderBy indexBy namesBy rulesBy allBy keyOf kindOf countsAfter eventsAfter modulesAfter supervisorsAfter withEntry withBit
-  event-step known controllable owner {a} {t} e b1 l n1 o1 h a1 t1 v r =
-      let q = both o kept (not-false _ h) in
-      let m = both (inRange (Event (f .first) (f .second) (f .third))) (ltb (f .first) (n .events) && ltb (f .second) (n .modules)) (sym n1 ∙ q .1) in
+  unfolding Passed atEvents judgeBy orderBy indexBy namesBy rulesBy allBy inRange keyOf kindOf countsAfter eventsAfter modulesAfter supervisorsAfter withEntry withBit
+  event-step known controllable owner {a} {t} e b1 l o1 h a1 t1 v r =
+      let kept : Bool = ltb (f .first) (n .events) && ltb (f .second) (n .modules) in
+      let q = both o (leb (f .third) 1 && kept) (not-false _ h) in
+      let m = both (leb (f .third) 1) kept (q .1) in
       let d = reaches s 0x11 (j + 4) (reads-event s j g (stands-told s j 0x11 4 e b1)) (omega arith)
       (simp (sym o1 ∙ q .0, m .0, m .1)) refl refl (λ z. absurd (omega arith)) (v r)
       in
@@ -308,13 +309,16 @@ module _ (s : List ℕ) (c : Context → Context) (i : ℕ) (n : Counts) (p : Re
       subst (λ (x : Context). Stretch s 0x11 (c r) i x (j + 4)) w d
 
   pub module-step : (known : ℕ) (states : List ℕ) {a : ℕ} → b ≡ standsAt s j 0x12 4 → not b ≡ false → f .first < 16
-      → kept ≡ moduleKept f n → o ≡ precedes p (keyBy 0x12 (f .first) 0 0) → not (o && kept) ≡ false → a ≡ putBit known (f .first) true
+      → o ≡ precedes p (keyBy 0x12 (f .first) 0 0)
+      → not (o && ((leb 1 (f .second) && leb (f .second) 32) && (ltb (f .first) (n .modules) && ltb (f .third) (f .second)))) ≡ false → a ≡ putBit known (f .first) true
       → Passed s 0x12 c i (atModules p n known states) j
       → Passed s 0x12 c i (atModules (keyBy 0x12 (f .first) 0 0) n a (set states k (f .second))) (j + 4)
-  unfolding Passed atModules judgeBy orderBy indexBy namesBy rulesBy allBy keyOf kindOf countsAfter eventsAfter modulesAfter supervisorsAfter withEntry withBit
-  module-step known states {a} e b1 l n1 o1 h a1 v r =
-      let q = both o kept (not-false _ h) in
-      let m = both (inRange (Module (f .first) (f .second) (f .third))) (ltb (f .first) (n .modules) && ltb (f .third) (f .second)) (sym n1 ∙ q .1) in
+  unfolding Passed atModules judgeBy orderBy indexBy namesBy rulesBy allBy inRange keyOf kindOf countsAfter eventsAfter modulesAfter supervisorsAfter withEntry withBit
+  module-step known states {a} e b1 l o1 h a1 v r =
+      let ranged : Bool = leb 1 (f .second) && leb (f .second) 32 in
+      let kept : Bool = ltb (f .first) (n .modules) && ltb (f .third) (f .second) in
+      let q = both o (ranged && kept) (not-false _ h) in
+      let m = both ranged kept (q .1) in
       let d = reaches s 0x12 (j + 4) (reads-module s j g (stands-told s j 0x12 4 e b1)) (omega arith)
       (simp (sym o1 ∙ q .0, m .0, m .1)) refl refl (λ z. absurd (omega arith)) (v r)
       in
@@ -323,12 +327,12 @@ module _ (s : List ℕ) (c : Context → Context) (i : ℕ) (n : Counts) (p : Re
       in
       subst (λ (x : Context). Stretch s 0x12 (c r) i x (j + 4)) w d
 
-  pub supervisor-step : (events known : ℕ) (states alphabet : List ℕ) {a x : ℕ} → b ≡ standsAt s j 0x14 12 → not b ≡ false → f .first < 32 → x ≡ wordAt s (j + 4)
+  pub supervisor-step : (events known : ℕ) (states alphabet : List ℕ) {a x : ℕ} {kept : Bool} → b ≡ standsAt s j 0x14 12 → not b ≡ false → f .first < 32 → x ≡ wordAt s (j + 4)
       → kept ≡ supervisorKept f x n events → o ≡ precedes p (keyBy 0x14 (f .first) 0 0) → not (o && kept) ≡ false → a ≡ putBit known (f .first) true
       → Passed s 0x14 c i (atSupervisors p n events known states alphabet) j
       → Passed s 0x14 c i (atSupervisors (keyBy 0x14 (f .first) 0 0) n events a (set states k (f .second)) (set alphabet k x)) (j + 12)
   unfolding Passed atSupervisors judgeBy orderBy indexBy namesBy rulesBy allBy keyOf kindOf countsAfter eventsAfter modulesAfter supervisorsAfter withEntry withBit
-  supervisor-step events known states alphabet {a} {x} e b1 l x1 n1 o1 h a1 v r =
+  supervisor-step events known states alphabet {a} {x} {kept} e b1 l x1 n1 o1 h a1 v r =
       let q = both o kept (not-false _ h) in
       let m = both (inRange (Supervisor (f .first) (f .second) (f .third) x)) (ltb (f .first) (n .supervisors) && ltb (f .third) (f .second) && everyEvent x (bit events))
       (sym n1 ∙ q .1)
@@ -342,13 +346,13 @@ module _ (s : List ℕ) (c : Context → Context) (i : ℕ) (n : Counts) (p : Re
       in
       subst (λ (x : Context). Stretch s 0x14 (c r) i x (j + 12)) w d
 
-  pub module-move-step : (events : ℕ) (owner : List ℕ) (known : ℕ) (states : List ℕ) (a m : ℕ) {y : ℕ} → Below known (n .modules) a → Below events (n .events) m
+  pub module-move-step : (events : ℕ) (owner : List ℕ) (known : ℕ) (states : List ℕ) (a m : ℕ) {y : ℕ} {kept : Bool} → Below known (n .modules) a → Below events (n .events) m
       → b ≡ standsAt s j 0x13 5 → not b ≡ false → f .first < 16 → f .third < 64 → y ≡ f .third → kept ≡ moveNamed f a (getD states k 0) m
       → o ≡ precedes p (keyBy 0x13 (f .first) (f .second) (f .third)) → not ((o && kept) && eqb (getD owner y 0) (f .first)) ≡ false
       → Passed s 0x13 c i (atModuleMoves p n events owner known states) j
       → Passed s 0x13 c i (atModuleMoves (keyBy 0x13 (f .first) (f .second) (f .third)) n events owner known states) (j + 5)
   unfolding Passed atModuleMoves judgeBy orderBy indexBy namesBy rulesBy allBy inRange keyOf kindOf countsAfter eventsAfter modulesAfter supervisorsAfter
-  module-move-step events owner known states a m {y} u1 u2 e b1 l l2 y1 n1 o1 h v r =
+  module-move-step events owner known states a m {y} {kept} u1 u2 e b1 l l2 y1 n1 o1 h v r =
       let w : Bool = eqb (getD owner y 0) (f .first) in
       let q = both (o && kept) w (not-false _ h) in
       let t = both o kept (q .0) in
@@ -358,12 +362,12 @@ module _ (s : List ℕ) (c : Context → Context) (i : ℕ) (n : Counts) (p : Re
       reaches s 0x13 (j + 5) (reads-module-move s j g (stands-told s j 0x13 5 e b1)) (omega arith)
       (simp (sym o1 ∙ t .0, z .owner, z .from, z .event, z .to, w2 ∙ q .1)) refl refl (λ z. absurd (omega arith)) (v r)
 
-  pub supervisor-move-step : (events known : ℕ) (states alphabet : List ℕ) (a m : ℕ) → Below known (n .supervisors) a → Below events (n .events) m
+  pub supervisor-move-step : (events known : ℕ) (states alphabet : List ℕ) (a m : ℕ) {kept : Bool} → Below known (n .supervisors) a → Below events (n .events) m
       → b ≡ standsAt s j 0x15 5 → not b ≡ false → f .first < 32 → kept ≡ moveNamed f a (getD states k 0) (bitAnd m (getD alphabet k 0))
       → o ≡ precedes p (keyBy 0x15 (f .first) (f .second) (f .third)) → not (o && kept) ≡ false → Passed s 0x15 c i (atSupervisors p n events known states alphabet) j
       → Passed s 0x15 c i (atSupervisors (keyBy 0x15 (f .first) (f .second) (f .third)) n events known states alphabet) (j + 5)
   unfolding Passed atSupervisors judgeBy orderBy indexBy namesBy rulesBy allBy inRange keyOf kindOf countsAfter eventsAfter modulesAfter supervisorsAfter
-  supervisor-move-step events known states alphabet a m u1 u2 e b1 l n1 o1 h v r =
+  supervisor-move-step events known states alphabet a m {kept} u1 u2 e b1 l n1 o1 h v r =
       let q = both o kept (not-false _ h) in
       let x : ℕ = getD alphabet (f .first) 0 in
       let n2 : moveNamed f a (getD states (f .first) 0) (bitAnd m x) ≡ kept = cc in
@@ -372,13 +376,13 @@ module _ (s : List ℕ) (c : Context → Context) (i : ℕ) (n : Counts) (p : Re
       reaches s 0x15 (j + 5) (reads-supervisor-move s j g (stands-told s j 0x15 5 e b1)) (omega arith)
       (simp (sym o1 ∙ q .0, z .owner, z .from, z .event, z .to, t .1)) refl refl (λ z. absurd (omega arith)) (v r)
 
-  pub disabling-step : (events controllable known : ℕ) (states alphabet : List ℕ) {x : ℕ} {w : Bool} → b ≡ standsAt s j 0x16 11 → not b ≡ false → f .first < 32
+  pub disabling-step : (events controllable known : ℕ) (states alphabet : List ℕ) {x : ℕ} {w kept : Bool} → b ≡ standsAt s j 0x16 11 → not b ≡ false → f .first < 32
       → x ≡ wordAt s (j + 3) → kept ≡ disablingNamed f x (n .supervisors) known (getD states k 0) events → o ≡ precedes p (keyBy 0x16 (f .first) (f .second) 0)
       → w ≡ everyEvent x (bit (bitAnd controllable (getD alphabet k 0))) → not (((o && not (eqb x 0)) && kept) && w) ≡ false
       → Passed s 0x16 c i (atDisablings p n events controllable known states alphabet) j
       → Passed s 0x16 c i (atDisablings (keyBy 0x16 (f .first) (f .second) 0) n events controllable known states alphabet) (j + 11)
   unfolding Passed atDisablings judgeBy orderBy indexBy namesBy rulesBy allBy inRange keyOf kindOf countsAfter eventsAfter modulesAfter supervisorsAfter
-  disabling-step events controllable known states alphabet {x} {w} e b1 l x1 n1 o1 w1 h v r =
+  disabling-step events controllable known states alphabet {x} {w} {kept} e b1 l x1 n1 o1 w1 h v r =
       let q = both ((o && not (eqb x 0)) && kept) w (not-false _ h) in
       let m = both (o && not (eqb x 0)) kept (q .0) in
       let t = both o (not (eqb x 0)) (m .0) in
@@ -388,12 +392,12 @@ module _ (s : List ℕ) (c : Context → Context) (i : ℕ) (n : Counts) (p : Re
       (reads-disabling s j g (stands-told s j 0x16 11 e b1) ∙ ap (λ (y : ℕ). Whole (Disabling (f .first) (f .second) y) (j + 11)) (sym x1)) (omega arith)
       (simp (sym o1 ∙ t .0, t .1, n2 ∙ m .1, w2 ∙ q .1)) refl refl (λ z. absurd (omega arith)) (v r)
 
-  pub step-step : (known controllable : ℕ) (owner counts : List ℕ) {x u : ℕ} {t : Bool} → b ≡ standsAt s j 0x17 12 → not b ≡ false → x ≡ wordAt s (j + 4) → f .first < 64
+  pub step-step : (known controllable : ℕ) (owner counts : List ℕ) {x u : ℕ} {t kept : Bool} → b ≡ standsAt s j 0x17 12 → not b ≡ false → x ≡ wordAt s (j + 4) → f .first < 64
       → t ≡ eqb (getD owner (x % 64) 0) (getD owner (f .first) 0) → kept ≡ stepKept f x (n .events) known controllable t → o ≡ precedes p (keyBy 0x17 (f .first) (f .second) 0)
       → not ((o && eqb (f .second) (getD counts k 0)) && kept) ≡ false → u ≡ (f .second + 1) % 256 → Passed s 0x17 c i (atSteps p n known controllable owner counts) j
       → Passed s 0x17 c i (atSteps (keyBy 0x17 (f .first) (f .second) 0) n known controllable owner (set counts k u)) (j + 12)
   unfolding Passed atSteps judgeBy orderBy indexBy namesBy rulesBy allBy keyOf kindOf countsAfter eventsAfter modulesAfter supervisorsAfter withEntry
-  step-step known controllable owner counts {x} {u} e b1 x1 l y1 n1 o1 h u1 v r =
+  step-step known controllable owner counts {x} {u} {kept = kept} e b1 x1 l y1 n1 o1 h u1 v r =
       let ev : Events = record { known = known; controllable = controllable; owner = owner; steps = counts } in
       let w : Bool = eqb (f .second) (getD counts k 0) in
       let q = both (o && w) kept (not-false _ h) in

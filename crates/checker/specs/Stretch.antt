@@ -10,7 +10,7 @@ use Rattle.bits.specs.Bit.{bit, allBelow, everyEvent}
 use Rattle.records.specs.Kinds.{kindOf}
 use Rattle.records.specs.Key.{keyBy, precedes}
 use Rattle.records.specs.Range.{inRange}
-use Rattle.records.specs.declared.Record.the-variants.{Event, Module, Supervisor, Step}
+use Rattle.records.specs.declared.Record.the-variants.{Supervisor, Step}
 use Rattle.records.specs.declared.RecordKey.{RecordKey}
 use Rattle.reader.specs.Walk.{Walk, more, stop, walkFrom}
 use Rattle.places.specs.Places.{notedAt, notedIn, placesOf}
@@ -105,15 +105,7 @@ standsAt s i k n = cond (ltb i (length s)) (leb n (length s - i) && eqb (getD s 
 abbrev pub fieldsAt : List ℕ → ℕ → Fields
 fieldsAt s i = record { first = getD s (i + 1) 0; second = getD s (i + 2) 0; third = getD s (i + 3) 0; fourth = getD s (i + 4) 0 }
 
--- an event is in its ranges and has a number and a module below the counts
-abbrev pub eventKept : Fields → Counts → Bool
-eventKept f n = inRange (Event (f .first) (f .second) (f .third)) && (ltb (f .first) (n .events) && ltb (f .second) (n .modules))
-
--- a module is in its ranges and has a number below the count and an initial state
-abbrev pub moduleKept : Fields → Counts → Bool
-moduleKept f n = inRange (Module (f .first) (f .second) (f .third)) && (ltb (f .first) (n .modules) && ltb (f .third) (f .second))
-
--- a supervisor too, and it has an alphabet of declared events
+-- a supervisor is in its ranges and has a number below the count, an initial state and an alphabet of declared events
 abbrev pub supervisorKept : Fields → ℕ → Counts → ℕ → Bool
 supervisorKept f x n events =
     inRange (Supervisor (f .first) (f .second) (f .third) x)

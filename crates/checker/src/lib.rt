@@ -8,7 +8,7 @@ ghost use Rattle.places.specs.Places.{nowhere};
 ghost use Rattle.checker.specs.Examined.{examinedBy, examinedOf};
 ghost use Rattle.checker.specs.Stretch.{Reached, Passed, notedPast, contextBy, eventsBy, modulesBy, supervisorsBy, headed};
 ghost use Rattle.checker.specs.Stretch.{atEvents, atModules, atModuleMoves, atSupervisors, atDisablings, atSteps};
-ghost use Rattle.checker.specs.Stretch.{standsAt, fieldsAt, eventKept, moduleKept, supervisorKept, Below, moveNamed, disablingNamed, respondFits, stepKept, endKept};
+ghost use Rattle.checker.specs.Stretch.{standsAt, fieldsAt, supervisorKept, Below, moveNamed, disablingNamed, respondFits, stepKept, endKept};
 use context::Context;
 use context::Counts;
 use context::Events;
@@ -79,28 +79,6 @@ fn fields_at(image: &[u8], at: usize) -> Fields
         third: image[at + 3],
         fourth: words::byte_at(image, at + 4),
     }
-}
-
-fn event_kept(f: Fields, n: Counts) -> bool
-    ensures { λ t. ⌜ t ≡ eventKept f n ⌝ }
-{
-    let r = Record::Event {
-        number: f.first,
-        owner: f.second,
-        class: f.third,
-    };
-    records::in_range(r) & ((f.first < n.events) & (f.second < n.modules))
-}
-
-fn module_kept(f: Fields, n: Counts) -> bool
-    ensures { λ t. ⌜ t ≡ moduleKept f n ⌝ }
-{
-    let r = Record::Module {
-        number: f.first,
-        states: f.second,
-        initial: f.third,
-    };
-    records::in_range(r) & ((f.first < n.modules) & (f.third < f.second))
 }
 
 fn supervisor_kept(f: Fields, x: u64, n: Counts, events: u64) -> bool
@@ -218,7 +196,7 @@ fn events(
             second: 0,
             third: 0,
         };
-        let kept = event_kept(f, n);
+        let kept = (f.third <= 1) & ((e < n.events) & (f.second < n.modules));
         if !(records::precedes(last, key) & kept) {
             return PlaceOfEvents {
                 known,
@@ -272,7 +250,7 @@ fn modules(
             second: 0,
             third: 0,
         };
-        let kept = module_kept(f, n);
+        let kept = ((1 <= f.second) & (f.second <= 32)) & ((m < n.modules) & (f.third < f.second));
         if !(records::precedes(last, key) & kept) {
             return PlaceOfNumbers {
                 known,

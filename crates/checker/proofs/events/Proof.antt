@@ -28,9 +28,6 @@ fields-at-requires c κs = search (fields-by, lit≤)
 returns-2 : tie.Need-returns-2 Inv-loop μ-loop
 returns-2 c = search needs
 
-event-kept-requires : tie.Need-event-kept-requires Inv-loop μ-loop
-event-kept-requires c κs = search needs
-
 precedes-requires : tie.Need-precedes-requires Inv-loop μ-loop
 precedes-requires c κs = search needs
 
@@ -69,7 +66,6 @@ events-spec =
     returns
     fields-at-requires
     returns-2
-    event-kept-requires
     precedes-requires
     returns-3
     wide-requires

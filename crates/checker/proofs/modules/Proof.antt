@@ -28,9 +28,6 @@ fields-at-requires c κs = search (fields-by, lit≤)
 returns-2 : tie.Need-returns-2 Inv-loop μ-loop
 returns-2 c = search needs
 
-module-kept-requires : tie.Need-module-kept-requires Inv-loop μ-loop
-module-kept-requires c κs = search needs
-
 precedes-requires : tie.Need-precedes-requires Inv-loop μ-loop
 precedes-requires c κs = search needs
 
@@ -66,7 +63,6 @@ modules-spec =
     returns
     fields-at-requires
     returns-2
-    module-kept-requires
     precedes-requires
     returns-3
     wide-requires
