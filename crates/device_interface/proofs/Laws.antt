@@ -24,35 +24,35 @@ use Rattle.device_interface.specs.Calls.{calledOn, turnedOn, startBytes,
 
 module _ (c : DeviceCalled) (s : List ℕ) {t : Bool} {r : ℕ} where
   pub keep-yes : {after : List ℕ} → t ≡ eqb (calledNumber (c .answer)) 0 → t ≡ true → after ≡ devicePut (c .device) s → r ≡ calledAnswer (c .answer) → Answered (calledOn c s) r after []
-  keep-yes e h w z = record { answer = z; held = w ∙ after-yes (calledNumber (c .answer)) (devicePut (c .device) s) s e h; lent = refl }
+  keep-yes e h w z = record { answer = z; state = w ∙ after-yes (calledNumber (c .answer)) (devicePut (c .device) s) s e h; buffer = refl }
 
   pub keep-no : t ≡ eqb (calledNumber (c .answer)) 0 → t ≡ false → r ≡ calledAnswer (c .answer) → Answered (calledOn c s) r s []
-  keep-no e h z = record { answer = z; held = after-no (calledNumber (c .answer)) (devicePut (c .device) s) s e h; lent = refl }
+  keep-no e h z = record { answer = z; state = after-no (calledNumber (c .answer)) (devicePut (c .device) s) s e h; buffer = refl }
 
 module _ (c : DeviceTurned) (s : List ℕ) {t : Bool} {r : ℕ} where
   pub keep-turn-yes : {after : List ℕ} → t ≡ eqb (turningNumber (c .answer)) 0 → t ≡ true → after ≡ devicePut (c .device) s → r ≡ turningAnswer (c .answer) → Answered (turnedOn c s) r after []
-  keep-turn-yes e h w z = record { answer = z; held = w ∙ after-yes (turningNumber (c .answer)) (devicePut (c .device) s) s e h; lent = refl }
+  keep-turn-yes e h w z = record { answer = z; state = w ∙ after-yes (turningNumber (c .answer)) (devicePut (c .device) s) s e h; buffer = refl }
 
   pub keep-turn-no : t ≡ eqb (turningNumber (c .answer)) 0 → t ≡ false → r ≡ turningAnswer (c .answer) → Answered (turnedOn c s) r s []
-  keep-turn-no e h z = record { answer = z; held = after-no (turningNumber (c .answer)) (devicePut (c .device) s) s e h; lent = refl }
+  keep-turn-no e h z = record { answer = z; state = after-no (turningNumber (c .answer)) (devicePut (c .device) s) s e h; buffer = refl }
 
 -- ---- a start
 
 module _ (c : DeviceCalled) (b : List ℕ) {r : ℕ} where
   pub give-short : c .answer ≡ Done → length b < 592 → r ≡ packed 15 0 0 0 → Answered (startAnswer 592 (c .answer) (deviceBytes (c .device)) b) r [] b
   unfolding startAnswer
-  give-short e h w = rw e (simp (lt-ltb (length b) 592 h) (record { answer = w; held = refl; lent = refl }))
+  give-short e h w = rw e (simp (lt-ltb (length b) 592 h) (record { answer = w; state = refl; buffer = refl }))
 
   pub give-done : {after : List ℕ} → c .answer ≡ Done → 592 ≤ length b → after ≡ devicePut (c .device) b → r ≡ packed 0 0 0 592
       → Answered (startAnswer 592 (c .answer) (deviceBytes (c .device)) b) r [] after
   unfolding startAnswer devicePut
   give-done e h w z =
       let put : devicePut (c .device) b ≡ written (deviceBytes (c .device)) b = ap (λ (y : Bool). cond y (written (deviceBytes (c .device)) b) b) (le-leb 592 (length b) h) in
-      rw e (simp (le-ltb (length b) 592 h) (record { answer = z; held = refl; lent = w ∙ put }))
+      rw e (simp (le-ltb (length b) 592 h) (record { answer = z; state = refl; buffer = w ∙ put }))
 
   pub give-refused : {n o : ℕ} → c .answer ≡ Refused n o → r ≡ packed n 0 0 o → Answered (startAnswer 592 (c .answer) (deviceBytes (c .device)) b) r [] b
   unfolding startAnswer
-  give-refused e w = rw e (record { answer = w; held = refl; lent = refl })
+  give-refused e w = rw e (record { answer = w; state = refl; buffer = refl })
 
 module _ (image : List ℕ) {r : ℕ} {after : List ℕ} where
   pub start-by : (b : List ℕ) {c : DeviceCalled} → c ≡ startCall image → Answered (startAnswer 592 (c .answer) (deviceBytes (c .device)) b) r [] after → Answered (startBytes image b) r [] after

@@ -74,10 +74,10 @@ pub record Answer : Type 0 where
   pub buffer : List ℕ
 
 -- what a function gives: the number r, and the lent bytes afterwards
-pub record Answered (a : Answer) (r : ℕ) (state buffer : List ℕ) : Type 0 where
+pub record Answered (a : Answer) (r : ℕ) (s b : List ℕ) : Type 0 where
   pub answer : r ≡ a .number
-  pub held : state ≡ a .state
-  pub lent : buffer ≡ a .buffer
+  pub state : s ≡ a .state
+  pub buffer : b ≡ a .buffer
 
 -- "A refused call leaves every lent byte as it was": the call has the number n, and its state is `after` if it is accepted
 unfoldable pub lentAfter : ℕ → List ℕ → List ℕ → List ℕ

@@ -62,8 +62,8 @@ module _ (k a b c d w : ℕ) (lent : List ℕ) {f : Found} (e : f ≡ recordBy k
       let is : y ≡ writeBy (It rec) lent = is-record h in
       record {
         answer = x ∙ ap writtenAnswer (v .answer) ∙ sym (ap (λ (p : Answer). p .number) is);
-        held = sym (ap (λ (p : Answer). p .state) is);
-        lent = v .buffer ∙ ap (λ (p : Written). bufferBy p rec lent) (v .answer) ∙ sym (ap (λ (p : Answer). p .buffer) is);
+        state = sym (ap (λ (p : Answer). p .state) is);
+        buffer = v .buffer ∙ ap (λ (p : Written). bufferBy p rec lent) (v .answer) ∙ sym (ap (λ (p : Answer). p .buffer) is);
       }
 
   pub write-none : {r : ℕ} → f ≡ Missing → r ≡ packed 5 0 0 0 → Answered (writeBytes k a b c d w lent) r [] lent
@@ -72,8 +72,8 @@ module _ (k a b c d w : ℕ) (lent : List ℕ) {f : Found} (e : f ≡ recordBy k
       let is : writeBytes k a b c d w lent ≡ writeBy Missing lent = is-record h in
       record {
         answer = x ∙ sym (ap (λ (p : Answer). p .number) is);
-        held = sym (ap (λ (p : Answer). p .state) is);
-        lent = sym (ap (λ (p : Answer). p .buffer) is);
+        state = sym (ap (λ (p : Answer). p .state) is);
+        buffer = sym (ap (λ (p : Answer). p .buffer) is);
       }
 
 -- ---- a message read
@@ -102,8 +102,8 @@ module _ (kind first second event mask : ℕ) (lent : List ℕ) {x : Parsed} (e 
       let is = is-message h in
       record {
         answer = a .answer ∙ sym (ap (λ (p : Answer). p .number) is);
-        held = a .held ∙ sym (ap (λ (p : Answer). p .state) is);
-        lent = a .lent ∙ sym (ap (λ (p : Answer). p .buffer) is);
+        state = a .state ∙ sym (ap (λ (p : Answer). p .state) is);
+        buffer = a .buffer ∙ sym (ap (λ (p : Answer). p .buffer) is);
       }
 
   pub message-yes : {r : ℕ} {g : Message} {t : Bool} {n : ℕ} {after : List ℕ} → x ≡ Read-whole g → Put g 0 lent t after → t ≡ true → n ≡ length (messageBytes g) → r ≡ packed 0 0 0 n
@@ -111,15 +111,15 @@ module _ (kind first second event mask : ℕ) (lent : List ℕ) {x : Parsed} (e 
   unfolding writeParsed
   message-yes {r} {g} h v y z w =
       let fit : short (messageBytes g) lent ≡ false = sym (not-not (short (messageBytes g) lent) (v .answer ∙ start-fits (messageBytes g) lent)) ∙ ap not y in
-      by-message h (simp fit (record { answer = w ∙ ap (λ (k : ℕ). packed 0 0 0 k) z; held = refl; lent = v .buffer ∙ put-start (messageBytes g) lent fit }))
+      by-message h (simp fit (record { answer = w ∙ ap (λ (k : ℕ). packed 0 0 0 k) z; state = refl; buffer = v .buffer ∙ put-start (messageBytes g) lent fit }))
 
   pub message-no : {r : ℕ} {g : Message} {t : Bool} {after : List ℕ} → x ≡ Read-whole g → Put g 0 lent t after → t ≡ false → r ≡ packed 15 0 0 0
       → Answered (writeMessageBytes kind first second event mask lent) r [] after
   unfolding writeParsed
   message-no {r} {g} h v y w =
       let full : short (messageBytes g) lent ≡ true = sym (not-not (short (messageBytes g) lent) (v .answer ∙ start-fits (messageBytes g) lent)) ∙ ap not y in
-      by-message h (simp full (record { answer = w; held = refl; lent = v .buffer ∙ put-short (messageBytes g) lent full }))
+      by-message h (simp full (record { answer = w; state = refl; buffer = v .buffer ∙ put-short (messageBytes g) lent full }))
 
   pub message-none : {r : ℕ} → x ≡ Misshapen → r ≡ packed 10 0 0 0 → Answered (writeMessageBytes kind first second event mask lent) r [] lent
   unfolding writeParsed
-  message-none h w = by-message h (record { answer = w; held = refl; lent = refl })
+  message-none h w = by-message h (record { answer = w; state = refl; buffer = refl })
