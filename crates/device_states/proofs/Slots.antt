@@ -5,18 +5,23 @@ use native.Mathlib.Numerals.{add-one}
 use native.Mathlib.Omega.{arith}
 use mathlib.Core.Path.{_≡_, refl, sym, ap, ap₂, _∙_, subst}
 use mathlib.Core.List.{List, [], _∷_, _++_, append-assoc, append-nil}
-use mathlib.Core.Bool.{Bool, true, false, _&&_, true≢false}
+use mathlib.Core.Bool.{Bool, true, false, cond, _&&_, true≢false}
 use lib.ListN.{length, getD, set, replicate, length-append}
 use lib.Bits.{bitOr}
+use lib.Dec.{eqb, ltb}
 use lib.Seq.{set-append-seam}
 use Rattle.bits.specs.Bit.{allBelow}
 use Rattle.records.specs.declared.Record.{Record}
 use Rattle.plan.specs.Plan.{shown, supervisorAfter}
+use Rattle.rules.specs.LookUp.{modulesOf, supervisorsOf, supervisorState}
+use Rattle.modules.specs.declared.Own.{Own}
 use Rattle.modules.specs.declared.Turn.{Turn}
 use Rattle.modules.specs.declared.Turn.the-variants.{Event}
-use Rattle.device_states.specs.declared.Device.{Device}
+use Rattle.modules.specs.Turn.{emptyOwn}
+use Rattle.modules.specs.Fits.{ownFits, ownEmpty}
 use Rattle.plan.specs.Lists.{listFrom}
-use Rattle.device_states.specs.States.{stateOf, ownSlotFits, stateSlotFits, shownBy, stateAfterTurn, statesAfter}
+use Rattle.device_states.specs.declared.Device.{Device}
+use Rattle.device_states.specs.States.{stateOf, ownSlotFits, stateSlotFits, deviceFits, shownBy, stateAfterTurn, statesAfter}
 
 -- ---- every slot below i passes
 
@@ -98,21 +103,61 @@ module _ {A : Type 0} (d : A) where
   any-slot b (x ∷ l) (suc i) zero e h = absurd (omega arith)
   any-slot b (x ∷ l) (suc i) (suc j) e h = any-slot b l i j (omega arith) (omega arith)
 
--- ---- the slots of modules and of supervisors, from what the loops are told
-module _ (rs : List Record) (d : Device) where
-  pub own-on : (m : ℕ) {b : Bool} → b ≡ ownSlotFits rs d m → b ≡ true → allBelow (ownSlotFits rs d) m ≡ true → allBelow (ownSlotFits rs d) (m + 1) ≡ true
-  own-on m = all-on (ownSlotFits rs d) m
+-- ---- a test of every slot of a list, by a loop that reads the slot at i and is told what it answers
+module _ {A : Type 0} (p : ℕ → A → Bool) (d : A) (l : List A) where
+  abbrev pub slotPasses : ℕ → Bool
+  slotPasses m = p m (getD l m d)
 
-  pub own-fails : (m : ℕ) {b : Bool} → b ≡ ownSlotFits rs d m → b ≡ false → m < 16 → false ≡ allBelow (ownSlotFits rs d) 16
-  own-fails m = one-fails (ownSlotFits rs d) 16 m
+  slot-read : (z : A) (m i : ℕ) {b : Bool} → b ≡ p m (getD l i z) → i ≡ m → m < length l → b ≡ slotPasses m
+  slot-read z m i g e h = g ∙ ap (p m) (any-slot z d l i m e h)
+
+  slot-on : (z : A) (m i : ℕ) {b : Bool} → b ≡ p m (getD l i z) → i ≡ m → m < length l → b ≡ true → allBelow slotPasses m ≡ true → allBelow slotPasses (m + 1) ≡ true
+  slot-on z m i g e h = all-on slotPasses m (slot-read z m i g e h)
+
+  slot-fails : (z : A) (m i : ℕ) {b : Bool} → b ≡ p m (getD l i z) → i ≡ m → m < length l → b ≡ false → false ≡ allBelow slotPasses (length l)
+  slot-fails z m i g e h f = one-fails slotPasses (length l) m (slot-read z m i g e h) f h
+
+-- ---- the slots of modules and of supervisors, of a plan of n
+module _ (rs : List Record) (n : ℕ) where
+  abbrev pub ownPasses : ℕ → Own → Bool
+  ownPasses m own = cond (ltb m n) (ownFits rs m own) (ownEmpty own)
+
+  abbrev pub statePasses : ℕ → ℕ → Bool
+  statePasses v st = cond (ltb v n) (supervisorState rs v st) (eqb st 0)
+
+  module _ (owns : List Own) (k : length owns ≡ 16) where
+    pub own-on : (z : Own) (m i : ℕ) {b : Bool} → b ≡ ownPasses m (getD owns i z) → i ≡ m → m < 16 → b ≡ true → allBelow (slotPasses ownPasses emptyOwn owns) m ≡ true → allBelow (slotPasses ownPasses emptyOwn owns) (m + 1) ≡ true
+    own-on z m i g e h = slot-on ownPasses emptyOwn owns z m i g e (omega (arith, h, k))
+
+    pub own-fails : (z : Own) (m i : ℕ) {b : Bool} → b ≡ ownPasses m (getD owns i z) → i ≡ m → m < 16 → b ≡ false → false ≡ allBelow (slotPasses ownPasses emptyOwn owns) 16
+    own-fails z m i g e h f = slot-fails ownPasses emptyOwn owns z m i g e (omega (arith, h, k)) f ∙ ap (allBelow (slotPasses ownPasses emptyOwn owns)) k
+
+  module _ (states : List ℕ) (k : length states ≡ 32) where
+    pub state-on : (v i : ℕ) {b : Bool} → b ≡ statePasses v (stateOf states i) → i ≡ v → v < 32 → b ≡ true → allBelow (slotPasses statePasses 0 states) v ≡ true → allBelow (slotPasses statePasses 0 states) (v + 1) ≡ true
+    state-on v i g e h = slot-on statePasses 0 states 0 v i g e (omega (arith, h, k))
+
+    pub state-fails : (v i : ℕ) {b : Bool} → b ≡ statePasses v (stateOf states i) → i ≡ v → v < 32 → b ≡ false → false ≡ allBelow (slotPasses statePasses 0 states) 32
+    state-fails v i g e h f = slot-fails statePasses 0 states 0 v i g e (omega (arith, h, k)) f ∙ ap (allBelow (slotPasses statePasses 0 states)) k
+
+-- the whole device fits, from the tests of its two lists
+module _ (rs : List Record) (d : Device) where
+  owns-all : (n : ℕ) {a : Bool} → n ≡ modulesOf rs → a ≡ allBelow (slotPasses (ownPasses rs n) emptyOwn (d .modules)) 16 → a ≡ allBelow (ownSlotFits rs d) 16
+  unfolding ownSlotFits
+  owns-all n e g = g ∙ ap (λ (j : ℕ). allBelow (slotPasses (ownPasses rs j) emptyOwn (d .modules)) 16) e
+
+  states-all : (n : ℕ) {b : Bool} → n ≡ supervisorsOf rs → b ≡ allBelow (slotPasses (statePasses rs n) 0 (d .supervisors)) 32 → b ≡ allBelow (stateSlotFits rs (d .supervisors)) 32
+  unfolding stateSlotFits
+  states-all n e g = g ∙ ap (λ (j : ℕ). allBelow (slotPasses (statePasses rs j) 0 (d .supervisors)) 32) e
+
+  pub device-fits : (n k : ℕ) {a b : Bool} → n ≡ modulesOf rs → a ≡ allBelow (slotPasses (ownPasses rs n) emptyOwn (d .modules)) 16 → a ≡ true → k ≡ supervisorsOf rs → b ≡ allBelow (slotPasses (statePasses rs k) 0 (d .supervisors)) 32 → b ≡ deviceFits rs d
+  unfolding deviceFits
+  device-fits n k e g t f h = ap₂ _&&_ (sym t ∙ owns-all n e g) (states-all k f h)
+
+  pub owns-unfit : (n : ℕ) {a : Bool} → n ≡ modulesOf rs → a ≡ allBelow (slotPasses (ownPasses rs n) emptyOwn (d .modules)) 16 → a ≡ false → false ≡ deviceFits rs d
+  unfolding deviceFits
+  owns-unfit n e g f = ap (λ (t : Bool). t && allBelow (stateSlotFits rs (d .supervisors)) 32) (sym f ∙ owns-all n e g)
 
 module _ (rs : List Record) (states : List ℕ) where
-  pub state-on : (v : ℕ) {b : Bool} → b ≡ stateSlotFits rs states v → b ≡ true → allBelow (stateSlotFits rs states) v ≡ true → allBelow (stateSlotFits rs states) (v + 1) ≡ true
-  state-on v = all-on (stateSlotFits rs states) v
-
-  pub state-fails : (v : ℕ) {b : Bool} → b ≡ stateSlotFits rs states v → b ≡ false → v < 32 → false ≡ allBelow (stateSlotFits rs states) 32
-  state-fails v = one-fails (stateSlotFits rs states) 32 v
-
   pub shown-on : (v : ℕ) {k x st : ℕ} → st ≡ stateOf states v → x ≡ shown rs v st → k ≡ shownBy rs (stateOf states) v → bitOr k x ≡ shownBy rs (stateOf states) (v + 1)
   shown-on v {k} {x} {st} e g h =
       ap₂ bitOr h (g ∙ ap (shown rs v) e) ∙ sym (ap (shownBy rs (stateOf states)) (add-one v) ∙ (unfold shownBy in refl))

@@ -1,10 +1,16 @@
 // The state of the one-device controller: each module's own part and each supervisor's state. specs/States.antt says what each function gives.
 ghost use mathlib.Core.Path.{_≡_};
+ghost use mathlib.Core.Bool.{cond};
+ghost use lib.Dec.{eqb, ltb};
+ghost use lib.ListN.{getD};
 ghost use Rattle.bits.specs.Bit.{allBelow};
 ghost use Rattle.places.specs.Places.{recordsBy};
+ghost use Rattle.rules.specs.LookUp.{supervisorState};
 ghost use Rattle.modules.specs.declared.Turn.the-variants.{Event};
+ghost use Rattle.modules.specs.Turn.{emptyOwn};
+ghost use Rattle.modules.specs.Fits.{ownFits, ownEmpty};
 ghost use Rattle.plan.specs.Lists.{listFrom};
-ghost use Rattle.device_states.specs.States.{ownAt, stateOf, withOwn, ownSlotFits, stateSlotFits, deviceFits, shownBy, statesAfter, emptyDevice, startSlot, startState, startDevice};
+ghost use Rattle.device_states.specs.States.{ownAt, stateOf, withOwn, deviceFits, shownBy, statesAfter, emptyDevice, startSlot, startState, startDevice};
 use modules::Own;
 use places::Places;
 
@@ -56,23 +62,26 @@ pub fn with_own(d: Device, m: u8, own: Own) -> Device
 
 // ---- a state that fits
 
-fn own_slot_fits(image: &[u8], places: Places, d: Device, m: u8) -> bool
-    ensures { λ r. ⌜ r ≡ ownSlotFits (recordsBy (now (image .entry)) places) d m ⌝ }
+// Whether what stands in the slot of module m fits, of a plan of n modules.
+fn own_slot_fits(image: &[u8], places: Places, n: u8, own: Own, m: u8) -> bool
+    ensures { λ r. ⌜ r ≡ cond (ltb m n) (ownFits (recordsBy (now (image .entry)) places) m own) (ownEmpty own) ⌝ }
 {
-    let own = own_of(d, m);
-    if m < plan::modules_of(image, places) {
+    if m < n {
         fitting::fits(image, places, m, own)
     } else {
         fitting::is_empty(own)
     }
 }
 
-fn owns_fit(image: &[u8], places: Places, d: Device) -> bool
-    ensures { λ r. ⌜ r ≡ allBelow (ownSlotFits (recordsBy (now (image .entry)) places) d) 16 ⌝ }
+// By the list and not the device, so that a slot costs its own bytes.
+fn owns_fit(image: &[u8], places: Places, n: u8, owns: [Own; 16]) -> bool
+    ensures { λ r. ⌜ r ≡ allBelow (λ m. cond (ltb m n) (ownFits (recordsBy (now (image .entry)) places) m (getD owns m emptyOwn)) (ownEmpty (getD owns m emptyOwn))) 16 ⌝ }
 {
     let mut m: u8 = 0;
     while m < 16 {
-        if own_slot_fits(image, places, d, m) {
+        let i = words::wide(m);
+        let own = owns[i];
+        if own_slot_fits(image, places, n, own, m) {
             m += 1;
         } else {
             return false;
@@ -81,23 +90,25 @@ fn owns_fit(image: &[u8], places: Places, d: Device) -> bool
     true
 }
 
-fn state_slot_fits(image: &[u8], places: Places, states: [u8; 32], v: u8) -> bool
-    ensures { λ r. ⌜ r ≡ stateSlotFits (recordsBy (now (image .entry)) places) states v ⌝ }
+// The same of a supervisor's state, of a plan of n supervisors.
+fn state_slot_fits(image: &[u8], places: Places, n: u8, st: u8, v: u8) -> bool
+    ensures { λ r. ⌜ r ≡ cond (ltb v n) (supervisorState (recordsBy (now (image .entry)) places) v st) (eqb st 0) ⌝ }
 {
-    let st = state_of(states, v);
-    if v < plan::supervisors_of(image, places) {
+    if v < n {
         plan::supervisor_state(image, places, v, st)
     } else {
         st == 0
     }
 }
 
-fn states_fit(image: &[u8], places: Places, states: [u8; 32]) -> bool
-    ensures { λ r. ⌜ r ≡ allBelow (stateSlotFits (recordsBy (now (image .entry)) places) states) 32 ⌝ }
+fn states_fit(image: &[u8], places: Places, n: u8, states: [u8; 32]) -> bool
+    ensures { λ r. ⌜ r ≡ allBelow (λ v. cond (ltb v n) (supervisorState (recordsBy (now (image .entry)) places) v (stateOf states v)) (eqb (stateOf states v) 0)) 32 ⌝ }
 {
     let mut v: u8 = 0;
     while v < 32 {
-        if state_slot_fits(image, places, states, v) {
+        let i = words::wide(v);
+        let st = states[i];
+        if state_slot_fits(image, places, n, st, v) {
             v += 1;
         } else {
             return false;
@@ -110,9 +121,12 @@ fn states_fit(image: &[u8], places: Places, states: [u8; 32]) -> bool
 pub fn fits(image: &[u8], places: Places, d: Device) -> bool
     ensures { λ r. ⌜ r ≡ deviceFits (recordsBy (now (image .entry)) places) d ⌝ }
 {
-    if owns_fit(image, places, d) {
+    let owns = d.modules;
+    let n = plan::modules_of(image, places);
+    if owns_fit(image, places, n, owns) {
         let states = d.supervisors;
-        states_fit(image, places, states)
+        let k = plan::supervisors_of(image, places);
+        states_fit(image, places, k, states)
     } else {
         false
     }
