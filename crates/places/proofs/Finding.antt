@@ -3,15 +3,16 @@ use mathlib.Core.Path.{_≡_, refl, sym, ap, _∙_, subst}
 use mathlib.Core.List.{List, [], _∷_, _++_}
 use mathlib.Core.Bool.{Bool, true, false, cond, not, _&&_, _||_}
 use Prim.Native.Nat.{ℕ, zero, suc, _+_, _-_, _*_, _/_, _≤_, _<_}
-use native.Mathlib.Nat.{zero-div}
+use native.Mathlib.Nat.{zero-div, add-zero}
 use native.Mathlib.Omega.{arith}
-use lib.ListN.{length, drop}
-use lib.Dec.{T, T-not, leb, eqb, eqb→eq}
+use lib.ListN.{length, drop, getD}
+use lib.Seq.{getD-drop}
+use lib.Dec.{T, T-not, leb, ltb, eqb, eqb→eq}
 use lib.Ieee.Fits.{and-l, and-r}
 use borrow.Author.Tests.{eq-eqb, ne-eqb, eqb-true, eqb-false}
 use denote.Floats.{passes}
 use Rattle.records.specs.Kinds.{bodyLen, noLen}
-use Rattle.records.specs.Key.{keyBy, keyOf, sameKey}
+use Rattle.records.specs.Key.{keyBy, headKey, keyOf, sameKey, precedes}
 use Rattle.records.specs.declared.Record.{Record}
 use Rattle.records.specs.declared.RecordKey.{RecordKey}
 use Rattle.reader.specs.Read.{recordOf}
@@ -23,7 +24,7 @@ use Rattle.places.specs.Places.{beginOf, endOf, countOf, recordBy, halve
 use Rattle.places.specs.Runs.{runBy, runOf, before}
 use Rattle.places.specs.declared.Places.{Places}
 use Rattle.places.specs.declared.Run.{Run}
-use Rattle.places.proofs.Counting.{counts}
+use Rattle.places.proofs.Counting.{counts, inside-by}
 
 -- the first of two answers that is a record
 orElse : Found → Found → Found
@@ -244,6 +245,95 @@ module _ (s : List ℕ) (p : Places) (q : RecordKey) where
       it-there u w z =
           let c : r .count ≡ countOf s p (q .kind) = counts s p (q .kind) e in
           ap It (z ∙ there) ∙ sym (it s p q (omega arith) (sym (same-there u) ∙ w))
+
+-- what holds of the kinds whose records have the number of their place holds of a kind that is one of them
+of-numbered : (P : ℕ → Type 0) (k : ℕ) → numbered k ≡ true → P 0x11 → P 0x12 → P 0x14 → P k
+unfolding numbered
+of-numbered P k e p1 p2 p4 = go (eqb k 0x11) (eqb k 0x12) refl refl e
+  where
+    go : (a b : Bool) → eqb k 0x11 ≡ a → eqb k 0x12 ≡ b → (a || b || eqb k 0x14) ≡ true → P k
+    go true b f g h = subst P (sym (eqb-true k 0x11 f)) p1
+    go false true f g h = subst P (sym (eqb-true k 0x12 g)) p2
+    go false false f g h = subst P (sym (eqb-true k 0x14 h)) p4
+
+-- a record of such a kind has the key of one number if its first byte is the number
+module _ (s : List ℕ) (p : Places) (k x : ℕ) (n : numbered k ≡ true) {r : Run} {i : ℕ} (e : r ≡ runOf s p k) (f : i ≡ x) where
+  pub number-past : r .count ≤ i → Missing ≡ findIn (keyBy k x 0 0) (recordsBy s p)
+  number-past l = missing-past s p (keyBy k x 0 0) e (numbered-by s p (keyBy k x 0 0) n f) l
+
+  module _ (l : i < r .count) {a : ℕ} (g : a ≡ suc (r .begin + i * r .size)) where
+    pub number-room : a < length s
+    unfolding bodyLen
+    number-room =
+        let w : 3 ≤ bodyLen k = of-numbered (λ (m : ℕ). 3 ≤ bodyLen m) k n (omega arith) (omega arith) (omega arith) in
+        let t = inside-by s p k e in
+        omega (arith, t .size, t .within i l)
+
+    same-number : sameKey (keyOf (recordOf k (drop a s))) (keyBy k x 0 0) ≡ eqb (getD s a 0) x
+    unfolding recordOf keyOf sameKey
+    same-number = of-numbered (λ (m : ℕ). sameKey (keyOf (recordOf m (drop a s))) (keyBy m x 0 0) ≡ eqb (getD s a 0) x) k n byte byte byte
+      where
+        alone : (b : Bool) → (b && true && true) ≡ b
+        alone true = refl
+        alone false = refl
+
+        byte : (eqb (getD (drop a s) 0 0) x && true && true) ≡ eqb (getD s a 0) x
+        byte = alone (eqb (getD (drop a s) 0 0) x) ∙ ap (λ (y : ℕ). eqb y x) (simp (getD-drop, add-zero))
+
+    pub number-it : {v : Record} → getD s a 0 ≡ x → v ≡ recordOf k (drop a s) → It v ≡ findIn (keyBy k x 0 0) (recordsBy s p)
+    number-it h z =
+        it-there s p (keyBy k x 0 0) e (numbered-by s p (keyBy k x 0 0) n f) l g refl refl (same-number ∙ eq-eqb _ _ h) z
+
+    pub number-other : (getD s a 0 ≡ x → ⊥) → Missing ≡ findIn (keyBy k x 0 0) (recordsBy s p)
+    number-other h =
+        missing-there s p (keyBy k x 0 0) e (numbered-by s p (keyBy k x 0 0) n f) l g refl refl (same-number ∙ ne-eqb _ _ h)
+
+-- where no number passes the test the first is found
+halved-first : (t : ℕ → Bool) (n hi : ℕ) → ((i : ℕ) → t i ≡ false) → halved t n 0 hi ≡ 0
+unfolding halved
+halved-first t zero hi h = refl
+halved-first t (suc n) hi h = go (ltb 0 hi) (t (0 + (hi - 0) / 2)) _ _ (h (0 + (hi - 0) / 2)) (halved-first t n (0 + (hi - 0) / 2) h)
+  where
+    go : (b c : Bool) (x y : ℕ) → c ≡ false → y ≡ 0 → cond b (cond c x y) 0 ≡ 0
+    go true c x y e f = simp e f
+    go false c x y e f = refl
+
+-- every record of the head's kind has the head's key
+module _ (s : List ℕ) (p : Places) (x : ℕ) where
+  head-key : (i : ℕ) → keyOf (recordBy s p 0x10 i) ≡ headKey
+  unfolding recordBy recordOf keyOf
+  head-key i = refl
+
+  pub head-other : 0 < x → Missing ≡ findIn (keyBy 0x10 x 0 0) (recordsBy s p)
+  unfolding sameKey
+  head-other l =
+      let w : 0 ≡ x → ⊥ = λ e. absurd (omega arith) in
+      sym (missing s p (keyBy 0x10 x 0 0) (λ m. simp (head-key (positionOf s p (keyBy 0x10 x 0 0)), ne-eqb 0 x w)))
+
+  module _ (z : x ≤ 0) {r : Run} (e : r ≡ runOf s p 0x10) where
+    first-place : positionOf s p (keyBy 0x10 x 0 0) ≡ 0
+    unfolding positionOf numbered precedes
+    first-place =
+        let w : x ≡ 0 = omega arith in
+        halved-first _ (countOf s p 0x10) (countOf s p 0x10) (λ i. simp (head-key i, w))
+
+    head-same : sameKey (keyOf (recordBy s p 0x10 (positionOf s p (keyBy 0x10 x 0 0)))) (keyBy 0x10 x 0 0) ≡ true
+    unfolding sameKey
+    head-same =
+        let w : x ≡ 0 = omega arith in
+        ap (λ (y : RecordKey). sameKey y (keyBy 0x10 x 0 0)) (head-key (positionOf s p (keyBy 0x10 x 0 0))) ∙ ap (λ (y : ℕ). sameKey headKey (keyBy 0x10 y 0 0)) w
+
+    pub head-missing : r .count ≡ 0 → Missing ≡ findIn (keyBy 0x10 x 0 0) (recordsBy s p)
+    head-missing c =
+        let w : r .count ≡ countOf s p 0x10 = counts s p 0x10 e in
+        sym (missing s p (keyBy 0x10 x 0 0) (λ m. absurd (omega arith)))
+
+    pub head-it : (r .count ≡ 0 → ⊥) → {v : Record} → v ≡ recordOf 0x10 (drop 1 s) → It v ≡ findIn (keyBy 0x10 x 0 0) (recordsBy s p)
+    unfolding recordBy beginOf bodyLen
+    head-it c v =
+        let w : r .count ≡ countOf s p 0x10 = counts s p 0x10 e in
+        let o : positionOf s p (keyBy 0x10 x 0 0) ≡ 0 = first-place in
+        ap It v ∙ sym (it s p (keyBy 0x10 x 0 0) (omega arith) head-same ∙ ap (λ (i : ℕ). It (recordBy s p 0x10 i)) o)
 
 -- no event is found past the count of events
 pub event-missing : (s : List ℕ) (p : Places) (e : ℕ) → countOf s p 0x11 ≤ e → findIn (keyBy 0x11 e 0 0) (recordsBy s p) ≡ Missing

@@ -1,9 +1,11 @@
 // Where the records of each kind begin in an image, and the look-up by these places: specs/Places.antt.
 ghost use mathlib.Core.Path.{_≡_};
+ghost use mathlib.Core.Bool.{true};
 ghost use Prim.Native.Nat.{suc, _+_, _*_, _≤_, _<_};
 ghost use lib.ListN.{length, getD};
+ghost use Rattle.records.specs.Key.{keyBy};
 ghost use Rattle.reader.specs.Find.{findIn};
-ghost use Rattle.places.specs.Places.{nowhere, placeBy, notedAt, countOf, halved, positionOf, recordsBy};
+ghost use Rattle.places.specs.Places.{nowhere, placeBy, notedAt, countOf, halved, numbered, positionOf, recordsBy};
 ghost use Rattle.places.specs.Runs.{runBy, runOf, Inside, keyNumber, keyBefore, before};
 use reader::Found;
 use records::RecordKey;
@@ -209,4 +211,54 @@ pub fn look(image: &[u8], p: Places, key: RecordKey) -> Found
     } else {
         Found::Missing
     }
+}
+
+// The record with a kind and a number, where the number is the place.
+fn look_at_number(image: &[u8], p: Places, kind: u8, first: u8) -> Found
+    requires { ⌜ numbered kind ≡ true ⌝ }
+    ensures { λ r. ⌜ r ≡ findIn (keyBy kind first 0 0) (recordsBy (now (image .entry)) p) ⌝ }
+{
+    let run = run_of(image, p, kind);
+    let n = words::wide(first);
+    if run.count <= n {
+        return Found::Missing;
+    }
+    let at = body_at(image, run, kind, n);
+    if image[at] == first {
+        Found::It(reader::record_of(kind, image, at))
+    } else {
+        Found::Missing
+    }
+}
+
+// The head, which has no key, is the first of its kind.
+fn look_head(image: &[u8], p: Places, first: u8) -> Found
+    ensures { λ r. ⌜ r ≡ findIn (keyBy 0x10 first 0 0) (recordsBy (now (image .entry)) p) ⌝ }
+{
+    if 0 < first {
+        return Found::Missing;
+    }
+    if run_of(image, p, 0x10).count == 0 {
+        return Found::Missing;
+    }
+    Found::It(reader::record_of(0x10, image, 1))
+}
+
+// The same where the key is one number: of an event, a module or a supervisor it is the place itself.
+pub fn look_number(image: &[u8], p: Places, kind: u8, first: u8) -> Found
+    ensures { λ r. ⌜ r ≡ findIn (keyBy kind first 0 0) (recordsBy (now (image .entry)) p) ⌝ }
+{
+    if (kind == 0x11) | (kind == 0x12) | (kind == 0x14) {
+        return look_at_number(image, p, kind, first);
+    }
+    if kind == 0x10 {
+        return look_head(image, p, first);
+    }
+    let key = RecordKey {
+        kind,
+        first,
+        second: 0,
+        third: 0,
+    };
+    look(image, p, key)
 }

@@ -107,55 +107,65 @@ fn fields_at(image: &[u8], places: Places, kind: u8, first: u8, second: u8) -> F
     fields_of(r)
 }
 
+// The same of the head, an event, a module or a supervisor.
+fn numbered_fields(image: &[u8], places: Places, kind: u8, first: u8) -> Fields
+    ensures { λ f. ⌜ FieldsFound (findIn (keyBy kind first 0 0) (recordsBy (now (image .entry)) places)) f ⌝ }
+{
+    let Found::It(r) = places::look_number(image, places, kind, first) else {
+        return fields_by(0, 0, 0, 0, 0);
+    };
+    fields_of(r)
+}
+
 // The head's counts.
 pub fn modules_of(image: &[u8], places: Places) -> u8
     ensures { λ r. ⌜ r ≡ modulesOf (recordsBy (now (image .entry)) places) ⌝ }
 {
-    fields_at(image, places, 0x10, 0, 0).first
+    numbered_fields(image, places, 0x10, 0).first
 }
 
 pub fn supervisors_of(image: &[u8], places: Places) -> u8
     ensures { λ r. ⌜ r ≡ supervisorsOf (recordsBy (now (image .entry)) places) ⌝ }
 {
-    fields_at(image, places, 0x10, 0, 0).second
+    numbered_fields(image, places, 0x10, 0).second
 }
 
 pub fn events_of(image: &[u8], places: Places) -> u8
     ensures { λ r. ⌜ r ≡ eventsOf (recordsBy (now (image .entry)) places) ⌝ }
 {
-    fields_at(image, places, 0x10, 0, 0).third
+    numbered_fields(image, places, 0x10, 0).third
 }
 
 // Whether a module or a supervisor has a state.
 pub fn module_state(image: &[u8], places: Places, m: u8, st: u8) -> bool
     ensures { λ r. ⌜ r ≡ moduleState (recordsBy (now (image .entry)) places) m st ⌝ }
 {
-    st < fields_at(image, places, 0x12, m, 0).second
+    st < numbered_fields(image, places, 0x12, m).second
 }
 
 pub fn supervisor_state(image: &[u8], places: Places, v: u8, st: u8) -> bool
     ensures { λ r. ⌜ r ≡ supervisorState (recordsBy (now (image .entry)) places) v st ⌝ }
 {
-    st < fields_at(image, places, 0x14, v, 0).second
+    st < numbered_fields(image, places, 0x14, v).second
 }
 
 pub fn module_initial(image: &[u8], places: Places, m: u8) -> u8
     ensures { λ r. ⌜ r ≡ moduleInitial (recordsBy (now (image .entry)) places) m ⌝ }
 {
-    fields_at(image, places, 0x12, m, 0).third
+    numbered_fields(image, places, 0x12, m).third
 }
 
 pub fn supervisor_initial(image: &[u8], places: Places, v: u8) -> u8
     ensures { λ r. ⌜ r ≡ supervisorInitial (recordsBy (now (image .entry)) places) v ⌝ }
 {
-    fields_at(image, places, 0x14, v, 0).third
+    numbered_fields(image, places, 0x14, v).third
 }
 
 // The module of an event.
 pub fn owner_of(image: &[u8], places: Places, e: u8) -> u8
     ensures { λ r. ⌜ r ≡ ownerOf (recordsBy (now (image .entry)) places) e ⌝ }
 {
-    fields_at(image, places, 0x11, e, 0).second
+    numbered_fields(image, places, 0x11, e).second
 }
 
 // Whether an event is the module's, whether it is controllable, and whether it is an uncontrollable one of the module.
@@ -168,7 +178,7 @@ pub fn own_event(image: &[u8], places: Places, m: u8, e: u8) -> bool
 pub fn controllable(image: &[u8], places: Places, e: u8) -> bool
     ensures { λ r. ⌜ r ≡ controllable (recordsBy (now (image .entry)) places) e ⌝ }
 {
-    fields_at(image, places, 0x11, e, 0).third == 1
+    numbered_fields(image, places, 0x11, e).third == 1
 }
 
 pub fn own_uncontrollable(image: &[u8], places: Places, m: u8, e: u8) -> bool
@@ -181,7 +191,7 @@ pub fn own_uncontrollable(image: &[u8], places: Places, m: u8, e: u8) -> bool
 pub fn alphabet_of(image: &[u8], places: Places, v: u8) -> u64
     ensures { λ r. ⌜ r ≡ alphabetOf (recordsBy (now (image .entry)) places) v ⌝ }
 {
-    fields_at(image, places, 0x14, v, 0).word
+    numbered_fields(image, places, 0x14, v).word
 }
 
 pub fn in_alphabet(image: &[u8], places: Places, v: u8, e: u8) -> bool
