@@ -38,7 +38,7 @@ pub record Reached (s : List ℕ) (c : Context) (i : ℕ) (p : Places) : Type 0 
   pub checked : checkBy (length s) c (walkFrom s i) ≡ verdictOf s
   pub noted : notedIn p (c .last .kind) (walkFrom s i) ≡ placesOf s
 
--- from the offset i, with the context c, on to j, with the context d, past faultless records of the kind k, or none
+-- from the offset i, with the context c, on to j, with the context d, past records of the kind k, or none; the check's answer and the places stay
 pub record Stretch (s : List ℕ) (k : ℕ) (c : Context) (i : ℕ) (d : Context) (j : ℕ) : Type 0 where
   pub further : i ≤ j
   pub same : checkBy (length s) d (walkFrom s j) ≡ checkBy (length s) c (walkFrom s i)

@@ -54,7 +54,8 @@ unfoldable pub bytesSeen : List ℕ → Memory → List Act → List Outcome
 bytesSeen image B [] = []
 bytesSeen image B (a ∷ l) = actBytesSeen image B a ++ bytesSeen image (bytesStep image B a .memory) l
 
--- "is fed each response and tick as called, and a turn for each module step that .. takes one; nothing else"
+-- "is fed each response and tick as called, and a turn for each module step that by the rules above takes one; nothing else": here by what the step
+-- answered; that these are the turns which the rules take is `feeds` of specs/DemandOverBytes.antt
 unfoldable pub actBytesFed : List ℕ → Memory → Act → List DeviceAct
 actBytesFed image B (moduleStep m b) = cond (tookTurn (ModuleCalls.stepBytes image (B .moduleAt m) m b)) (deviceTurn m ∷ []) []
 actBytesFed image B (supervisorStep v b) = []

@@ -27,7 +27,8 @@ pub record OverBytes (image : List ℕ) (acts : List Act) : Type 0 where
   -- and they are read as the states of which demand 3 holds
   pub states : decoded (bytesRun image (bytesStart image) acts .memory) ≡ run image (start image) acts
   pub demand : Demand3 image acts
-  -- the same of the one device, which is fed as demand 3 says
+  -- the turns fed, told by the answers, are those that the rules take, so that `equal` leaves none out; the one device then gives the answers and the
+  -- bytes of its calls by value
   pub feeds : bytesFed image (bytesStart image) acts ≡ fed image (start image) acts
   pub device-calls : deviceBytesRun image (deviceBytesStart image) (bytesFed image (bytesStart image) acts)
       ≡ record { answers = deviceAnswers image (startCall image .device) (fed image (start image) acts); memory = deviceBytes (deviceRun image (startCall image .device) (fed image (start image) acts)) }

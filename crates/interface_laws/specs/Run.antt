@@ -43,7 +43,7 @@ pub record Given (A : Type 0) : Type 0 where
 
 -- ---- one call
 
--- what was done and how many bytes were written, as `pewterslug_did` and `pewterslug_length` take them
+-- of an accepted answer: what was done and how many bytes were written, as `pewterslug_did` and `pewterslug_length` take them
 abbrev pub didOf : Answer → ℕ
 didOf a = a .number / 256 % 256
 

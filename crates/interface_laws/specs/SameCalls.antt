@@ -65,14 +65,14 @@ pub record SameCalls : Type 0 where
       → DeviceCalls.respondBytes image (deviceBytes d) m e ≡ deviceAnswer (respondCall image d m e)
   pub deviceTick : (image : List ℕ) (d : Device) (m s : ℕ) (l : Float) → DeviceEncodable d
       → DeviceCalls.tickBytes image (deviceBytes d) m s l ≡ deviceAnswer (tickCall image d m (flowOf s l))
-  -- an accepted start writes the starting state, whatever stood there
+  -- an accepted start writes the starting state, whatever stood in the bytes lent, of just its size
   pub moduleStart : (image : List ℕ) (m : ℕ) (l : List ℕ) → length l ≡ 48 → M.moduleStart image m .answer ≡ Done
       → ModuleCalls.startBytes image m l .buffer ≡ moduleBytes (M.moduleStart image m .state)
   pub supervisorStart : (image : List ℕ) (v : ℕ) (l : List ℕ) → length l ≡ 6 → S.supervisorStart image v .answer ≡ Done
       → SupervisorCalls.startBytes image v l .buffer ≡ supervisorBytes (S.supervisorStart image v .state)
   pub deviceStart : (image l : List ℕ) → length l ≡ 592 → startCall image .answer ≡ Done
       → DeviceCalls.startBytes image l .buffer ≡ deviceBytes (startCall image .device)
-  -- and a refused one leaves zeros, which are the state that it gives
+  -- a start into zeros leaves the bytes of the state that it gives, also a refused one
   pub moduleZeros : (image : List ℕ) (m : ℕ) → ModuleCalls.startBytes image m (replicate 48 0) .buffer ≡ moduleBytes (M.moduleStart image m .state)
   pub supervisorZeros : (image : List ℕ) (v : ℕ)
       → SupervisorCalls.startBytes image v (replicate 6 0) .buffer ≡ supervisorBytes (S.supervisorStart image v .state)

@@ -4,7 +4,7 @@
 use checker::Examined;
 use device_states::Device;
 use lines::Partial;
-use modules::Called;
+use places::Places;
 use script::Text;
 
 // One byte more than a plan may have, so that a longer file is seen to be one.
@@ -96,23 +96,21 @@ fn play_script(image: &[u8], device: Device) -> Device {
     play_last(image, p)
 }
 
-fn run(image: &[u8]) {
+fn run_on(image: &[u8], places: Places) {
+    let modules = plan::modules_of(image, places);
+    let supervisors = plan::supervisors_of(image, places);
+    let events = plan::events_of(image, places);
+    print(script::header_line(modules, supervisors, events));
     let s = device::start(image);
-    let a = s.answer;
     let first = s.device;
-    match a {
-        Called::Done => {
-            let Examined::Accepted(places) = checker::examine(image) else {
-                return;
-            };
-            let modules = plan::modules_of(image, places);
-            let supervisors = plan::supervisors_of(image, places);
-            let events = plan::events_of(image, places);
-            print(script::header_line(modules, supervisors, events));
-            let d = play_script(image, first);
-            print(script::states_line(d, modules, supervisors));
-        }
-        Called::Refused(n, at) => print(script::plan_refused_line(n, at)),
+    let d = play_script(image, first);
+    print(script::states_line(d, modules, supervisors));
+}
+
+fn run(image: &[u8]) {
+    match checker::examine(image) {
+        Examined::Accepted(places) => run_on(image, places),
+        Examined::Refused(n, at) => print(script::plan_refused_line(n, at)),
     }
 }
 

@@ -18,10 +18,12 @@ use Rattle.places.specs.declared.Places.{Places}
 abbrev pub nowhere : Places
 nowhere = record { k11 = 0; k12 = 0; k13 = 0; k14 = 0; k15 = 0; k16 = 0; k17 = 0; k1f = 0 }
 
--- a record of kind k at an offset begins the records of each kind after the last record's, up to its own
+-- a record of kind k at an offset begins the records of each kind after the last record's, up to its own; of the offset the lower 16 bits, which is
+-- all of it in an accepted image
 unfoldable pub placeBy : ℕ → ℕ → ℕ → ℕ → ℕ → ℕ
 placeBy last k at j x = cond (ltb last j && leb j k) (at % 65536) x
 
+-- no kind stands between 17 and 1F, so that the end record is the first of 18 or above
 unfoldable pub notedAt : Places → ℕ → ℕ → ℕ → Places
 notedAt p last k at =
     record {
@@ -45,7 +47,7 @@ placesOf s = notedIn nowhere 0 (walkFrom s 0)
 
 -- ---- the records of a kind
 
--- where they begin and end; a kind that no record has begins and ends at 0
+-- where they begin and end. The head begins at 0; a number that is no kind begins and ends at 0.
 unfoldable pub beginOf : Places → ℕ → ℕ
 beginOf p k =
     cond (eqb k 0x11) (p .k11)
@@ -73,7 +75,7 @@ endOf p k =
 unfoldable pub countOf : List ℕ → Places → ℕ → ℕ
 countOf s p k = cond (leb (endOf p k) (length s)) ((endOf p k - beginOf p k) / suc (bodyLen k)) 0
 
--- the i-th of them
+-- the i-th of them, read as one of that kind whatever byte stands before it
 unfoldable pub recordBy : List ℕ → Places → ℕ → ℕ → Record
 recordBy s p k i = recordOf k (drop (suc (beginOf p k + i * suc (bodyLen k))) s)
 

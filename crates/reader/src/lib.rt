@@ -95,7 +95,7 @@ pub enum Read {
     Nothing,
 }
 
-// The same without the fields, for one who looks for records of a kind.
+// The same without the fields.
 pub enum Shape {
     // the kind, and the offsets of the body and of what follows it
     Whole(u8, usize, usize),
@@ -152,7 +152,7 @@ fn key_by(kind: u8, first: u8, second: u8, third: u8) -> RecordKey
     }
 }
 
-// The key of that record.
+// The key of the record that `record_of` gives.
 pub fn key_at(kind: u8, s: &[u8], b: usize) -> RecordKey
     ensures { λ r. ⌜ r ≡ keyOf (recordOf kind (drop b (now (s .entry)))) ⌝ }
 {
