@@ -162,6 +162,12 @@ module _ (s : List ℕ) (j : ℕ) {f : Fields} (g : f ≡ fieldsAt s j) where
       ∙ simp (field-at s j 0 1 refl, field-at s j 1 2 refl, field-at s j 2 3 refl, word-at s j 3 4 refl)
       (ap (λ (x : Fields). Whole (Step (x .first) (x .second) (x .third) (wordAt s (j + 4))) (j + 12)) (sym g))
 
+-- an index into a table, by the tests before it
+pub index-by : (k e m : ℕ) (o w : Bool) → k ≡ e → not ((o && ltb e m) && w) ≡ false → k < m
+index-by k e m o w q h =
+    let l : e < m = ltb-true e m (both o (ltb e m) (both (o && ltb e m) w (not-false _ h) .0) .1) in
+    omega arith
+
 -- ---- the places
 
 none-between : (k j : ℕ) → (ltb k j && leb j k) ≡ false
@@ -290,59 +296,62 @@ module _ (n : Counts) (ev : Events) (e x : ℕ) where
       go false p q = absurd (false≢true q)
 
 module _ (s : List ℕ) (c : Context → Context) (i : ℕ) (n : Counts) (p : RecordKey) (j : ℕ) {b : Bool} {f : Fields} {k : ℕ} {o : Bool} (g : f ≡ fieldsAt s j) (k1 : k ≡ f .first) where
-  pub event-step : (known controllable : ℕ) (owner : List ℕ) {a t : ℕ} → b ≡ standsAt s j 0x11 4 → not b ≡ false → f .first < 64
-      → o ≡ precedes p (keyBy 0x11 (f .first) 0 0) → not (o && (leb (f .third) 1 && (ltb (f .first) (n .events) && ltb (f .second) (n .modules)))) ≡ false
+  pub event-step : (known controllable : ℕ) (owner : List ℕ) {a t : ℕ} → b ≡ standsAt s j 0x11 4 → not b ≡ false
+      → o ≡ precedes p (keyBy 0x11 (f .first) 0 0) → not ((o && ltb (f .first) 64) && (leb (f .third) 1 && (ltb (f .first) (n .events) && ltb (f .second) (n .modules)))) ≡ false
       → a ≡ putBit known (f .first) true → t ≡ putBit controllable (f .first) (eqb (f .third) 1)
       → Passed s 0x11 c i (atEvents p n known controllable owner) j
       → Passed s 0x11 c i (atEvents (keyBy 0x11 (f .first) 0 0) n a t (set owner k (f .second))) (j + 4)
   unfolding Passed atEvents judgeBy orderBy indexBy namesBy rulesBy allBy inRange keyOf kindOf countsAfter eventsAfter modulesAfter supervisorsAfter withEntry withBit
-  event-step known controllable owner {a} {t} e b1 l o1 h a1 t1 v r =
+  event-step known controllable owner {a} {t} e b1 o1 h a1 t1 v r =
       let kept : Bool = ltb (f .first) (n .events) && ltb (f .second) (n .modules) in
-      let q = both o (leb (f .third) 1 && kept) (not-false _ h) in
-      let m = both (leb (f .third) 1) kept (q .1) in
+      let x = both (o && ltb (f .first) 64) (leb (f .third) 1 && kept) (not-false _ h) in
+      let q = both o (ltb (f .first) 64) (x .0) in
+      let m = both (leb (f .third) 1) kept (x .1) in
       let d = reaches s 0x11 (j + 4) (reads-event s j g (stands-told s j 0x11 4 e b1)) (omega arith)
       (simp (sym o1 ∙ q .0, m .0, m .1)) refl refl (λ z. absurd (omega arith)) (v r)
       in
       let w : withRecord (atEvents p n known controllable owner r) (Event (f .first) (f .second) (f .third)) ≡ atEvents (keyBy 0x11 (f .first) 0 0) n a t (set owner k (f .second)) r =
-      simp (lt-ltb (f .first) 64 l) cc
+      simp (q .1) cc
       in
       subst (λ (x : Context). Stretch s 0x11 (c r) i x (j + 4)) w d
 
-  pub module-step : (known : ℕ) (states : List ℕ) {a : ℕ} → b ≡ standsAt s j 0x12 4 → not b ≡ false → f .first < 16
+  pub module-step : (known : ℕ) (states : List ℕ) {a : ℕ} → b ≡ standsAt s j 0x12 4 → not b ≡ false
       → o ≡ precedes p (keyBy 0x12 (f .first) 0 0)
-      → not (o && ((leb 1 (f .second) && leb (f .second) 32) && (ltb (f .first) (n .modules) && ltb (f .third) (f .second)))) ≡ false → a ≡ putBit known (f .first) true
+      → not ((o && ltb (f .first) 16) && ((leb 1 (f .second) && leb (f .second) 32) && (ltb (f .first) (n .modules) && ltb (f .third) (f .second)))) ≡ false → a ≡ putBit known (f .first) true
       → Passed s 0x12 c i (atModules p n known states) j
       → Passed s 0x12 c i (atModules (keyBy 0x12 (f .first) 0 0) n a (set states k (f .second))) (j + 4)
   unfolding Passed atModules judgeBy orderBy indexBy namesBy rulesBy allBy inRange keyOf kindOf countsAfter eventsAfter modulesAfter supervisorsAfter withEntry withBit
-  module-step known states {a} e b1 l o1 h a1 v r =
+  module-step known states {a} e b1 o1 h a1 v r =
       let ranged : Bool = leb 1 (f .second) && leb (f .second) 32 in
       let kept : Bool = ltb (f .first) (n .modules) && ltb (f .third) (f .second) in
-      let q = both o (ranged && kept) (not-false _ h) in
-      let m = both ranged kept (q .1) in
+      let x = both (o && ltb (f .first) 16) (ranged && kept) (not-false _ h) in
+      let q = both o (ltb (f .first) 16) (x .0) in
+      let m = both ranged kept (x .1) in
       let d = reaches s 0x12 (j + 4) (reads-module s j g (stands-told s j 0x12 4 e b1)) (omega arith)
       (simp (sym o1 ∙ q .0, m .0, m .1)) refl refl (λ z. absurd (omega arith)) (v r)
       in
       let w : withRecord (atModules p n known states r) (Module (f .first) (f .second) (f .third)) ≡ atModules (keyBy 0x12 (f .first) 0 0) n a (set states k (f .second)) r =
-      simp (lt-ltb (f .first) 16 l) cc
+      simp (q .1) cc
       in
       subst (λ (x : Context). Stretch s 0x12 (c r) i x (j + 4)) w d
 
-  pub supervisor-step : (events known : ℕ) (states alphabet : List ℕ) {a x : ℕ} {kept : Bool} → b ≡ standsAt s j 0x14 12 → not b ≡ false → f .first < 32 → x ≡ wordAt s (j + 4)
-      → kept ≡ supervisorKept f x n events → o ≡ precedes p (keyBy 0x14 (f .first) 0 0) → not (o && kept) ≡ false → a ≡ putBit known (f .first) true
+  pub supervisor-step : (events known : ℕ) (states alphabet : List ℕ) {a x : ℕ} {kept : Bool} → b ≡ standsAt s j 0x14 12 → not b ≡ false → x ≡ wordAt s (j + 4)
+      → kept ≡ supervisorKept f x n events → o ≡ precedes p (keyBy 0x14 (f .first) 0 0) → not ((o && ltb (f .first) 32) && kept) ≡ false → a ≡ putBit known (f .first) true
       → Passed s 0x14 c i (atSupervisors p n events known states alphabet) j
       → Passed s 0x14 c i (atSupervisors (keyBy 0x14 (f .first) 0 0) n events a (set states k (f .second)) (set alphabet k x)) (j + 12)
   unfolding Passed atSupervisors judgeBy orderBy indexBy namesBy rulesBy allBy keyOf kindOf countsAfter eventsAfter modulesAfter supervisorsAfter withEntry withBit
-  supervisor-step events known states alphabet {a} {x} {kept} e b1 l x1 n1 o1 h a1 v r =
-      let q = both o kept (not-false _ h) in
+  supervisor-step events known states alphabet {a} {x} {kept} e b1 x1 n1 o1 h a1 v r =
+      let y = both (o && ltb (f .first) 32) kept (not-false _ h) in
+      let q = both o (ltb (f .first) 32) (y .0) in
       let m = both (inRange (Supervisor (f .first) (f .second) (f .third) x)) (ltb (f .first) (n .supervisors) && ltb (f .third) (f .second) && everyEvent x (bit events))
-      (sym n1 ∙ q .1)
+      (sym n1 ∙ y .1)
       in
       let d = reaches s 0x14 (j + 12)
       (reads-supervisor s j g (stands-told s j 0x14 12 e b1) ∙ ap (λ (y : ℕ). Whole (Supervisor (f .first) (f .second) (f .third) y) (j + 12)) (sym x1)) (omega arith)
       (simp (sym o1 ∙ q .0, m .0, m .1)) refl refl (λ z. absurd (omega arith)) (v r)
       in
       let w : withRecord (atSupervisors p n events known states alphabet r) (Supervisor (f .first) (f .second) (f .third) x)
-      ≡ atSupervisors (keyBy 0x14 (f .first) 0 0) n events a (set states k (f .second)) (set alphabet k x) r = simp (lt-ltb (f .first) 32 l) cc
+      ≡ atSupervisors (keyBy 0x14 (f .first) 0 0) n events a (set states k (f .second)) (set alphabet k x) r = simp (q .1) cc
       in
       subst (λ (x : Context). Stretch s 0x14 (c r) i x (j + 12)) w d
 

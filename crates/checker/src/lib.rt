@@ -182,14 +182,6 @@ fn events(
         }
         let f = fields_at(image, i);
         let e = f.first;
-        if 64 <= e {
-            return PlaceOfEvents {
-                known,
-                controllable,
-                last,
-                next: i,
-            };
-        }
         let key = RecordKey {
             kind: 0x11,
             first: e,
@@ -197,7 +189,7 @@ fn events(
             third: 0,
         };
         let kept = (f.third <= 1) & ((e < n.events) & (f.second < n.modules));
-        if !(records::precedes(last, key) & kept) {
+        if !(records::precedes(last, key) & (e < 64) & kept) {
             return PlaceOfEvents {
                 known,
                 controllable,
@@ -237,13 +229,6 @@ fn modules(
         }
         let f = fields_at(image, i);
         let m = f.first;
-        if 16 <= m {
-            return PlaceOfNumbers {
-                known,
-                last,
-                next: i,
-            };
-        }
         let key = RecordKey {
             kind: 0x12,
             first: m,
@@ -251,7 +236,7 @@ fn modules(
             third: 0,
         };
         let kept = ((1 <= f.second) & (f.second <= 32)) & ((m < n.modules) & (f.third < f.second));
-        if !(records::precedes(last, key) & kept) {
+        if !(records::precedes(last, key) & (m < 16) & kept) {
             return PlaceOfNumbers {
                 known,
                 last,
@@ -341,13 +326,6 @@ fn supervisors(
         let f = fields_at(image, i);
         let x = words::word_at(image, i + 4);
         let v = f.first;
-        if 32 <= v {
-            return PlaceOfNumbers {
-                known,
-                last,
-                next: i,
-            };
-        }
         let key = RecordKey {
             kind: 0x14,
             first: v,
@@ -355,7 +333,7 @@ fn supervisors(
             third: 0,
         };
         let kept = supervisor_kept(f, x, n, events);
-        if !(records::precedes(last, key) & kept) {
+        if !(records::precedes(last, key) & (v < 32) & kept) {
             return PlaceOfNumbers {
                 known,
                 last,

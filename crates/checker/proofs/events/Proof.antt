@@ -3,7 +3,7 @@ use Prim.Native.Nat.{_-_}
 use lib.ListN.{length}
 use lib.Dec.{lit≤}
 use Rattle.checker.specs.Stretch.{Passed, atEvents}
-use Rattle.checker.proofs.Stretch.{begins-stretch, fields-by, fits-by, further-by, event-step}
+use Rattle.checker.proofs.Stretch.{begins-stretch, fields-by, fits-by, further-by, index-by, event-step}
 use Rattle.checker.proofs.events.Statement.{statement}
 use Rattle.checker.proofs.events.Tie as tie
 
@@ -31,9 +31,6 @@ returns-2 c = search needs
 precedes-requires : tie.Need-precedes-requires Inv-loop μ-loop
 precedes-requires c κs = search needs
 
-returns-3 : tie.Need-returns-3 Inv-loop μ-loop
-returns-3 c = search needs
-
 wide-requires : tie.Need-wide-requires Inv-loop μ-loop
 wide-requires c κs = search needs
 
@@ -44,7 +41,7 @@ put-requires-2 : tie.Need-put-requires-2 Inv-loop μ-loop
 put-requires-2 c κs = search needs
 
 element-write-owner : tie.Need-element-write-owner Inv-loop μ-loop
-element-write-owner c = search needs
+element-write-owner c = search index-by
 
 add-i : tie.Need-add-i Inv-loop μ-loop
 add-i c = search (needs, fits-by)
@@ -65,9 +62,8 @@ events-spec =
     stands-requires
     returns
     fields-at-requires
-    returns-2
     precedes-requires
-    returns-3
+    returns-2
     wide-requires
     put-requires
     put-requires-2

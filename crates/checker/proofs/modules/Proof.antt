@@ -3,7 +3,7 @@ use Prim.Native.Nat.{_-_}
 use lib.ListN.{length}
 use lib.Dec.{lit≤}
 use Rattle.checker.specs.Stretch.{Passed, atModules}
-use Rattle.checker.proofs.Stretch.{begins-stretch, fields-by, fits-by, further-by, module-step}
+use Rattle.checker.proofs.Stretch.{begins-stretch, fields-by, fits-by, further-by, index-by, module-step}
 use Rattle.checker.proofs.modules.Statement.{statement}
 use Rattle.checker.proofs.modules.Tie as tie
 
@@ -31,9 +31,6 @@ returns-2 c = search needs
 precedes-requires : tie.Need-precedes-requires Inv-loop μ-loop
 precedes-requires c κs = search needs
 
-returns-3 : tie.Need-returns-3 Inv-loop μ-loop
-returns-3 c = search needs
-
 wide-requires : tie.Need-wide-requires Inv-loop μ-loop
 wide-requires c κs = search needs
 
@@ -41,7 +38,7 @@ put-requires : tie.Need-put-requires Inv-loop μ-loop
 put-requires c κs = search needs
 
 element-write-states : tie.Need-element-write-states Inv-loop μ-loop
-element-write-states c = search needs
+element-write-states c = search index-by
 
 add-i : tie.Need-add-i Inv-loop μ-loop
 add-i c = search (needs, fits-by)
@@ -62,9 +59,8 @@ modules-spec =
     stands-requires
     returns
     fields-at-requires
-    returns-2
     precedes-requires
-    returns-3
+    returns-2
     wide-requires
     put-requires
     element-write-states

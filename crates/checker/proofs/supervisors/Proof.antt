@@ -3,7 +3,7 @@ use Prim.Native.Nat.{_-_}
 use lib.ListN.{length}
 use lib.Dec.{lit≤}
 use Rattle.checker.specs.Stretch.{Passed, atSupervisors}
-use Rattle.checker.proofs.Stretch.{begins-stretch, fields-by, inside-by, fits-by, further-by, supervisor-step}
+use Rattle.checker.proofs.Stretch.{begins-stretch, fields-by, inside-by, fits-by, further-by, index-by, supervisor-step}
 use Rattle.checker.proofs.supervisors.Statement.{statement}
 use Rattle.checker.proofs.supervisors.Tie as tie
 
@@ -40,9 +40,6 @@ supervisor-kept-requires c κs = search needs
 precedes-requires : tie.Need-precedes-requires Inv-loop μ-loop
 precedes-requires c κs = search needs
 
-returns-3 : tie.Need-returns-3 Inv-loop μ-loop
-returns-3 c = search needs
-
 wide-requires : tie.Need-wide-requires Inv-loop μ-loop
 wide-requires c κs = search needs
 
@@ -50,13 +47,13 @@ put-requires : tie.Need-put-requires Inv-loop μ-loop
 put-requires c κs = search needs
 
 element-write-states : tie.Need-element-write-states Inv-loop μ-loop
-element-write-states c = search needs
+element-write-states c = search index-by
 
 mul-alphabet : tie.Need-mul-alphabet Inv-loop μ-loop
 mul-alphabet c = search needs
 
 element-write-alphabet : tie.Need-element-write-alphabet Inv-loop μ-loop
-element-write-alphabet c = search needs
+element-write-alphabet c = search index-by
 
 add-i : tie.Need-add-i Inv-loop μ-loop
 add-i c = search (needs, fits-by)
@@ -79,10 +76,9 @@ supervisors-spec =
     fields-at-requires
     add-word-at
     word-at-requires
-    returns-2
     supervisor-kept-requires
     precedes-requires
-    returns-3
+    returns-2
     wide-requires
     put-requires
     element-write-states
