@@ -247,7 +247,7 @@ module _ (s : List ℕ) (p : Places) (q : RecordKey) where
           ap It (z ∙ there) ∙ sym (it s p q (omega arith) (sym (same-there u) ∙ w))
 
 -- what holds of the kinds whose records have the number of their place holds of a kind that is one of them
-of-numbered : (P : ℕ → Type 0) (k : ℕ) → numbered k ≡ true → P 0x11 → P 0x12 → P 0x14 → P k
+pub of-numbered : (P : ℕ → Type 0) (k : ℕ) → numbered k ≡ true → P 0x11 → P 0x12 → P 0x14 → P k
 unfolding numbered
 of-numbered P k e p1 p2 p4 = go (eqb k 0x11) (eqb k 0x12) refl refl e
   where
@@ -262,12 +262,15 @@ module _ (s : List ℕ) (p : Places) (k x : ℕ) (n : numbered k ≡ true) {r : 
   number-past l = missing-past s p (keyBy k x 0 0) e (numbered-by s p (keyBy k x 0 0) n f) l
 
   module _ (l : i < r .count) {a : ℕ} (g : a ≡ suc (r .begin + i * r .size)) where
-    pub number-room : a < length s
+    pub number-room : a + 3 ≤ length s
     unfolding bodyLen
     number-room =
         let w : 3 ≤ bodyLen k = of-numbered (λ (m : ℕ). 3 ≤ bodyLen m) k n (omega arith) (omega arith) (omega arith) in
         let t = inside-by s p k e in
         omega (arith, t .size, t .within i l)
+
+    pub number-inside : a < length s
+    number-inside = omega (arith, number-room)
 
     same-number : sameKey (keyOf (recordOf k (drop a s))) (keyBy k x 0 0) ≡ eqb (getD s a 0) x
     unfolding recordOf keyOf sameKey

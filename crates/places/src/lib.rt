@@ -2,12 +2,14 @@
 ghost use mathlib.Core.Path.{_≡_};
 ghost use mathlib.Core.Bool.{true};
 ghost use Prim.Native.Nat.{suc, _+_, _*_, _≤_, _<_};
-ghost use lib.ListN.{length, getD};
+ghost use lib.ListN.{length, getD, drop};
 ghost use Rattle.records.specs.Key.{keyBy};
 ghost use Rattle.reader.specs.Find.{findIn};
+ghost use Rattle.reader.specs.Read.{recordOf};
 ghost use Rattle.places.specs.Places.{nowhere, placeBy, notedAt, countOf, halved, numbered, positionOf, recordsBy};
 ghost use Rattle.places.specs.Runs.{runBy, runOf, Inside, keyNumber, keyBefore, before};
 use reader::Found;
+use records::Record;
 use records::RecordKey;
 
 // The offsets at which the records of each kind begin; those of a kind end where the next kind's begin. An image that is accepted is shorter
@@ -213,19 +215,63 @@ pub fn look(image: &[u8], p: Places, key: RecordKey) -> Found
     }
 }
 
+// The records of a kind whose number is their place, and the one whose body begins at an offset: small, so that with a known kind they are inlined.
+fn numbered_run(image: &[u8], p: Places, kind: u8) -> Run
+    requires { ⌜ numbered kind ≡ true ⌝ }
+    ensures { λ r. ⌜ r ≡ runOf (now (image .entry)) p kind ⌝ }
+{
+    if kind == 0x11 {
+        return run_by(image, p.k11 as usize, p.k12 as usize, 4);
+    }
+    if kind == 0x12 {
+        return run_by(image, p.k12 as usize, p.k13 as usize, 4);
+    }
+    run_by(image, p.k14 as usize, p.k15 as usize, 12)
+}
+
+fn numbered_record(image: &[u8], kind: u8, at: usize) -> Record
+    requires { ⌜ (numbered kind ≡ true) × (at + 3 ≤ length (now image)) ⌝ }
+    ensures { λ r. ⌜ r ≡ recordOf kind (drop at (now (image .entry))) ⌝ }
+{
+    let number = image[at];
+    let second = image[at + 1];
+    let third = image[at + 2];
+    if kind == 0x11 {
+        return Record::Event {
+            number,
+            owner: second,
+            class: third,
+        };
+    }
+    if kind == 0x12 {
+        return Record::Module {
+            number,
+            states: second,
+            initial: third,
+        };
+    }
+    let alphabet = words::word_at(image, at + 3);
+    Record::Supervisor {
+        number,
+        states: second,
+        initial: third,
+        alphabet,
+    }
+}
+
 // The record with a kind and a number, where the number is the place.
 fn look_at_number(image: &[u8], p: Places, kind: u8, first: u8) -> Found
     requires { ⌜ numbered kind ≡ true ⌝ }
     ensures { λ r. ⌜ r ≡ findIn (keyBy kind first 0 0) (recordsBy (now (image .entry)) p) ⌝ }
 {
-    let run = run_of(image, p, kind);
+    let run = numbered_run(image, p, kind);
     let n = words::wide(first);
     if run.count <= n {
         return Found::Missing;
     }
     let at = body_at(image, run, kind, n);
     if image[at] == first {
-        Found::It(reader::record_of(kind, image, at))
+        Found::It(numbered_record(image, kind, at))
     } else {
         Found::Missing
     }
