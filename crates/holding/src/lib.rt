@@ -30,6 +30,10 @@ pub fn held_fits(adjacent: u32, held: u32) -> bool
     let mut whole = true;
     let mut v: u8 = 0;
     while v < 32 {
+        // Past the last that is held nothing is left to ask.
+        if held_bits >> v == 0 {
+            return true;
+        }
         let neighbour_v = bits::has(neighbour_bits, v);
         let held_v = bits::has(held_bits, v);
         if held_v & !(neighbour_v & whole) {

@@ -2,9 +2,9 @@ use mathlib.Core.Path.{_≡_, refl}
 use mathlib.Core.Bool.{true}
 use Prim.Native.Nat.{_-_, _≤_}
 use native.Mathlib.Omega.{arith}
-use borrow.Author.Needs.{needs}
 use Rattle.bits.specs.Bit.{allBelow}
-use Rattle.holding.proofs.Held.{keptAt, fitsAt, held-out, held-more, whole-more, held-in}
+use Rattle.holding.proofs.Held.{keptAt, fitsAt, held-out, held-more, whole-more, held-in, held-rest}
+use borrow.Author.Needs.{needs}
 use Rattle.holding.proofs.held_fits.Statement.{statement}
 use Rattle.holding.proofs.held_fits.Tie as tie
 
@@ -18,14 +18,23 @@ loop-holds : tie.Need-loop-holds Inv-loop μ-loop
 unfolding allBelow
 loop-holds c = (omega arith, refl, refl)
 
+cast-if1 : tie.Need-cast-if1 Inv-loop μ-loop
+cast-if1 c = search needs
+
+shr-if1 : tie.Need-shr-if1 Inv-loop μ-loop
+shr-if1 c = search needs
+
+returns : tie.Need-returns Inv-loop μ-loop
+returns c = search held-rest
+
 has-requires : tie.Need-has-requires Inv-loop μ-loop
 has-requires c κs = search needs
 
 has-requires-2 : tie.Need-has-requires-2 Inv-loop μ-loop
 has-requires-2 c κs = search needs
 
-returns : tie.Need-returns Inv-loop μ-loop
-returns c = search held-out
+returns-2 : tie.Need-returns-2 Inv-loop μ-loop
+returns-2 c = search held-out
 
 add-v : tie.Need-add-v Inv-loop μ-loop
 add-v c = omega arith
@@ -36,8 +45,23 @@ loop-less c = omega arith
 loop-again : tie.Need-loop-again Inv-loop μ-loop
 loop-again c = (omega arith, search whole-more, search held-more)
 
-returns-2 : tie.Need-returns-2 Inv-loop μ-loop
-returns-2 c = search held-in
+returns-3 : tie.Need-returns-3 Inv-loop μ-loop
+returns-3 c = search held-in
 
 pub held-fits-spec : {M : Type 1} → statement M
-held-fits-spec = tie.close (tie.spec Inv-loop μ-loop loop-holds has-requires has-requires-2 returns add-v loop-less loop-again returns-2)
+held-fits-spec =
+    tie.close
+    (tie.spec
+    Inv-loop
+    μ-loop
+    loop-holds
+    cast-if1
+    shr-if1
+    returns
+    has-requires
+    has-requires-2
+    returns-2
+    add-v
+    loop-less
+    loop-again
+    returns-3)
