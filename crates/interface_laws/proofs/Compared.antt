@@ -89,7 +89,7 @@ module _ (m : ℕ) (s b own : List ℕ) where
   parts : (n d v k : ℕ) → n < 256 → d < 256 → v < 256 → outcome m (answerBy (packed n d v k)) own ≡ record { owner = m; number = n; did = d; value = v; own = own }
   parts n d v k nh dh vh = let q = unpacked n d v k nh dh vh in simp (q .number, q .did, q .value)
 
-  is-turn : (n d v k : ℕ) → n < 256 → d < 256 → v < 256 → tookTurn (answerBy (packed n d v k)) ≡ (eqb n 0 && ltb d 4)
+  is-turn : (n d v k : ℕ) → n < 256 → d < 256 → v < 256 → tookTurn (answerBy (packed n d v k)) ≡ (eqb n 0 && ltb 0 d && ltb d 4)
   is-turn n d v k nh dh vh = let q = unpacked n d v k nh dh vh in simp (q .number, q .did)
 
   turn-outcome : (t : Turn) (k : ℕ) → TurnSmall t → outcome m (answerBy (turnAnswer t k)) own ≡ turnOutcome m t own
@@ -115,7 +115,7 @@ module _ (m : ℕ) (s b own : List ℕ) where
   step-taken (Bids v k) h = is-turn 0 4 v k (lit< tt) (lit< tt) (h .0)
   step-taken Waits h = is-turn 0 6 0 0 (lit< tt) (lit< tt) (lit< tt)
   step-taken (Refused n o) h =
-      is-turn n 0 0 o (omega (arith, h .1)) (lit< tt) (lit< tt) ∙ ap (λ (t : Bool). t && true) (ne-eqb n 0 (λ e. omega (arith, h .0)))
+      is-turn n 0 0 o (omega (arith, h .1)) (lit< tt) (lit< tt) ∙ ap (λ (t : Bool). t && false && true) (ne-eqb n 0 (λ e. omega (arith, h .0)))
 
   step-outcomes : (a : Stepped) (o : Own) → StepSmall a → own ≡ ownBytes o
       → cond (tookTurn (answerBy (steppedAnswer a))) (outcome m (answerBy (steppedAnswer a)) own ∷ []) [] ≡ map outcomeOf (stepSeen m a o)

@@ -38,7 +38,7 @@ deviceOutcome m a = outcome m a (take 35 (drop (m * 35) (a .state)))
 
 -- an accepted step that took a turn: "1: a turn: an event fired ..; 2: a turn: a stray response ..; 3: a turn: none"
 abbrev pub tookTurn : Answer → Bool
-tookTurn a = eqb (numberOf a) 0 && ltb (didOf a) 4
+tookTurn a = eqb (numberOf a) 0 && ltb 0 (didOf a) && ltb (didOf a) 4
 
 -- "Calls for a party that the plan lacks are merely refused, their numbers not compared."
 unfoldable pub actBytesSeen : List ℕ → Memory → Act → List Outcome
