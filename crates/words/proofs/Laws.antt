@@ -8,7 +8,7 @@ use native.Mathlib.Omega.{arith}
 use lib.ListN.{length, getD, set, drop, length-map, List·getD-eq-default}
 use lib.Seq.{sets, sets-eq, getD-drop, drop-cons, drop-length}
 use borrow.Author.Tests.{le-leb, lt-leb}
-use Rattle.words.specs.Word.{fitsAt, putAt, wordAt, wordBytes, wordPut, appendByte}
+use Rattle.words.specs.Word.{fitsAt, putAt, quadAt, wordAt, wordBytes, wordPut, appendByte}
 
 -- ---- bytes put
 
@@ -57,18 +57,31 @@ module _ (o : ℕ) (q l : List ℕ) where
 -- ---- numbers of eight bytes
 
 -- past the end
-pub word-none : (s : List ℕ) (o : ℕ) → length s ≤ o → wordAt s o ≡ 0
-unfolding wordAt
-word-none s o h =
+quad-zero : (s : List ℕ) (o : ℕ) → length s ≤ o → quadAt s o ≡ 0
+unfolding quadAt
+quad-zero s o h =
     let e0 : getD s o 0 ≡ 0 = List·getD-eq-default s 0 h in
     let e1 : getD s (o + 1) 0 ≡ 0 = List·getD-eq-default s 0 (omega arith) in
     let e2 : getD s (o + 2) 0 ≡ 0 = List·getD-eq-default s 0 (omega arith) in
     let e3 : getD s (o + 3) 0 ≡ 0 = List·getD-eq-default s 0 (omega arith) in
-    let e4 : getD s (o + 4) 0 ≡ 0 = List·getD-eq-default s 0 (omega arith) in
-    let e5 : getD s (o + 5) 0 ≡ 0 = List·getD-eq-default s 0 (omega arith) in
-    let e6 : getD s (o + 6) 0 ≡ 0 = List·getD-eq-default s 0 (omega arith) in
-    let e7 : getD s (o + 7) 0 ≡ 0 = List·getD-eq-default s 0 (omega arith) in
-    simp (e0, e1, e2, e3, e4, e5, e6, e7)
+    simp (e0, e1, e2, e3)
+
+pub quad-none : (s : List ℕ) (o : ℕ) → length s ≤ o → (0 ≡ quadAt s o) × (0 < 4294967296)
+quad-none s o h = (sym (quad-zero s o h), omega arith)
+
+-- by its two halves
+pub word-halves : (s : List ℕ) (o : ℕ) {a b r : ℕ} → a ≡ quadAt s o → b ≡ quadAt s (o + 4) → r ≡ a * 0x100000000 + b → r ≡ wordAt s o
+unfolding wordAt quadAt
+word-halves s o {a} {b} {r} e h w =
+    let n1 : o + 4 + 1 ≡ o + 5 = omega arith in
+    let n2 : o + 4 + 2 ≡ o + 6 = omega arith in
+    let n3 : o + 4 + 3 ≡ o + 7 = omega arith in
+    let k : b ≡ appendByte (appendByte (appendByte (getD s (o + 4) 0) (getD s (o + 5) 0)) (getD s (o + 6) 0)) (getD s (o + 7) 0) =
+    h ∙ simp (n1, n2, n3) in
+    omega (arith, e, k, w)
+
+pub word-none : (s : List ℕ) (o : ℕ) → length s ≤ o → 0 ≡ wordAt s o
+word-none s o h = word-halves s o (sym (quad-zero s o h)) (sym (quad-zero s (o + 4) (omega arith))) refl
 
 -- in a list without its first b bytes
 pub word-drop : (b : ℕ) (s : List ℕ) (o : ℕ) → wordAt (drop b s) o ≡ wordAt s (b + o)

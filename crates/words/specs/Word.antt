@@ -17,7 +17,11 @@ putAt bytes at buffer = cond (fitsAt bytes at buffer) (take at buffer ++ bytes +
 abbrev pub appendByte : ℕ → ℕ → ℕ
 appendByte a b = a * 256 + b
 
--- the number that the eight bytes at an offset are; bytes past the end count as 0
+-- the number that the four bytes at an offset are; bytes past the end count as 0
+unfoldable pub quadAt : List ℕ → ℕ → ℕ
+quadAt s o = appendByte (appendByte (appendByte (getD s o 0) (getD s (o + 1) 0)) (getD s (o + 2) 0)) (getD s (o + 3) 0)
+
+-- the number that the eight bytes there are
 unfoldable pub wordAt : List ℕ → ℕ → ℕ
 wordAt s o =
     appendByte (appendByte (appendByte (appendByte (appendByte (appendByte (appendByte (getD s o 0) (getD s (o + 1) 0)) (getD s (o + 2) 0)) (getD s (o + 3) 0)) (getD s (o + 4) 0)) (getD s (o + 5) 0)) (getD s (o + 6) 0)) (getD s (o + 7) 0)

@@ -1,9 +1,9 @@
-// Bytes and numbers of eight bytes in a slice.
+// Bytes and numbers of four and of eight bytes in a slice.
 ghost use mathlib.Core.Path.{_≡_};
 ghost use Prim.Native.Nat.{_<_, _≤_, _+_};
 ghost use lib.ListN.{length, getD};
 ghost use lib.Seq.{sets};
-ghost use Rattle.words.specs.Word.{putAt, wordAt, wordPut};
+ghost use Rattle.words.specs.Word.{putAt, quadAt, wordAt, wordPut};
 
 // A byte as an index.
 pub fn wide(b: u8) -> usize
@@ -31,25 +31,67 @@ fn byte_long(s: &[u8], i: usize) -> u64
     long(byte_at(s, i))
 }
 
-fn word_in(s: &[u8], o: usize) -> u64
+// The four bytes at an index as a number.
+fn quad_in(s: &[u8], o: usize) -> u64
+    requires { ⌜ o + 4 ≤ length (now s) ⌝ }
+    ensures { λ r. ⌜ (r ≡ quadAt (now (s .entry)) o) × (r < 4294967296) ⌝ }
+{
+    let a = long(s[o]);
+    let b = a * 256 + long(s[o + 1]);
+    let c = b * 256 + long(s[o + 2]);
+    c * 256 + long(s[o + 3])
+}
+
+fn quad_past(s: &[u8], o: usize) -> u64
     requires { ⌜ o ≤ length (now s) ⌝ }
-    ensures { λ r. ⌜ r ≡ wordAt (now (s .entry)) o ⌝ }
+    ensures { λ r. ⌜ (r ≡ quadAt (now (s .entry)) o) × (r < 4294967296) ⌝ }
 {
     let a = byte_long(s, o);
     let b = a * 256 + byte_long(s, o + 1);
     let c = b * 256 + byte_long(s, o + 2);
-    let d = c * 256 + byte_long(s, o + 3);
-    let e = d * 256 + byte_long(s, o + 4);
-    let f = e * 256 + byte_long(s, o + 5);
-    let g = f * 256 + byte_long(s, o + 6);
-    g * 256 + byte_long(s, o + 7)
+    c * 256 + byte_long(s, o + 3)
+}
+
+fn quad_of(s: &[u8], o: usize) -> u64
+    ensures { λ r. ⌜ (r ≡ quadAt (now (s .entry)) o) × (r < 4294967296) ⌝ }
+{
+    if s.len() <= o {
+        return 0;
+    }
+    if 4 <= s.len() - o {
+        quad_in(s, o)
+    } else {
+        quad_past(s, o)
+    }
+}
+
+// The number that the four bytes at an index are; bytes past the end count as 0.
+pub fn quad_at(s: &[u8], o: usize) -> u32
+    ensures { λ r. ⌜ r ≡ quadAt (now (s .entry)) o ⌝ }
+{
+    quad_of(s, o) as u32
+}
+
+// Where all eight bytes are there, the compiler reads the two halves as one word.
+fn word_in(s: &[u8], o: usize) -> u64
+    requires { ⌜ o + 8 ≤ length (now s) ⌝ }
+    ensures { λ r. ⌜ r ≡ wordAt (now (s .entry)) o ⌝ }
+{
+    quad_in(s, o) * 0x100000000 + quad_in(s, o + 4)
 }
 
 // The number that the eight bytes at an index are; bytes past the end count as 0.
 pub fn word_at(s: &[u8], o: usize) -> u64
     ensures { λ r. ⌜ r ≡ wordAt (now (s .entry)) o ⌝ }
 {
-    if o < s.len() { word_in(s, o) } else { 0 }
+    if s.len() <= o {
+        return 0;
+    }
+    if 8 <= s.len() - o {
+        word_in(s, o)
+    } else {
+        quad_of(s, o) * 0x100000000 + quad_of(s, o + 4)
+    }
 }
 
 fn put_in(s: &mut [u8], o: usize, bytes: &[u8])
