@@ -12,9 +12,9 @@ use lib.Ieee.Bits.{ofBits-toBits, toBits-ofBits, toBits-lt, nanBits-is}
 use borrow.Author.Tests.{ltb-true}
 use Rattle.roundtrip.specs.Fits.{Byte, Bytes}
 use Rattle.roundtrip.proofs.Shape.{word-written, word-small}
-use Rattle.words.specs.Word.{wordAt, wordBytes, appendByte}
+use Rattle.words.specs.Word.{quadAt, wordAt, wordBytes, appendByte}
 use Rattle.words.proofs.Laws.{word-read}
-use Rattle.fields.specs.Fields.{bytesFrom, halfBytes, halfAt, quadBytes, quadAt, flagByte, flagOf, isFlag, floatBytes, floatAt, isFloat, Number}
+use Rattle.fields.specs.Fields.{bytesFrom, halfBytes, halfAt, quadBytes, flagByte, flagOf, isFlag, floatBytes, floatAt, isFloat, Number}
 
 -- ---- bytes from an offset
 

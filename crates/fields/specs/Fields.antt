@@ -2,7 +2,7 @@
 use Prim.Native.Nat.{ℕ, zero, suc, _+_, _/_, _%_}
 use mathlib.Core.Path.{_≡_}
 use mathlib.Core.List.{List, [], _∷_}
-use mathlib.Core.Bool.{Bool, false, cond, not}
+use mathlib.Core.Bool.{Bool, true, false, cond, not, _&&_}
 use lib.ListN.{getD}
 use lib.Dec.{T, eqb, ltb}
 use lib.Ieee.{Float, binary64, toBits, ofBits, nanBits, fits, isNan}
@@ -13,6 +13,11 @@ unfoldable pub bytesFrom : List ℕ → ℕ → ℕ → List ℕ
 bytesFrom s o zero = []
 bytesFrom s o (suc n) = getD s o 0 ∷ bytesFrom s (suc o) n
 
+-- whether every byte is 0
+unfoldable pub zeros : List ℕ → Bool
+zeros [] = true
+zeros (x ∷ s) = eqb x 0 && zeros s
+
 -- a number of two bytes and the number that the two bytes at an offset are
 unfoldable pub halfBytes : ℕ → List ℕ
 halfBytes x = x / 0x100 % 256 ∷ x % 256 ∷ []
@@ -20,12 +25,9 @@ halfBytes x = x / 0x100 % 256 ∷ x % 256 ∷ []
 unfoldable pub halfAt : List ℕ → ℕ → ℕ
 halfAt s o = appendByte (getD s o 0) (getD s (o + 1) 0)
 
--- a number of four bytes likewise
+-- a number of four bytes; words/specs/Word.antt has the number that four bytes are
 unfoldable pub quadBytes : ℕ → List ℕ
 quadBytes x = x / 0x1000000 % 256 ∷ x / 0x10000 % 256 ∷ x / 0x100 % 256 ∷ x % 256 ∷ []
-
-unfoldable pub quadAt : List ℕ → ℕ → ℕ
-quadAt s o = appendByte (appendByte (appendByte (getD s o 0) (getD s (o + 1) 0)) (getD s (o + 2) 0)) (getD s (o + 3) 0)
 
 -- a flag: "1 while ..., else 0"
 abbrev pub flagByte : Bool → ℕ

@@ -1,11 +1,9 @@
 // Numbers of two and four bytes, and f64, in the bytes of a state: specs/Fields.antt.
 ghost use mathlib.Core.Path.{_≡_};
-ghost use Prim.Native.Nat.{_≤_, _<_};
-ghost use lib.ListN.{length};
+ghost use Prim.Native.Nat.{_<_};
 ghost use lib.Ieee.{binary64, toBits, ofBits, nanBits};
-ghost use Rattle.words.specs.Word.{wordBytes};
 ghost use Rattle.messages.specs.Message.{putAt};
-ghost use Rattle.fields.specs.Fields.{halfBytes, halfAt, quadBytes, quadAt, flagByte, floatBytes, floatAt, isFloat};
+ghost use Rattle.fields.specs.Fields.{halfBytes, halfAt, quadBytes, flagByte, floatBytes, floatAt, isFloat, zeros};
 
 // ---- read
 
@@ -69,27 +67,17 @@ pub fn half_at(s: &[u8], o: usize) -> u16
     }
 }
 
-fn quad(b: u8) -> u32
-    ensures { λ r. ⌜ (r ≡ b) × (r < 256) ⌝ }
+// Whether every byte is 0: all are read, which the compiler does many at a time.
+pub fn are_zeros(s: &[u8]) -> bool
+    ensures { λ r. ⌜ r ≡ zeros (now (s .entry)) ⌝ }
 {
-    b as u32
-}
-
-fn quad_in(s: &[u8], o: usize) -> u32
-    requires { ⌜ o ≤ length (now s) ⌝ }
-    ensures { λ r. ⌜ r ≡ quadAt (now (s .entry)) o ⌝ }
-{
-    let a = quad(words::byte_at(s, o));
-    let b = a * 256 + quad(words::byte_at(s, o + 1));
-    let c = b * 256 + quad(words::byte_at(s, o + 2));
-    c * 256 + quad(words::byte_at(s, o + 3))
-}
-
-// The number that the four bytes at an index are.
-pub fn quad_at(s: &[u8], o: usize) -> u32
-    ensures { λ r. ⌜ r ≡ quadAt (now (s .entry)) o ⌝ }
-{
-    if o < s.len() { quad_in(s, o) } else { 0 }
+    let mut all: u8 = 0;
+    let mut i: usize = 0;
+    while i < s.len() {
+        all = all | s[i];
+        i += 1;
+    }
+    all == 0
 }
 
 // A flag's byte.
@@ -119,13 +107,6 @@ pub fn put_quad(s: &mut [u8], o: usize, x: u32)
         (x % 256) as u8,
     ];
     words::put_bytes(s, o, &bytes);
-}
-
-// Puts the eight bytes of a number.
-pub fn put_word(s: &mut [u8], o: usize, x: u64)
-    ensures { λ _. ⌜ now (s .exit) ≡ putAt (wordBytes x) o (now (s .entry)) ⌝ }
-{
-    words::put_word(s, o, x);
 }
 
 // Puts the eight bytes of an f64.

@@ -11,11 +11,11 @@ use lib.Ieee.{binary64, nanBits}
 use lib.Ieee.Bits.{is-true, ofBits-fits, nanBits-is}
 use Rattle.bits.specs.Bit.{allBelow}
 use Rattle.bits.proofs.Laws.{all-at}
-use Rattle.words.specs.Word.{wordAt}
+use Rattle.words.specs.Word.{quadAt, wordAt}
 use Rattle.roundtrip.specs.Fits.{Byte, Bytes}
 use Rattle.roundtrip.proofs.Shape.{word-small}
 use Rattle.plan.specs.Lists.{listFrom}
-use Rattle.fields.specs.Fields.{bytesFrom, halfAt, quadAt, flagOf, isFlag, isFloat, floatAt, Number}
+use Rattle.fields.specs.Fields.{bytesFrom, halfAt, flagOf, isFlag, isFloat, floatAt, Number}
 use Rattle.fields.proofs.Back.{and-left, and-right}
 use Rattle.own_bytes.specs.Own.{procedureOf, ownOf, isOwn, OwnEncodable}
 use Rattle.party_bytes.specs.Module.{moduleAt, moduleBytes, moduleOf, isModule, unfitModule, ModuleEncodable}

@@ -12,7 +12,8 @@ use Rattle.modules.specs.Procedure.{idle}
 use Rattle.modules.specs.Fits.{ownFits, ownEmpty}
 use Rattle.modules.specs.declared.Own.{Own}
 use Rattle.modules.specs.declared.Procedure.{Procedure}
-use Rattle.fields.specs.Fields.{bytesFrom, halfBytes, halfAt, quadBytes, quadAt, flagByte, flagOf, isFlag, floatBytes, floatAt, isFloat, Number}
+use Rattle.words.specs.Word.{quadAt}
+use Rattle.fields.specs.Fields.{bytesFrom, halfBytes, halfAt, quadBytes, flagByte, flagOf, isFlag, floatBytes, floatAt, isFloat, Number}
 
 unfoldable pub procedureBytes : Procedure → List ℕ
 procedureBytes p =

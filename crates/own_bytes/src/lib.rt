@@ -59,7 +59,7 @@ pub fn own_of(s: &[u8]) -> Own
     let length = words::byte_at(s, 1);
     let queue = queue_of(s);
     let procedure = procedure_of(s);
-    let outputs = fields::quad_at(s, 31);
+    let outputs = words::quad_at(s, 31);
     Own {
         state,
         queue,

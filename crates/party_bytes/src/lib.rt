@@ -20,7 +20,7 @@ fn module_at(s: &[u8]) -> Module
     ensures { λ r. ⌜ r ≡ moduleAt (now (s .entry)) ⌝ }
 {
     let own = own_bytes::own_of(s);
-    let held = fields::quad_at(s, 35);
+    let held = words::quad_at(s, 35);
     let received = words::word_at(s, 39);
     let flag = words::byte_at(s, 47);
     Module {
@@ -62,7 +62,7 @@ pub fn put_module(s: &mut [u8], x: Module)
         let own = x.own;
         own_bytes::put_own(&mut *s, 0, own);
         fields::put_quad(&mut *s, 35, x.held);
-        fields::put_word(&mut *s, 39, x.received);
+        words::put_word(&mut *s, 39, x.received);
         s[47] = fields::flag_of(x.bid);
     }
 }
