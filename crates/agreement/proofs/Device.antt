@@ -5,7 +5,6 @@ use mathlib.Core.List.{List}
 use mathlib.Core.Option.{Option, none, some, Option·getD}
 use Prim.Native.Nat.{ℕ, zero, suc, _+_, _≤_, _<_}
 use native.Mathlib.Decide.{ℕ-discrete}
-use native.Mathlib.Nat.{not-suc-le-zero}
 use native.Mathlib.Omega.{arith}
 use lib.ListN.{length, getD, set, length-set}
 use lib.Seq.{getD-set-same, getD-set-other}
@@ -32,23 +31,12 @@ use Rattle.device_states.specs.declared.Device.{Device}
 use Rattle.device.specs.declared.Turning.the-variants.{Turned as DeviceTurned}
 use Rattle.plan.specs.Lists.{listFrom}
 use Rattle.device_states.specs.States.{ownAt, stateAt, ownSlotFits, stateSlotFits, deviceFits, shownBy, stateAfterTurn, withOwn}
+use Rattle.device_states.proofs.Slots.{from-at}
 use Rattle.device.specs.Device.{turned, afterTurn, deviceNumber, turnIn, turnBy, replyIn, replyBy}
 use Rattle.protocol.specs.Generic.{update}
 use Rattle.protocol.specs.Rules as R
 use Rattle.protocol.proofs.Tools.{update-same, update-other}
 use Rattle.agreement.specs.PlanOf.{planOf}
-
--- a member of a list that is counted out
-pub from-at : {A : Type 0} (f : ℕ → A) (i n k : ℕ) (d : A) → k < n → getD (listFrom f i n) k d ≡ f (i + k)
-unfolding listFrom
-from-at f i zero k d h = absurd (not-suc-le-zero h)
-from-at f i (suc n) zero d h = ap f (let e : i ≡ i + 0 = omega arith in e)
-from-at f i (suc n) (suc k) d h = from-at f (suc i) n k d (omega arith) ∙ ap f (let e : suc i + k ≡ i + suc k = omega arith in e)
-
-pub from-length : {A : Type 0} (f : ℕ → A) (i n : ℕ) → length (listFrom f i n) ≡ n
-unfolding listFrom
-from-length f i zero = refl
-from-length f i (suc n) = ap suc (from-length f (suc i) n)
 
 -- the device's state and the rules' one, over the plan's modules and supervisors
 pub record Same (rs : List Record) (d : Device) (O : R.OneDevice) : Type 0 where

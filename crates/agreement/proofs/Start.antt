@@ -27,7 +27,8 @@ use Rattle.protocol.specs.Plan.{Laws}
 use Rattle.protocol.specs.System as P
 use Rattle.agreement.specs.PlanOf.{planOf}
 use Rattle.agreement.specs.System as A
-use Rattle.agreement.proofs.Device.{Same, OwnSlot, StateSlot, fits-of, from-at, from-length}
+use Rattle.device_states.proofs.Slots.{from-at, from-length}
+use Rattle.agreement.proofs.Device.{Same, OwnSlot, StateSlot, fits-of}
 use Rattle.agreement.proofs.Fit.{SameModule, SameSupervisor, holderOf, few}
 use Rattle.agreement.proofs.Simulation.{Sim}
 

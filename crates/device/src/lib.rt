@@ -2,11 +2,14 @@
 ghost use mathlib.Core.Path.{_≡_};
 ghost use Rattle.places.specs.Places.{recordsBy};
 ghost use Rattle.modules.specs.Procedure.{respondOf, tickOf};
-ghost use Rattle.device_states.specs.States.{ownAt};
+ghost use Rattle.rules.specs.LookUp.{supervisorsOf};
+ghost use Rattle.modules.specs.Turn.{turnOf};
+ghost use Rattle.device_states.specs.States.{ownAt, stateOf, shownBy};
 ghost use Rattle.device.specs.Device.{turned, afterTurn, deviceNumber, turnIn, turnCall, callRefused, replyIn, respondCall, tickCall, startCall};
 use checker::Examined;
 use device_states::Device;
 use modules::Called;
+use modules::Own;
 use modules::Replied;
 use modules::Turn;
 use modules::Turned;
@@ -61,15 +64,21 @@ fn number(image: &[u8], places: Places, d: Device, m: u8) -> u8
     }
 }
 
-// A module's turn over the masks shown.
+// A module's turn over the masks that the supervisors show in their states.
+pub fn turn_by(image: &[u8], places: Places, states: [u8; 32], m: u8, own: Own) -> Turned
+    ensures { λ r. ⌜ r ≡ turnOf (recordsBy (now (image .entry)) places) m (shownBy (recordsBy (now (image .entry)) places) (stateOf states) (supervisorsOf (recordsBy (now (image .entry)) places))) own ⌝ }
+{
+    let n = plan::supervisors_of(image, places);
+    let k = device_states::shown_by(image, places, states, n);
+    turns::turn(image, places, m, k, own)
+}
+
 fn turned(image: &[u8], places: Places, d: Device, m: u8) -> Turned
     ensures { λ r. ⌜ r ≡ turned (recordsBy (now (image .entry)) places) d m ⌝ }
 {
     let states = d.supervisors;
-    let n = plan::supervisors_of(image, places);
-    let k = device_states::shown_by(image, places, states, n);
     let own = device_states::own_of(d, m);
-    turns::turn(image, places, m, k, own)
+    turn_by(image, places, states, m, own)
 }
 
 // A turn of a plan that is accepted.

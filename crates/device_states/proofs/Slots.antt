@@ -55,6 +55,12 @@ module _ {A : Type 0} (f : ℕ → A) where
   from-snoc i zero = ap (λ (k : ℕ). f k ∷ []) (sym (add-zero i))
   from-snoc i (suc n) = ap (λ (l : List A). f i ∷ l) (from-snoc (suc i) n ∙ ap (λ (k : ℕ). listFrom f (suc i) n ++ (f k ∷ [])) (suc-add i n ∙ sym (add-suc i n)))
 
+  pub from-at : (i n k : ℕ) (d : A) → k < n → getD (listFrom f i n) k d ≡ f (i + k)
+  unfolding listFrom
+  from-at i zero k d h = absurd (omega arith)
+  from-at i (suc n) zero d h = ap f (sym (add-zero i))
+  from-at i (suc n) (suc k) d h = from-at (suc i) n k d (omega arith) ∙ ap f (suc-add i k ∙ sym (add-suc i k))
+
   module _ (d : A) (n : ℕ) where
     abbrev pub filled : ℕ → List A
     filled i = listFrom f 0 i ++ replicate (n - i) d
@@ -139,19 +145,20 @@ module _ (rs : List Record) (n : ℕ) where
     pub state-fails : (v i : ℕ) {b : Bool} → b ≡ statePasses v (stateOf states i) → i ≡ v → v < 32 → b ≡ false → false ≡ allBelow (slotPasses statePasses 0 states) 32
     state-fails v i g e h f = slot-fails statePasses 0 states 0 v i g e (omega (arith, h, k)) f ∙ ap (allBelow (slotPasses statePasses 0 states)) k
 
+-- the supervisors' states fit
+pub states-all : (rs : List Record) (states : List ℕ) (n : ℕ) {b : Bool} → n ≡ supervisorsOf rs → b ≡ allBelow (slotPasses (statePasses rs n) 0 states) 32 → b ≡ allBelow (stateSlotFits rs states) 32
+unfolding stateSlotFits
+states-all rs states n e g = g ∙ ap (λ (j : ℕ). allBelow (slotPasses (statePasses rs j) 0 states) 32) e
+
 -- the whole device fits, from the tests of its two lists
 module _ (rs : List Record) (d : Device) where
   owns-all : (n : ℕ) {a : Bool} → n ≡ modulesOf rs → a ≡ allBelow (slotPasses (ownPasses rs n) emptyOwn (d .modules)) 16 → a ≡ allBelow (ownSlotFits rs d) 16
   unfolding ownSlotFits
   owns-all n e g = g ∙ ap (λ (j : ℕ). allBelow (slotPasses (ownPasses rs j) emptyOwn (d .modules)) 16) e
 
-  states-all : (n : ℕ) {b : Bool} → n ≡ supervisorsOf rs → b ≡ allBelow (slotPasses (statePasses rs n) 0 (d .supervisors)) 32 → b ≡ allBelow (stateSlotFits rs (d .supervisors)) 32
-  unfolding stateSlotFits
-  states-all n e g = g ∙ ap (λ (j : ℕ). allBelow (slotPasses (statePasses rs j) 0 (d .supervisors)) 32) e
-
-  pub device-fits : (n k : ℕ) {a b : Bool} → n ≡ modulesOf rs → a ≡ allBelow (slotPasses (ownPasses rs n) emptyOwn (d .modules)) 16 → a ≡ true → k ≡ supervisorsOf rs → b ≡ allBelow (slotPasses (statePasses rs k) 0 (d .supervisors)) 32 → b ≡ deviceFits rs d
+  pub device-fits : (n : ℕ) {a b : Bool} → n ≡ modulesOf rs → a ≡ allBelow (slotPasses (ownPasses rs n) emptyOwn (d .modules)) 16 → a ≡ true → b ≡ allBelow (stateSlotFits rs (d .supervisors)) 32 → b ≡ deviceFits rs d
   unfolding deviceFits
-  device-fits n k e g t f h = ap₂ _&&_ (sym t ∙ owns-all n e g) (states-all k f h)
+  device-fits n e g t h = ap₂ _&&_ (sym t ∙ owns-all n e g) h
 
   pub owns-unfit : (n : ℕ) {a : Bool} → n ≡ modulesOf rs → a ≡ allBelow (slotPasses (ownPasses rs n) emptyOwn (d .modules)) 16 → a ≡ false → false ≡ deviceFits rs d
   unfolding deviceFits

@@ -10,7 +10,7 @@ ghost use Rattle.modules.specs.declared.Turn.the-variants.{Event};
 ghost use Rattle.modules.specs.Turn.{emptyOwn};
 ghost use Rattle.modules.specs.Fits.{ownFits, ownEmpty};
 ghost use Rattle.plan.specs.Lists.{listFrom};
-ghost use Rattle.device_states.specs.States.{ownAt, stateOf, withOwn, deviceFits, shownBy, statesAfter, emptyDevice, startSlot, startState, startDevice};
+ghost use Rattle.device_states.specs.States.{ownAt, stateOf, withOwn, stateSlotFits, deviceFits, shownBy, statesAfter, emptyDevice, startSlot, startState, startDevice};
 use modules::Own;
 use places::Places;
 
@@ -101,7 +101,7 @@ fn state_slot_fits(image: &[u8], places: Places, n: u8, st: u8, v: u8) -> bool
     }
 }
 
-fn states_fit(image: &[u8], places: Places, n: u8, states: [u8; 32]) -> bool
+fn states_pass(image: &[u8], places: Places, n: u8, states: [u8; 32]) -> bool
     ensures { λ r. ⌜ r ≡ allBelow (λ v. cond (ltb v n) (supervisorState (recordsBy (now (image .entry)) places) v (stateOf states v)) (eqb (stateOf states v) 0)) 32 ⌝ }
 {
     let mut v: u8 = 0;
@@ -117,6 +117,14 @@ fn states_fit(image: &[u8], places: Places, n: u8, states: [u8; 32]) -> bool
     true
 }
 
+// Whether the supervisors' states fit the plan.
+pub fn states_fit(image: &[u8], places: Places, states: [u8; 32]) -> bool
+    ensures { λ r. ⌜ r ≡ allBelow (stateSlotFits (recordsBy (now (image .entry)) places) states) 32 ⌝ }
+{
+    let n = plan::supervisors_of(image, places);
+    states_pass(image, places, n, states)
+}
+
 // Whether the whole state fits the plan.
 pub fn fits(image: &[u8], places: Places, d: Device) -> bool
     ensures { λ r. ⌜ r ≡ deviceFits (recordsBy (now (image .entry)) places) d ⌝ }
@@ -125,8 +133,7 @@ pub fn fits(image: &[u8], places: Places, d: Device) -> bool
     let n = plan::modules_of(image, places);
     if owns_fit(image, places, n, owns) {
         let states = d.supervisors;
-        let k = plan::supervisors_of(image, places);
-        states_fit(image, places, k, states)
+        states_fit(image, places, states)
     } else {
         false
     }
