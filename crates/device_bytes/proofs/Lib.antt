@@ -1,2 +1,4 @@
 pub mod Laws
+pub mod Back
+pub mod InPlace
 pub mod Parts

@@ -3,15 +3,16 @@ use Prim.Native.Nat.{ℕ, _+_, _*_}
 use mathlib.Core.Path.{_≡_}
 use mathlib.Core.List.{List, [], _∷_, _++_}
 use mathlib.Core.Bool.{Bool, true, false, cond, _&&_}
-use lib.ListN.{length, getD, drop, replicate}
-use lib.Dec.{eqb, leb}
+use lib.ListN.{length, getD, set, drop, replicate}
+use lib.Dec.{eqb, leb, ltb}
 use Rattle.bits.specs.Bit.{allBelow}
 use Rattle.records.specs.declared.Record.{Record}
 use Rattle.roundtrip.specs.Fits.{Bytes}
-use Rattle.messages.specs.Message.{written}
+use Rattle.messages.specs.Message.{putAt, written}
 use Rattle.modules.specs.declared.Own.{Own}
 use Rattle.plan.specs.Lists.{listFrom}
-use Rattle.device_states.specs.States.{deviceFits}
+use Rattle.modules.specs.Fits.{ownFits, ownEmpty}
+use Rattle.device_states.specs.States.{deviceFits, withOwn}
 use Rattle.device_states.specs.declared.Device.{Device}
 use Rattle.own_bytes.specs.Own.{ownBytes, ownOf, isOwn, unfitOwn, OwnEncodable}
 
@@ -52,6 +53,14 @@ unfitDevice = record { modules = replicate 16 unfitOwn; supervisors = replicate 
 unfoldable pub deviceOf : List ℕ → Device
 deviceOf b = cond (isDevice b) (deviceAt b) unfitDevice
 
+-- whether the slot of module m stands for an own part that fits, of a plan of n modules
+unfoldable pub slotFits : List Record → ℕ → List ℕ → ℕ → Bool
+slotFits rs n b m = isSlot b m && cond (ltb m n) (ownFits rs m (slotOf b m)) (ownEmpty (slotOf b m))
+
+-- the bytes with another own part of a module; past the last slot they stay
+unfoldable pub slotPut : Own → ℕ → List ℕ → List ℕ
+slotPut own m b = cond (ltb m 16) (putAt (ownBytes own) (m * 35) b) b
+
 -- ---- what is proved of them
 
 -- own parts as the code's types can hold them, without a NaN
@@ -72,4 +81,8 @@ pub record DeviceParts : Type 0 where
   -- and bytes that stand for a device are those of that device
   pub written : (b : List ℕ) → Bytes b → isDevice b ≡ true → deviceBytes (deviceAt b) ≡ b
   pub size : (d : Device) → DeviceEncodable d → length (deviceBytes d) ≡ 592
+  -- a call changes one slot, and the supervisors' states behind them
+  pub put : (b : List ℕ) (m : ℕ) (own : Own) → Bytes b → isDevice b ≡ true → length (own .queue) ≡ 8 → devicePut (withOwn (deviceAt b) m own) b ≡ slotPut own m b
+  pub moved : (b : List ℕ) (m : ℕ) (own : Own) (states : List ℕ) → Bytes b → isDevice b ≡ true → length (own .queue) ≡ 8 → length states ≡ 32
+      → devicePut (record { modules = set (deviceAt b .modules) m own; supervisors = states }) b ≡ putAt states 560 (slotPut own m b)
   pub unfit : (rs : List Record) → deviceFits rs unfitDevice ≡ false

@@ -1,14 +1,19 @@
-// The state of one device as bytes: specs/Device.antt.
+// The state of one device as bytes: specs/Device.antt. A call reads and puts what it needs of them, in place.
 ghost use mathlib.Core.Path.{_≡_};
+ghost use mathlib.Core.Bool.{_&&_};
 ghost use Prim.Native.Nat.{_+_, _*_, _≤_, _<_};
 ghost use lib.ListN.{length};
 ghost use lib.Seq.{sets};
 ghost use Rattle.bits.specs.Bit.{allBelow};
+ghost use Rattle.places.specs.Places.{recordsBy};
+ghost use Rattle.modules.specs.Fits.{ownEmpty};
 ghost use Rattle.plan.specs.Lists.{listFrom};
+ghost use Rattle.device_states.specs.States.{ownAt, deviceFits};
 ghost use Rattle.own_bytes.specs.Own.{ownBytes};
-ghost use Rattle.device_bytes.specs.Device.{ownsBytes, devicePut, slotOf, stateOf, isSlot, unfitDevice, deviceOf};
+ghost use Rattle.device_bytes.specs.Device.{ownsBytes, devicePut, slotOf, stateOf, isSlot, slotFits, deviceAt, deviceOf, slotPut};
 use device_states::Device;
 use modules::Own;
+use places::Places;
 
 // ---- read
 
@@ -17,22 +22,7 @@ fn is_slot(s: &[u8], i: usize) -> bool
     ensures { λ r. ⌜ r ≡ isSlot (now (s .entry)) i ⌝ }
 {
     let o = i * 35;
-    own_bytes::is_own(&s[o..])
-}
-
-fn are_slots(s: &[u8]) -> bool
-    requires { ⌜ length (now s) ≡ 592 ⌝ }
-    ensures { λ r. ⌜ r ≡ allBelow (isSlot (now (s .entry))) 16 ⌝ }
-{
-    let mut i: usize = 0;
-    while i < 16 {
-        if is_slot(s, i) {
-            i += 1;
-        } else {
-            return false;
-        }
-    }
-    true
+    own_bytes::is_own(&s[o..o + 35])
 }
 
 fn slot_of(s: &[u8], i: usize) -> Own
@@ -40,25 +30,60 @@ fn slot_of(s: &[u8], i: usize) -> Own
     ensures { λ r. ⌜ r ≡ slotOf (now (s .entry)) i ⌝ }
 {
     let o = i * 35;
-    own_bytes::own_of(&s[o..])
+    own_bytes::own_of(&s[o..o + 35])
 }
 
-fn slots_of(s: &[u8]) -> [Own; 16]
-    requires { ⌜ length (now s) ≡ 592 ⌝ }
-    ensures { λ r. ⌜ r ≡ listFrom (slotOf (now (s .entry))) 0 16 ⌝ }
+// Whether a slot is empty, as nearly all are that the plan lacks: then every byte is 0.
+fn is_vacant(s: &[u8], i: usize) -> bool
+    requires { ⌜ (length (now s) ≡ 592) × (i < 16) ⌝ }
+    ensures { λ r. ⌜ r ≡ (isSlot (now (s .entry)) i && ownEmpty (slotOf (now (s .entry)) i)) ⌝ }
 {
-    let unfit = own_bytes::unfit();
-    let mut next = [unfit; 16];
-    let mut i: usize = 0;
-    while i < 16 {
-        let own = slot_of(s, i);
-        next[i] = own;
-        i += 1;
+    let o = i * 35;
+    if fields::are_zeros(&s[o..o + 35]) {
+        return true;
     }
-    next
+    if is_slot(s, i) {
+        let own = slot_of(s, i);
+        fitting::is_empty(own)
+    } else {
+        false
+    }
 }
 
-fn states_of(s: &[u8]) -> [u8; 32]
+// Whether what stands in the slot of module m fits, of a plan of n modules.
+fn slot_fits(image: &[u8], places: Places, n: u8, s: &[u8], m: u8) -> bool
+    requires { ⌜ (length (now s) ≡ 592) × (m < 16) ⌝ }
+    ensures { λ r. ⌜ r ≡ slotFits (recordsBy (now (image .entry)) places) n (now (s .entry)) m ⌝ }
+{
+    let i = words::wide(m);
+    if n <= m {
+        return is_vacant(s, i);
+    }
+    if is_slot(s, i) {
+        let own = slot_of(s, i);
+        fitting::fits(image, places, m, own)
+    } else {
+        false
+    }
+}
+
+fn slots_fit(image: &[u8], places: Places, n: u8, s: &[u8]) -> bool
+    requires { ⌜ length (now s) ≡ 592 ⌝ }
+    ensures { λ r. ⌜ r ≡ allBelow (slotFits (recordsBy (now (image .entry)) places) n (now (s .entry))) 16 ⌝ }
+{
+    let mut m: u8 = 0;
+    while m < 16 {
+        if slot_fits(image, places, n, s, m) {
+            m += 1;
+        } else {
+            return false;
+        }
+    }
+    true
+}
+
+// The states of the supervisors.
+pub fn states_of(s: &[u8]) -> [u8; 32]
     ensures { λ r. ⌜ r ≡ listFrom (stateOf (now (s .entry))) 0 32 ⌝ }
 {
     let mut next = [0u8; 32];
@@ -70,40 +95,34 @@ fn states_of(s: &[u8]) -> [u8; 32]
     next
 }
 
-fn unfit_device() -> Device
-    ensures { λ d. ⌜ d ≡ unfitDevice ⌝ }
+// Whether the bytes stand for a device that fits the plan.
+pub fn fits(image: &[u8], places: Places, s: &[u8]) -> bool
+    ensures { λ r. ⌜ r ≡ deviceFits (recordsBy (now (image .entry)) places) (deviceOf (now (s .entry))) ⌝ }
 {
-    let unfit = own_bytes::unfit();
-    Device {
-        modules: [unfit; 16],
-        supervisors: [0; 32],
+    if s.len() != 592 {
+        return false;
+    }
+    let n = plan::modules_of(image, places);
+    if slots_fit(image, places, n, s) {
+        let states = states_of(s);
+        device_states::states_fit(image, places, states)
+    } else {
+        false
     }
 }
 
-fn device_in(s: &[u8]) -> Device
-    requires { ⌜ length (now s) ≡ 592 ⌝ }
-    ensures { λ d. ⌜ d ≡ deviceOf (now (s .entry)) ⌝ }
+// The own part of a module, and the empty one past the last slot.
+pub fn own_at(s: &[u8], m: u8) -> Own
+    ensures { λ r. ⌜ r ≡ ownAt (deviceAt (now (s .entry))) m ⌝ }
 {
-    if are_slots(s) {
-        let modules = slots_of(s);
-        let supervisors = states_of(s);
-        Device {
-            modules,
-            supervisors,
-        }
-    } else {
-        unfit_device()
+    if 16 <= m {
+        return modules::empty();
     }
-}
-
-// The device that the bytes are; one that fits no plan, if they stand for none.
-pub fn read_device(s: &[u8]) -> Device
-    ensures { λ d. ⌜ d ≡ deviceOf (now (s .entry)) ⌝ }
-{
-    if s.len() == 592 {
-        device_in(s)
+    let o = words::wide(m) * 35;
+    if o <= s.len() {
+        own_bytes::own_of(&s[o..])
     } else {
-        unfit_device()
+        own_bytes::own_of(&s[..0])
     }
 }
 
@@ -125,6 +144,15 @@ fn put_slots(s: &mut [u8], owns: [Own; 16])
         let own = owns[i];
         put_slot(&mut *s, i, own);
         i += 1;
+    }
+}
+
+// Puts the bytes of an own part into the slot of a module; past the last slot, or without room for all, the slice stays.
+pub fn put_own(s: &mut [u8], m: u8, own: Own)
+    ensures { λ _. ⌜ now (s .exit) ≡ slotPut own m (now (s .entry)) ⌝ }
+{
+    if m < 16 {
+        own_bytes::put_own(s, words::wide(m) * 35, own);
     }
 }
 

@@ -1,37 +1,57 @@
-use Rattle.device_interface.proofs.Laws.{keep-turn-yes, keep-turn-no}
+use mathlib.Core.Path.{_≡_}
+use lib.ListN.{length}
+use Rattle.roundtrip.specs.Fits.{Bytes}
+use Rattle.modules.proofs.Queue.{eight}
+use Rattle.device_interface.proofs.Laws.{after-none, after-event}
 use borrow.Author.Needs.{needs}
 use Rattle.device_interface.proofs.keep_turn.Statement.{statement}
 use Rattle.device_interface.proofs.keep_turn.Tie as tie
 
-is-turned-requires : tie.Need-is-turned-requires
-is-turned-requires c κs = search needs
+put-own-requires : tie.Need-put-own-requires
+put-own-requires c κs = search needs
 
-put-device-requires : tie.Need-put-device-requires
-put-device-requires c κs = search needs
-
-turning-requires : tie.Need-turning-requires
-turning-requires c κs = search needs
+enum-known-did : tie.Need-enum-known-did
+enum-known-did c = search needs
 
 same-length : tie.Need-same-length
 same-length c = search needs
 
 returns : tie.Need-returns
-returns c = search keep-turn-yes
+returns c =
+    let g : Bytes (c .before .before .before .before .before .before .before .before .args .state .now) = λ j. c .before .before .before .before .before .before .slice-known .given j .fits in
+    search (after-none, eight, g)
 
-turning-requires-2 : tie.Need-turning-requires-2
-turning-requires-2 c κs = search needs
+states-after-requires : tie.Need-states-after-requires
+states-after-requires c κs = search needs
+
+slice-aggregate-put-bytes : tie.Need-slice-aggregate-put-bytes
+slice-aggregate-put-bytes c = search needs
+
+put-bytes-requires : tie.Need-put-bytes-requires
+put-bytes-requires c κs = search needs
+
+same-length-2 : tie.Need-same-length-2
+same-length-2 c = search needs
+
+places : (start : tie.Start) → length (start .args .t .own .queue) ≡ 8
+places start = search eight
 
 returns-2 : tie.Need-returns-2
-returns-2 c = search keep-turn-no
+returns-2 c =
+    let start = c .before .before .before .before .before .before .before .before .before .before .before .before .before .before .before .before in
+    let g : Bytes (start .args .state .now) = λ j. c .before .before .before .before .before .before .before .before .before .before .before .before .before .before .slice-known .given j .fits in
+    after-event (start .args .state .now) (start .args .m) g (start .pre .0) _ (start .args .t) (places start) (c .before .before .before .before .before .before .before .before .before .before .before .put-own .ensures) (search needs) (start .pre .1) (c .before .before .before .before .before .states-after .ensures) (c .before .before .put-bytes .ensures)
 
 pub keep-turn-spec : {M : Type 1} → statement M
 keep-turn-spec =
     tie.close
     (tie.spec
-    is-turned-requires
-    put-device-requires
-    turning-requires
+    put-own-requires
+    enum-known-did
     same-length
     returns
-    turning-requires-2
+    states-after-requires
+    slice-aggregate-put-bytes
+    put-bytes-requires
+    same-length-2
     returns-2)
