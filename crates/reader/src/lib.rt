@@ -104,7 +104,7 @@ pub enum Shape {
     Nothing,
 }
 
-pub fn shape_at(s: &[u8], at: usize) -> Shape
+fn shape_at(s: &[u8], at: usize) -> Shape
     ensures { λ r. ⌜ r ≡ shapeAt (now (s .entry)) at ⌝ }
 {
     if s.len() <= at {
