@@ -7,6 +7,7 @@ use Rattle.records.specs.Kinds.{kindOf}
 use Rattle.records.specs.Key.{keyOf}
 use Rattle.records.specs.declared.Record.{Record}
 use Rattle.records.specs.declared.Record.the-variants.{Head, Event, Module, ModuleMove, Supervisor, SupervisorMove, Disabling, Step, End}
+use Rattle.records.proofs.Order.{key-kind}
 use Rattle.rules.specs.LookUp.{field1, field2, field3, wordField}
 
 -- the record of kind k, of number n where it has one, with the other fields of r; r itself for the kinds that are keyed by more
@@ -33,18 +34,6 @@ remade-is End = refl
 
 pub shape : (k n : ℕ) (r : Record) → keyOf r .kind ≡ k → keyOf r .first ≡ n → r ≡ remade k n r
 shape k n r e f = sym (remade-is r) ∙ ap₂ (λ (x y : ℕ). remade x y r) e f
-
-pub key-kind : (r : Record) → keyOf r .kind ≡ kindOf r
-unfolding kindOf keyOf
-key-kind (Head m v e) = refl
-key-kind (Event n o c) = refl
-key-kind (Module n st i) = refl
-key-kind (ModuleMove m f e t) = refl
-key-kind (Supervisor n st i a) = refl
-key-kind (SupervisorMove v f e t) = refl
-key-kind (Disabling v st m) = refl
-key-kind (Step e i o x) = refl
-key-kind End = refl
 
 -- the same by `kindOf`; a head and an end have no number, so that they are known by their kind alone
 pub lone : (k : ℕ) (r : Record) → kindOf r ≡ k → r ≡ remade k (keyOf r .first) r

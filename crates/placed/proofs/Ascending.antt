@@ -17,7 +17,7 @@ use Rattle.rules.specs.Check.{IsPlan}
 use Rattle.rules.specs.Valid.{Valid}
 use Rattle.accepted.specs.Plan.{_∈_}
 use Rattle.accepted.proofs.Order.{Before, Precedes, precedes-is, precedes-trans, precedes-irrefl, after}
-use Rattle.accepted.proofs.Shape.{key-kind}
+use Rattle.records.proofs.Order.{key-kind}
 use Rattle.accepted.proofs.Walked.{walked-plan}
 
 -- ---- the order as a test

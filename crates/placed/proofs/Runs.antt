@@ -19,7 +19,7 @@ use Rattle.reader.specs.declared.Read.{Read}
 use Rattle.reader.specs.declared.Read.the-variants.{Whole, Unknown, Cut, Nothing}
 use Rattle.reader.proofs.Reading.{Seen, seen, next, walks, kind-kept}
 use Rattle.accepted.specs.Plan.{_∈_}
-use Rattle.accepted.proofs.Shape.{key-kind}
+use Rattle.records.proofs.Order.{key-kind}
 use Rattle.placed.proofs.Ascending.{Ascends, kind-rises}
 
 -- ---- the records of a walk stand one after another
