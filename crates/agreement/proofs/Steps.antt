@@ -9,7 +9,7 @@ use lib.ListN.{length, drop, length-append}
 use lib.Seq.{take-at}
 use lib.Dec.{ltb}
 use borrow.Author.Tests.{lt-ltb, le-ltb}
-use Rattle.bits.specs.Bit.{bit, least, putBit}
+use Rattle.bits.specs.Bit.{bit, least, placeAfter, putBit}
 use Rattle.words.proofs.Laws.{length-word}
 use Rattle.records.specs.declared.Record.{Record}
 use Rattle.rules.specs.LookUp.{modulesOf, supervisorsOf}
@@ -161,19 +161,16 @@ afterServing y none = y
 afterServing y (some m) = R.afterSending y m
 
 module _ (rs : List Record) (v : ℕ) (x : Supervisor) (y : R.SupervisorState) (s : SameSupervisor x y) where
-  next-is : (o : Option ℕ) → S.nextNoted x o ≡ Option·map (R.placeAfter (y .lastServed)) o
-  unfolding S.nextNoted S.placeAfter R.placeAfter
+  next-is : (o : Option ℕ) → S.nextNoted x o ≡ Option·map (placeAfter (y .lastServed)) o
+  unfolding S.nextNoted placeAfter
   next-is none = refl
   next-is (some k) = ap (λ (l : ℕ). some ((l + suc k) % 16)) (s .last)
 
-  first-is : S.nextNoted x (least (λ k. bit (x .noted) (S.placeAfter (x .last) k)) 16) ≡ R.firstNoted y
+  first-is : S.nextNoted x (least (λ k. bit (x .noted) (placeAfter (x .last) k)) 16) ≡ R.firstNoted y
   first-is =
-      next-is (least (λ k. bit (x .noted) (S.placeAfter (x .last) k)) 16)
-      ∙ ap (Option·map (R.placeAfter (y .lastServed))) (ap₂ (λ (n l : ℕ). least (λ k. bit n (S.placeAfter l k)) 16) (s .noted) (s .last) ∙ same)
+      next-is (least (λ k. bit (x .noted) (placeAfter (x .last) k)) 16)
+      ∙ ap (Option·map (placeAfter (y .lastServed))) (ap₂ (λ (n l : ℕ). least (λ k. bit n (placeAfter l k)) 16) (s .noted) (s .last))
       ∙ (unfold R.firstNoted in refl)
-    where
-      same : least (λ k. bit (y .noted) (S.placeAfter (y .lastServed) k)) 16 ≡ least (λ k. bit (y .noted) (R.placeAfter (y .lastServed) k)) 16
-      same = unfold S.placeAfter R.placeAfter in refl
 
   pub served-is : S.served x ≡ R.served y
   unfolding R.served S.servedOn R.servedOn holderOf

@@ -1,5 +1,5 @@
 -- Masks of events. Document 01, "Plan records": "Bit e of a mask stands for event e."
-use Prim.Native.Nat.{ℕ, zero, suc, _-_, _/_, _%_, _^_}
+use Prim.Native.Nat.{ℕ, zero, suc, _+_, _-_, _/_, _%_, _^_}
 use mathlib.Core.Bool.{Bool, true, false, cond, not, _&&_, _||_}
 use mathlib.Core.Option.{Option, none, some}
 use lib.Dec.{eqb, ltb}
@@ -34,6 +34,10 @@ orElse none false n = none
 unfoldable pub least : (ℕ → Bool) → ℕ → Option ℕ
 least p zero = none
 least p (suc n) = orElse (least p n) (p n) n
+
+-- the places of 16 modules cyclically after one of them, from k = 0 on
+unfoldable pub placeAfter : ℕ → ℕ → ℕ
+placeAfter last k = (last + suc k) % 16
 
 -- an answer of the code that is a number or none
 abbrev pub optionOf : Maybe → Option ℕ

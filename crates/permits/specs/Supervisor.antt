@@ -1,5 +1,5 @@
 -- Document 01, "Permits and messages": the supervisor's calls on many devices.
-use Prim.Native.Nat.{ℕ, suc, _+_, _%_}
+use Prim.Native.Nat.{ℕ}
 use mathlib.Core.List.{List, [], _∷_}
 use mathlib.Core.Option.{Option, none, some}
 use mathlib.Core.Bool.{Bool, true, false, cond, not, _&&_, _||_}
@@ -27,6 +27,8 @@ use Rattle.permits.specs.declared.Served.{Served}
 use Rattle.permits.specs.declared.Served.the-variants.{Sends, Waits, Refused as StepRefused}
 use Rattle.permits.specs.Names.{neighbours?, named}
 use Rattle.permits.specs.Step.{bytesOfMessages, Call}
+-- the modules' cyclic order, passed on
+unfoldable pub use Rattle.bits.specs.Bit.{placeAfter}
 
 -- "a supervisor's noted modules and holder are its neighbours, its last-served place is 0 to 15"
 unfoldable pub holderFits : List Record → ℕ → Holder → Bool
@@ -38,9 +40,6 @@ supervisorFits rs v y =
     supervisorState rs v (y .state) && allBelow (λ m. not (bit (y .noted) m) || neighbours? rs m v) 16 && holderFits rs v (y .holder) && ltb (y .last) 16
 
 -- "the first noted module cyclically after the last served"
-unfoldable pub placeAfter : ℕ → ℕ → ℕ
-placeAfter last k = (last + suc k) % 16
-
 unfoldable pub nextNoted : Supervisor → Option ℕ → Option ℕ
 nextNoted y none = none
 nextNoted y (some k) = some (placeAfter (y .last) k)

@@ -9,11 +9,11 @@ use mathlib.Core.List.{List, [], _∷_}
 use mathlib.Core.Option.{Option, none, some}
 use lib.Dec.{eqb}
 use borrow.Author.Tests.{eqb-true, lt-ltb}
-use Rattle.bits.specs.Bit.{bit}
+use Rattle.bits.specs.Bit.{bit, placeAfter}
 use Rattle.bits.proofs.Laws.{bit-none}
 use Rattle.protocol.specs.Generic.{Picked, pick}
 use Rattle.protocol.specs.Plan.{Plan, Laws}
-use Rattle.protocol.specs.Rules.{OneDevice, neighbour, hasNeighbour, Message, bid, permit, release, ModuleState, lacks, missing, Choice, takesTurn, bidsTo, choiceOn, choice, afterTurn, afterBid, afterPermit, SupervisorState, placeAfter, firstNoted, servedOn, served, afterSending, afterNoting, afterRelease}
+use Rattle.protocol.specs.Rules.{OneDevice, neighbour, hasNeighbour, Message, bid, permit, release, ModuleState, lacks, missing, Choice, takesTurn, bidsTo, choiceOn, choice, afterTurn, afterBid, afterPermit, SupervisorState, firstNoted, servedOn, served, afterSending, afterNoting, afterRelease}
 use Rattle.protocol.specs.System.{System, moduleStep, supervisorStep, withModule, withSupervisor, afterModuleStep, afterSupervisorStep, afterMessage, afterDelivery, step, Accepts, Changes, of-module, of-supervisor, Progress, by-delivery, by-module-step, by-supervisor-step}
 use Rattle.bits.proofs.Least.{Lowest, least-find}
 use Rattle.protocol.proofs.Tools.{clash, either-way, digit-true, oneAt-is, update-same, count, count-nil, Inserted, here, pick-inserted, inserted-all}

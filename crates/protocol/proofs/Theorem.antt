@@ -9,7 +9,7 @@ use mathlib.Core.Option.{Option, none, some, Option·getD, Option·map}
 use lib.Dec.{ltb}
 use lib.Pow.{pow-pos}
 use borrow.Author.Tests.{ltb-true}
-use Rattle.bits.specs.Bit.{bit, least}
+use Rattle.bits.specs.Bit.{bit, least, placeAfter}
 use Rattle.bits.proofs.Laws.{bit-none}
 use Rattle.water.specs.declared.Flow.{Flow}
 use Rattle.modules.specs.declared.Own.{Own}
@@ -18,7 +18,7 @@ use Rattle.modules.specs.declared.Turn.the-variants.{Event, Stray, Nothing}
 use Rattle.modules.specs.declared.Reply.{Reply}
 use Rattle.protocol.specs.Generic.{update, Picked, pick}
 use Rattle.protocol.specs.Plan.{Plan, Fired, TurnLaw, OwnLaws, Laws}
-use Rattle.protocol.specs.Rules.{OneDevice, stateAfter, shownBelow, deviceTurn, DeviceAct, deviceResponds, deviceTicks, deviceStep, Message, bid, permit, release, missing, Choice, takesTurn, waits, bidsTo, choiceOn, choice, SupervisorState, placeAfter, firstNoted, servedOn, served}
+use Rattle.protocol.specs.Rules.{OneDevice, stateAfter, shownBelow, deviceTurn, DeviceAct, deviceResponds, deviceTicks, deviceStep, Message, bid, permit, release, missing, Choice, takesTurn, waits, bidsTo, choiceOn, choice, SupervisorState, firstNoted, servedOn, served}
 use Rattle.protocol.specs.System.{System, Act, moduleStep, supervisorStep, deliver, respond, tick, afterModuleStep, afterSupervisorStep, afterMessage, afterDelivery, afterOwn, step, run, startSystem, startDevice, Seen, turnSeen, replySeen, repliedSeen, stepSeen, actSeen, seen, stepFed, actFed, fed, deviceActSeen, deviceRun, deviceSeen, turnEvents, recordOf, commandsOf, Position, startPosition, afterEvent, replay, LegalEvent, Legal, none-left, next}
 use Rattle.protocol.specs.Demand.{Demand3}
 use Rattle.bits.proofs.Least.{least-some}

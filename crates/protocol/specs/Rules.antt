@@ -1,11 +1,11 @@
 -- Document 01, "Turns on one device" and "Permits and messages", over an abstract plan: one rule for each change of state.
-use Prim.Native.Nat.{ℕ, zero, suc, _+_, _%_}
+use Prim.Native.Nat.{ℕ, zero, suc}
 use mathlib.Core.Bool.{Bool, true, false, cond, not, _&&_}
 use mathlib.Core.List.{List, [], _∷_, _++_}
 use mathlib.Core.Option.{Option, none, some, Option·getD, Option·map}
 use lib.Dec.{eqb}
 use lib.Bits.{bitOr}
-use Rattle.bits.specs.Bit.{bit, putBit, least, isSome}
+use Rattle.bits.specs.Bit.{bit, putBit, least, placeAfter, isSome}
 use Rattle.water.specs.declared.Flow.{Flow}
 use Rattle.modules.specs.declared.Own.{Own}
 use Rattle.modules.specs.declared.Turn.{Turn}
@@ -136,9 +136,6 @@ pub record SupervisorState : Type 0 where
 
 -- "A supervisor step with the permit home sends it, with its shown mask, to the first noted module cyclically after the last served (15 at
 -- the start) and removes that note. Otherwise it waits."
-unfoldable pub placeAfter : ℕ → ℕ → ℕ
-placeAfter last k = (last + suc k) % 16
-
 unfoldable pub firstNoted : SupervisorState → Option ℕ
 firstNoted y = Option·map (placeAfter (y .lastServed)) (least (λ k. bit (y .noted) (placeAfter (y .lastServed) k)) 16)
 
