@@ -1,9 +1,9 @@
 -- Document 01, "Permits and messages": "Messages: `01` bid (module, supervisor); `02` permit (supervisor, module, 8-byte mask); `03` release
 -- (module, supervisor, event, or FF for no event). Body lengths are 2, 10 and 3, and nothing may follow".
 use Prim.Native.Nat.{ℕ, suc}
-use mathlib.Core.List.{List, [], _∷_, _++_}
+use mathlib.Core.List.{List, [], _∷_}
 use mathlib.Core.Bool.{Bool, cond, _&&_}
-use lib.ListN.{length, getD, drop}
+use lib.ListN.{length, getD}
 use lib.Dec.{eqb, ltb}
 use Rattle.words.specs.Word.{wordAt, wordBytes}
 use Rattle.messages.specs.declared.Message.{Message}
@@ -12,6 +12,7 @@ use Rattle.messages.specs.declared.Parsed.{Parsed}
 use Rattle.messages.specs.declared.Parsed.the-variants.{Whole, Misshapen}
 -- bytes put into a buffer, passed on
 unfoldable pub use Rattle.words.specs.Word.{fitsAt, putAt}
+pub use Rattle.words.specs.Word.{written}
 
 -- FF, no event
 abbrev pub noEvent : ℕ
@@ -25,10 +26,6 @@ messageBytes (Release m v e) = 0x03 ∷ m ∷ v ∷ e ∷ []
 -- 15: "output buffer shorter than the answer"
 abbrev pub short : List ℕ → List ℕ → Bool
 short answer buffer = ltb (length buffer) (length answer)
-
--- "An accepted call writes its answer from the buffer's start and nothing else."
-abbrev pub written : List ℕ → List ℕ → List ℕ
-written answer buffer = answer ++ drop (length answer) buffer
 
 -- the kind 01, 02 or 03 and exactly its body's bytes after it
 abbrev pub shaped : ℕ → ℕ → List ℕ → Bool

@@ -3,12 +3,13 @@ use Prim.Native.Nat.{ℕ, _≤_}
 use native.Mathlib.Omega.{arith}
 use mathlib.Core.Path.{_≡_, refl, sym, ap, _∙_, subst}
 use mathlib.Core.Logic.{_≢_}
-use mathlib.Core.List.{List, _++_}
+use mathlib.Core.List.{List}
 use mathlib.Core.Bool.{Bool, true, false, cond}
 use lib.ListN.{length, drop, length-append, length-drop}
 use lib.Seq.{drop-at}
 use lib.Dec.{leb}
 use borrow.Author.Tests.{leb-true}
+use Rattle.words.specs.Word.{written}
 use Rattle.modules.specs.Numbers.{replyNumber, calledNumber, calledOffset}
 use Rattle.modules.specs.Procedure.{calledBy}
 use Rattle.modules.specs.declared.Own.{Own}
@@ -58,12 +59,12 @@ pub untouched : (n : ℕ) (b : List ℕ) → Lent n 0 b b
 untouched n b = record { untouched = same n b; nothing = λ t. refl; rest = refl; size = refl }
 
 -- the bytes a, which are k, written from the buffer's start
-pub put : (k : ℕ) (a b : List ℕ) → length a ≡ k → k ≤ length b → Lent 0 k b (a ++ drop k b)
+pub put : (k : ℕ) (a b : List ℕ) → length a ≡ k → k ≤ length b → Lent 0 k b (written a b)
 put k a b e h =
     record {
       untouched = taken b _;
       nothing = λ t. absurd (t refl);
-      rest = drop-at a (drop k b) k e;
+      rest = drop-at a (drop (length a) b) k e ∙ ap (λ (j : ℕ). drop j b) e;
       size = simp (length-append, length-drop) (omega arith);
     }
 

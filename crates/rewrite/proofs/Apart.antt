@@ -24,6 +24,7 @@ use Rattle.walk.proofs.Told.{read-by, place-by}
 use Rattle.writer.specs.Write.{Wrote, answerOf, bufferBy as bufferOf}
 use Rattle.writer.specs.declared.Written.{Written}
 use Rattle.writer.specs.declared.Written.the-variants.{Length as Wrote-length}
+use Rattle.writer.proofs.Writing.{length-bytes}
 use Rattle.roundtrip.specs.Fits.{Bytes}
 use Rattle.roundtrip.proofs.OneRecord.{written-read}
 use Rattle.roundtrip.proofs.TakenApart.{taken-whole}
@@ -48,7 +49,7 @@ put-by r b q i {w} h room wrote =
     let none : drop (length b - i) (drop i b) ≡ [] = drop-of-length-le (drop i b) l in
     let fits : sizeOf r ≤ length (drop i b) = simp length-drop (omega arith) in
     let answer : w ≡ Wrote-length (sizeOf r) = wrote .answer ∙ simp (h, part, le-ltb (length (drop i b)) (sizeOf r) fits) in
-    let q-is : q ≡ bytesOf r ++ drop (i + sizeOf r) b = wrote .buffer ∙ ap (λ (v : Written). bufferOf v r (take (length b - i) (drop i b))) answer ∙ rw (part, drop-drop) in
+    let q-is : q ≡ bytesOf r ++ drop (i + sizeOf r) b = wrote .buffer ∙ ap (λ (v : Written). bufferOf v r (take (length b - i) (drop i b))) answer ∙ rw (part, length-bytes r, drop-drop) in
     rw (none, q-is, append-nil, append-assoc)
 
 -- what stands before an offset is written, what follows it is as it was, and its records are still to come
@@ -137,4 +138,4 @@ module _ (s b : List ℕ) {v : Verdict} (is : v ≡ verdictOf s) where
       pub whole-by : (a : List ℕ) → length s ≤ length b → a ≡ planBytes s ++ drop (length s) b → Rewrote s b (Length (length s)) a
       unfolding answerBy bufferBy
       whole-by a h p =
-          record { answer = rw (plan-by, own-bytes s g plan-by, le-ltb (length b) (length s) h); buffer = p }
+          record { answer = rw (plan-by, own-bytes s g plan-by, le-ltb (length b) (length s) h); buffer = p ∙ ap (λ (k : ℕ). planBytes s ++ drop k b) (sym (ap length (own-bytes s g plan-by))) }

@@ -2,10 +2,11 @@
 -- buffer shorter than the answer"; "An accepted call writes its answer from the buffer's start and nothing else."
 use Prim.Native.Nat.{ℕ}
 use mathlib.Core.Path.{_≡_}
-use mathlib.Core.List.{List, _++_}
+use mathlib.Core.List.{List}
 use mathlib.Core.Bool.{cond}
-use lib.ListN.{length, drop}
+use lib.ListN.{length}
 use lib.Dec.{ltb}
+use Rattle.words.specs.Word.{written}
 use Rattle.records.specs.Bytes.{bytesOfAll}
 use Rattle.reader.specs.Walk.{recordsOf}
 use Rattle.roundtrip.specs.Fits.{Bytes}
@@ -30,7 +31,7 @@ answerBy (Refused n o) s b = Denied n o
 
 -- the buffer afterwards
 unfoldable pub bufferBy : Rewritten → List ℕ → List ℕ → List ℕ
-bufferBy (Length n) s b = planBytes s ++ drop n b
+bufferBy (Length n) s b = written (planBytes s) b
 bufferBy (Denied n o) s b = b
 
 -- the whole answer and the final contents of the buffer

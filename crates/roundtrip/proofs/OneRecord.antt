@@ -51,7 +51,7 @@ pub read-wrote : (r : Record) (b a : List ℕ) (n : ℕ) → Fits r → Wrote r 
 unfolding answerOf
 read-wrote r b a n f w =
     let e : n ≡ 0 + sizeOf r = go (inRange r) (ltb (length b) (sizeOf r)) (w .answer) in
-    rw (w .buffer) (read-written r [] (drop n b) f ∙ ap (Whole r) (sym e))
+    rw (w .buffer) (read-written r [] (drop (length (bytesOf r)) b) f ∙ ap (Whole r) (sym e))
   where
     go : (p q : Bool) → Length n ≡ cond p (cond q (Refused 15 0) (Length (sizeOf r))) (Refused 5 0) → n ≡ 0 + sizeOf r
     go true true e = let z : _≡_ {A = ℕ} 0 1 = cc in absurd (omega arith)

@@ -13,6 +13,10 @@ fitsAt bytes at buffer = leb (at + length bytes) (length buffer)
 unfoldable pub putAt : List ℕ → ℕ → List ℕ → List ℕ
 putAt bytes at buffer = cond (fitsAt bytes at buffer) (take at buffer ++ bytes ++ drop (at + length bytes) buffer) buffer
 
+-- "An accepted call writes its answer from the buffer's start and nothing else."
+abbrev pub written : List ℕ → List ℕ → List ℕ
+written answer buffer = answer ++ drop (length answer) buffer
+
 -- a number with one byte appended
 abbrev pub appendByte : ℕ → ℕ → ℕ
 appendByte a b = a * 256 + b

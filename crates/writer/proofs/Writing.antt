@@ -71,5 +71,5 @@ module _ (r : Record) (b : List ℕ) {t : Bool} {k l m : ℕ} where
       let w : 0 + length (bytesOf r) ≤ length b = omega (arith, length-bytes r) in
       record {
         answer = simp (a, le-ltb (length b) (sizeOf r) z) (ap Length n);
-        buffer = v ∙ sets-eq (bytesOf r) b 0 w ∙ ap (λ (j : ℕ). bytesOf r ++ drop j b) (zero-add (length (bytesOf r)) ∙ length-bytes r ∙ sym n);
+        buffer = v ∙ sets-eq (bytesOf r) b 0 w ∙ ap (λ (j : ℕ). bytesOf r ++ drop j b) (zero-add (length (bytesOf r)));
       }

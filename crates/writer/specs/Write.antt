@@ -2,10 +2,11 @@
 -- 15 is "output buffer shorter than the answer"; "An accepted call writes its answer from the buffer's start and nothing else."
 use Prim.Native.Nat.{ℕ}
 use mathlib.Core.Path.{_≡_}
-use mathlib.Core.List.{List, _++_}
+use mathlib.Core.List.{List}
 use mathlib.Core.Bool.{cond}
-use lib.ListN.{length, drop}
+use lib.ListN.{length}
 use lib.Dec.{ltb}
+use Rattle.words.specs.Word.{written}
 use Rattle.records.specs.Kinds.{sizeOf}
 use Rattle.records.specs.Bytes.{bytesOf}
 use Rattle.records.specs.Range.{inRange}
@@ -19,7 +20,7 @@ answerOf r b = cond (inRange r) (cond (ltb (length b) (sizeOf r)) (Refused 15 0)
 
 -- the buffer afterwards: the record's bytes from its start and the rest as it was; as it came, if the record is refused
 abbrev pub bufferBy : Written → Record → List ℕ → List ℕ
-bufferBy (Length n) r b = bytesOf r ++ drop n b
+bufferBy (Length n) r b = written (bytesOf r) b
 bufferBy (Refused n o) r b = b
 
 -- the whole answer and the final contents of the buffer
