@@ -1,16 +1,16 @@
 -- Laws of a record's bytes in a buffer.
 use mathlib.Core.Path.{_≡_, refl, sym, ap, _∙_, subst}
-use mathlib.Core.List.{List, _++_}
+use mathlib.Core.List.{List, [], _∷_, _++_}
 use mathlib.Core.Bool.{Bool, true, false}
 use Prim.Native.Nat.{ℕ, suc, _+_, _≤_, _<_}
 use native.Mathlib.Nat.{zero-add}
 use native.Mathlib.Numerals.{add-one}
 use native.Mathlib.Omega.{arith}
 use lib.ListN.{length, drop}
-use lib.Seq.{sets, sets-eq}
+use lib.Seq.{sets, sets-eq, length-sets}
 use borrow.Author.Tests.{lt-ltb, le-ltb}
-use Rattle.words.specs.Word.{wordBytes, wordPut}
-use Rattle.words.proofs.Laws.{put-room}
+use Rattle.words.specs.Word.{putAt, wordBytes, wordPut}
+use Rattle.words.proofs.Laws.{put-sets, put-room}
 use Rattle.records.specs.Kinds.{bodyLen, kindOf, sizeOf}
 use Rattle.records.specs.Bytes.{bytesOf}
 use Rattle.records.specs.Range.{inRange}
@@ -31,13 +31,36 @@ length-bytes (Disabling v st m) = refl
 length-bytes (Step e i o x) = refl
 length-bytes End = refl
 
--- the room for a record is the room for the case that it is
-pub room : {r t : Record} {n : ℕ} → r ≡ t → sizeOf r ≤ n → sizeOf t ≤ n
-room {n = n} e h = subst (λ (x : Record). sizeOf x ≤ n) e h
+-- from what the code of `put_record` is told: the case t that the record is
+module _ (r : Record) (b : List ℕ) {t : Record} (e : r ≡ t) where
+  room : sizeOf r ≤ length b → length (bytesOf t) ≤ length b
+  room h = subst (λ (n : ℕ). n ≤ length b) (sym (length-bytes t ∙ ap sizeOf (sym e))) h
 
--- a number's bytes where there is room
-pub word-put : (o x : ℕ) {s t u : List ℕ} → s ≡ u → t ≡ wordPut s o x → o + 8 ≤ length s → t ≡ sets u o (wordBytes x)
-word-put o x {s = s} e f h = f ∙ put-room s o x h ∙ ap (λ (l : List ℕ). sets l o (wordBytes x)) e
+  pub whole-put : {s : List ℕ} → sizeOf r ≤ length b → s ≡ putAt (bytesOf t) 0 b → s ≡ sets b 0 (bytesOf r)
+  whole-put h w =
+      let l = room h in
+      w ∙ put-sets (bytesOf t) 0 b (omega arith) ∙ ap (λ (x : Record). sets b 0 (bytesOf x)) (sym e)
+
+-- bytes and then a number's eight bytes
+word-put : (q b : List ℕ) (o x : ℕ) {s u : List ℕ} → length q ≡ o → o + 8 ≤ length b → s ≡ putAt q 0 b → u ≡ wordPut s o x → u ≡ sets (sets b 0 q) o (wordBytes x)
+word-put q b o x {s} l h w f =
+    let z : s ≡ sets b 0 q = w ∙ put-sets q 0 b (omega arith) in
+    let n : length s ≡ length b = ap length z ∙ length-sets b 0 q in
+    f ∙ put-room s o x (omega arith) ∙ ap (λ (y : List ℕ). sets y o (wordBytes x)) z
+
+module _ (r : Record) (b : List ℕ) {s u : List ℕ} where
+  pub supervisor-put : {n st i x : ℕ} → r ≡ Supervisor n st i x → sizeOf r ≤ length b → s ≡ putAt (0x14 ∷ n ∷ st ∷ i ∷ []) 0 b → u ≡ wordPut s 4 x
+      → u ≡ sets b 0 (bytesOf r)
+  unfolding bytesOf wordBytes
+  supervisor-put {n} {st} {i} {x} e h w f = word-put (0x14 ∷ n ∷ st ∷ i ∷ []) b 4 x refl (room r b e h) w f ∙ ap (λ (y : Record). sets b 0 (bytesOf y)) (sym e)
+
+  pub disabling-put : {v st x : ℕ} → r ≡ Disabling v st x → sizeOf r ≤ length b → s ≡ putAt (0x16 ∷ v ∷ st ∷ []) 0 b → u ≡ wordPut s 3 x → u ≡ sets b 0 (bytesOf r)
+  unfolding bytesOf wordBytes
+  disabling-put {v} {st} {x} e h w f = word-put (0x16 ∷ v ∷ st ∷ []) b 3 x refl (room r b e h) w f ∙ ap (λ (y : Record). sets b 0 (bytesOf y)) (sym e)
+
+  pub step-put : {v i o x : ℕ} → r ≡ Step v i o x → sizeOf r ≤ length b → s ≡ putAt (0x17 ∷ v ∷ i ∷ o ∷ []) 0 b → u ≡ wordPut s 4 x → u ≡ sets b 0 (bytesOf r)
+  unfolding bytesOf wordBytes
+  step-put {v} {i} {o} {x} e h w f = word-put (0x17 ∷ v ∷ i ∷ o ∷ []) b 4 x refl (room r b e h) w f ∙ ap (λ (y : Record). sets b 0 (bytesOf y)) (sym e)
 
 -- from what the code of `write` is told: its test t of the range, the kind k, its body length l, and that as an index m
 module _ (r : Record) {k l m : ℕ} where

@@ -1,6 +1,5 @@
 // The writer of one record into a lent buffer.
 ghost use mathlib.Core.Path.{_≡_};
-ghost use mathlib.Core.List.{List, [], _∷_};
 ghost use Prim.Native.Nat.{_≤_};
 ghost use lib.ListN.{length};
 ghost use lib.Seq.{sets};
@@ -15,17 +14,6 @@ pub enum Written {
     Refused(u8, usize),
 }
 
-// The four bytes from the slice's start.
-fn put_four(s: &mut [u8], k: u8, a: u8, b: u8, c: u8)
-    requires { ⌜ 4 ≤ length (now s) ⌝ }
-    ensures { λ r. ⌜ now (s .exit) ≡ sets (now (s .entry)) 0 (k ∷ a ∷ b ∷ c ∷ []) ⌝ }
-{
-    s[0] = k;
-    s[1] = a;
-    s[2] = b;
-    s[3] = c;
-}
-
 // The record's bytes from the slice's start.
 fn put_record(r: Record, s: &mut [u8])
     requires { ⌜ sizeOf r ≤ length (now s) ⌝ }
@@ -36,33 +24,30 @@ fn put_record(r: Record, s: &mut [u8])
             modules,
             supervisors,
             events,
-        } => put_four(s, 0x10, modules, supervisors, events),
+        } => words::put_bytes(s, 0, &[0x10, modules, supervisors, events]),
         Record::Event {
             number,
             owner,
             class,
-        } => put_four(s, 0x11, number, owner, class),
+        } => words::put_bytes(s, 0, &[0x11, number, owner, class]),
         Record::Module {
             number,
             states,
             initial,
-        } => put_four(s, 0x12, number, states, initial),
+        } => words::put_bytes(s, 0, &[0x12, number, states, initial]),
         Record::ModuleMove {
             owner,
             from,
             event,
             to,
-        } => {
-            put_four(&mut *s, 0x13, owner, from, event);
-            s[4] = to;
-        }
+        } => words::put_bytes(s, 0, &[0x13, owner, from, event, to]),
         Record::Supervisor {
             number,
             states,
             initial,
             alphabet,
         } => {
-            put_four(&mut *s, 0x14, number, states, initial);
+            words::put_bytes(&mut *s, 0, &[0x14, number, states, initial]);
             words::put_word(&mut *s, 4, alphabet);
         }
         Record::SupervisorMove {
@@ -70,18 +55,13 @@ fn put_record(r: Record, s: &mut [u8])
             from,
             event,
             to,
-        } => {
-            put_four(&mut *s, 0x15, supervisor, from, event);
-            s[4] = to;
-        }
+        } => words::put_bytes(s, 0, &[0x15, supervisor, from, event, to]),
         Record::Disabling {
             supervisor,
             state,
             mask,
         } => {
-            s[0] = 0x16;
-            s[1] = supervisor;
-            s[2] = state;
+            words::put_bytes(&mut *s, 0, &[0x16, supervisor, state]);
             words::put_word(&mut *s, 3, mask);
         }
         Record::Step {
@@ -90,12 +70,10 @@ fn put_record(r: Record, s: &mut [u8])
             operation,
             operand,
         } => {
-            put_four(&mut *s, 0x17, event, index, operation);
+            words::put_bytes(&mut *s, 0, &[0x17, event, index, operation]);
             words::put_word(&mut *s, 4, operand);
         }
-        Record::End => {
-            s[0] = 0x1f;
-        }
+        Record::End => words::put_bytes(s, 0, &[0x1f]),
     }
 }
 
