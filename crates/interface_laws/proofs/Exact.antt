@@ -1,7 +1,7 @@
 -- `Exact` of specs/Exact.antt.
 use mathlib.Core.Path.{_≡_, refl, sym, ap, _∙_, subst}
 use mathlib.Core.List.{List}
-use mathlib.Core.Bool.{Bool, true, false, cond, not, _&&_, true≢false}
+use mathlib.Core.Bool.{Bool, true, false, cond, _&&_}
 use Prim.Native.Nat.{ℕ, zero, suc, _+_, _*_, _^_, _≤_, _<_}
 use native.Mathlib.Omega.{arith}
 use lib.ListN.{length, getD, drop}
@@ -9,6 +9,7 @@ use lib.Dec.{T, eqb, lit<}
 use lib.Seq.{getD-drop}
 use lib.Ieee.{binary64, nanBits}
 use lib.Ieee.Bits.{is-true, ofBits-fits, nanBits-is}
+use borrow.Author.Tests.{not-true}
 use Rattle.bits.specs.Bit.{allBelow}
 use Rattle.bits.proofs.Laws.{all-at}
 use Rattle.words.specs.Word.{quadAt, wordAt}
@@ -26,10 +27,6 @@ use Rattle.device_bytes.proofs.Parts.{device-parts}
 use Rattle.interface_laws.specs.Exact.{Exact}
 use Rattle.interface_laws.proofs.ByteLists.{bytes-none, bytes-more, bytes-listed}
 use Rattle.interface_laws.proofs.Written.{module-bytes, supervisor-bytes, device-bytes}
-
-not-true : (a : Bool) → not a ≡ true → a ≡ false
-not-true true h = absurd (true≢false (sym h))
-not-true false h = refl
 
 module _ (b : List ℕ) (g : Bytes b) where
   half-small : (o : ℕ) → halfAt b o < 2 ^ 16
