@@ -9,7 +9,7 @@ pub mod Encodable
 pub mod Sent
 pub mod Written
 pub mod Exact
-pub mod Kept
+pub mod InPlace
 pub mod SameCalls
 pub mod Left
 pub mod Runs

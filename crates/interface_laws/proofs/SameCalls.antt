@@ -46,7 +46,7 @@ use Rattle.module_interface.specs.Calls as ModuleCalls
 use Rattle.supervisor_interface.specs.Calls as SupervisorCalls
 use Rattle.interface_laws.specs.SameCalls.{moduleAnswer, stepAnswer, supervisorAnswer, serveAnswer, deviceAnswer, turnAnswer, SameCalls}
 use Rattle.interface_laws.proofs.Exact.{exact}
-use Rattle.interface_laws.proofs.Kept.{over, put-over, put-device}
+use Rattle.interface_laws.proofs.InPlace.{over, put-over, put-device}
 use Rattle.interface_laws.proofs.OwnParts.{choose, start-encodable}
 use Rattle.interface_laws.proofs.Parties.{judged}
 use Rattle.interface_laws.proofs.Encodable.{all-encodable}

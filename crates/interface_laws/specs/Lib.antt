@@ -1,6 +1,5 @@
 pub mod Laws
 pub mod Exact
-pub mod Kept
 pub mod Encodable
 pub mod SameCalls
 pub mod Left
