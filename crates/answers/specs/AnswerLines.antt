@@ -15,7 +15,7 @@ use Rattle.modules.specs.declared.Called.the-variants.{Done, Refused}
 use Rattle.messages.specs.Message.{messageBytes}
 use Rattle.messages.specs.declared.Message.{Message}
 use Rattle.script.specs.Answers.{refusedLine, responseLine}
-use Rattle.script.specs.SimulationLines.{sentLine, deliveredLine, steppedLine, servedLine, tickLine, nothingLine}
+use Rattle.script.specs.SimulationLines.{deliveredLine, steppedLine, servedLine, tickLine, nothingLine}
 use Rattle.permits.specs.declared.Stepped.{Stepped}
 use Rattle.permits.specs.declared.Stepped.the-variants.{Turned, Bids, Waits, Refused as StepRefused}
 use Rattle.simulation.specs.declared.Answer.{Answer}

@@ -1,11 +1,10 @@
 -- One step of the check by what it remembers, by what stands at an offset, and that it agrees with the check over the records before.
 use mathlib.Core.Path.{_≡_, refl, sym, ap, _∙_, subst}
 use mathlib.Core.List.{List, [], _∷_}
-use mathlib.Core.Bool.{Bool, true, false, cond, not, _&&_}
-use Prim.Native.Nat.{ℕ, suc, _+_, _-_, _≤_, _<_}
-use native.Mathlib.Numerals.{add-one}
+use mathlib.Core.Bool.{Bool, true, false, cond, _&&_}
+use Prim.Native.Nat.{ℕ, suc, _+_, _≤_, _<_}
 use native.Mathlib.Omega.{arith}
-use lib.ListN.{length, drop, drop-of-length-le}
+use lib.ListN.{length, drop-of-length-le}
 use lib.Dec.{eqb}
 use borrow.Author.Tests.{ne-eqb, eqb-true, lt-ltb, le-ltb}
 use Rattle.bits.specs.Bit.{bit, allBelow}
@@ -25,7 +24,6 @@ use Rattle.places.specs.Places.{nowhere, placeBy, notedAt, notedIn, placesOf}
 use Rattle.places.specs.declared.Places.{Places}
 use Rattle.rules.specs.Check.{faultOf, endAt, checkWalk, verdictOf, limit}
 use Rattle.rules.specs.Valid.{Valid}
-use Rattle.rules.specs.declared.Verdict.{Verdict}
 use Rattle.rules.specs.declared.Verdict.the-variants.{Accepted as VerdictAccepted, Refused as VerdictRefused}
 use Rattle.context.specs.declared.Counts.{Counts}
 use Rattle.context.specs.declared.Events.{Events}

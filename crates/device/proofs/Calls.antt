@@ -1,16 +1,13 @@
 -- Each way through a call, with every fact that the code is told as a premise.
 use Prim.Native.Nat.{ℕ, zero, suc}
-use native.Mathlib.Omega.{arith}
-use mathlib.Core.Path.{_≡_, refl, sym, ap, ap₂, _∙_, subst}
+use mathlib.Core.Path.{_≡_, refl, sym, ap, ap₂, _∙_}
 use mathlib.Core.List.{List, [], _∷_}
-use mathlib.Core.Bool.{true, false}
-use lib.ListN.{length, getD}
+use lib.ListN.{length}
 use types.Run.{OneOf, miss}
 use denote.Enum.Declared.{tagOf}
 use Rattle.records.specs.declared.Record.{Record}
 use Rattle.reader.specs.Walk.{recordsOf}
 use Rattle.rules.specs.Check.{verdictOf}
-use Rattle.rules.specs.declared.Verdict.{Verdict}
 use Rattle.places.specs.declared.Places.{Places}
 use Rattle.places.specs.Places.{recordsBy}
 use Rattle.checker.specs.Examined.{examinedOf}
@@ -26,7 +23,7 @@ use Rattle.modules.proofs.Turn.{the-type}
 use Rattle.device_states.specs.declared.Device.{Device}
 use Rattle.device.specs.declared.DeviceTurned.{DeviceTurned}
 use Rattle.device.specs.declared.DeviceCalled.{DeviceCalled}
-use Rattle.device.specs.declared.Turning.the-variants.{Turned as Turns, Refused as TurnRefused}
+use Rattle.device.specs.declared.Turning.the-variants.{Turned as Turns}
 use Rattle.plan.specs.Lists.{listFrom}
 use Rattle.modules.specs.Procedure.{respondOf, tickOf}
 use Rattle.water.specs.declared.Flow.{Flow}

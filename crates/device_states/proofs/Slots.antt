@@ -3,7 +3,7 @@ use Prim.Native.Nat.{ℕ, zero, suc, _+_, _-_, _≤_, _<_}
 use native.Mathlib.Nat.{add-zero, add-suc, suc-add, zero-add}
 use native.Mathlib.Numerals.{add-one}
 use native.Mathlib.Omega.{arith}
-use mathlib.Core.Path.{_≡_, refl, sym, ap, ap₂, _∙_, subst}
+use mathlib.Core.Path.{_≡_, refl, sym, ap, ap₂, _∙_}
 use mathlib.Core.List.{List, [], _∷_, _++_, append-assoc, append-nil}
 use mathlib.Core.Bool.{Bool, true, false, cond, _&&_, true≢false}
 use lib.ListN.{length, getD, set, replicate, length-append}
@@ -15,13 +15,12 @@ use Rattle.records.specs.declared.Record.{Record}
 use Rattle.plan.specs.Plan.{shown, supervisorAfter}
 use Rattle.rules.specs.LookUp.{modulesOf, supervisorsOf, supervisorState}
 use Rattle.modules.specs.declared.Own.{Own}
-use Rattle.modules.specs.declared.Turn.{Turn}
 use Rattle.modules.specs.declared.Turn.the-variants.{Event}
 use Rattle.modules.specs.Turn.{emptyOwn}
 use Rattle.modules.specs.Fits.{ownFits, ownEmpty}
 use Rattle.plan.specs.Lists.{listFrom}
 use Rattle.device_states.specs.declared.Device.{Device}
-use Rattle.device_states.specs.States.{stateOf, ownSlotFits, stateSlotFits, deviceFits, shownBy, stateAfterTurn, statesAfter}
+use Rattle.device_states.specs.States.{stateOf, ownSlotFits, stateSlotFits, deviceFits, shownBy, stateAfterTurn}
 
 -- ---- every slot below i passes
 

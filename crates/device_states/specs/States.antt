@@ -1,6 +1,6 @@
 -- Document 01, "Turns on one device": the state of the one-device controller, each module's own part and each supervisor's state.
 use Prim.Native.Nat.{ℕ, zero, suc}
-use mathlib.Core.List.{List, [], _∷_}
+use mathlib.Core.List.{List}
 use mathlib.Core.Bool.{Bool, cond, _&&_}
 use lib.ListN.{getD, set, replicate}
 use lib.Bits.{bitOr}

@@ -2,7 +2,7 @@
 use mathlib.Core.List.{List, [], _∷_, _++_}
 use Prim.Native.Nat.{ℕ}
 use lib.Ieee.{binary64, toBits}
-use Rattle.roundtrip.specs.Fits.{Byte, Bytes}
+use Rattle.roundtrip.specs.Fits.{Bytes}
 use Rattle.words.specs.Word.{wordBytes}
 use Rattle.modules.specs.declared.Own.{Own}
 use Rattle.permits.specs.declared.Module.{Module}

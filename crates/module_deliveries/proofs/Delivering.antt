@@ -1,5 +1,5 @@
 -- A message delivered, from what the code is told.
-use mathlib.Core.Path.{_≡_, refl, sym, ap, ap₂, _∙_}
+use mathlib.Core.Path.{_≡_, refl, sym, ap, _∙_}
 use mathlib.Core.List.{List}
 use mathlib.Core.Option.{Option}
 use mathlib.Core.Bool.{Bool, true, false, cond, not, _&&_, true≢false}
@@ -13,10 +13,7 @@ use Rattle.bits.specs.declared.Maybe.{Maybe}
 use Rattle.bits.specs.declared.Maybe.the-variants.{Just, Nothing}
 use Rattle.bits.proofs.Least.{least-some}
 use Rattle.records.specs.declared.Record.{Record}
-use Rattle.reader.specs.Walk.{recordsOf}
 use Rattle.rules.specs.LookUp.{modulesOf}
-use Rattle.rules.specs.Check.{verdictOf}
-use Rattle.rules.specs.declared.Verdict.{Verdict}
 use Rattle.rules.specs.declared.Verdict.the-variants.{Accepted as IsAccepted}
 use Rattle.places.specs.declared.Places.{Places}
 use Rattle.places.specs.Places.{recordsBy}

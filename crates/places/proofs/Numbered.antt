@@ -1,7 +1,7 @@
 -- The records of the kinds whose records have the number of their place, from what the code is told of the kind.
 use mathlib.Core.Path.{_≡_, refl, sym, ap, _∙_}
 use mathlib.Core.List.{List}
-use mathlib.Core.Bool.{Bool, true}
+use mathlib.Core.Bool.{true}
 use Prim.Native.Nat.{ℕ, _+_}
 use native.Mathlib.Nat.{add-zero}
 use lib.ListN.{drop, getD}
@@ -9,7 +9,6 @@ use lib.Seq.{getD-drop}
 use Rattle.words.specs.Word.{wordAt}
 use Rattle.words.proofs.Laws.{word-drop}
 use Rattle.records.specs.Kinds.{bodyLen}
-use Rattle.records.specs.declared.Record.{Record}
 use Rattle.records.specs.declared.Record.the-variants.{Event, Module, Supervisor}
 use Rattle.reader.specs.Read.{recordOf}
 use Rattle.places.specs.Places.{beginOf, endOf, numbered}

@@ -10,25 +10,17 @@ use lib.ListN.{length, getD, drop, length-drop, drop-of-length-le}
 use lib.Seq.{drop-cons, drop-drop}
 use lib.Dec.{leb, eqb}
 use borrow.Author.Tests.{le-leb, lt-leb, eq-eqb, ne-eqb, leb-true, leb-false, eqb-true, eqb-false}
-use types.Run.{OneOf, miss}
-use denote.Enum.Declared.{tagOf}
 use Rattle.words.specs.Word.{wordAt}
 use Rattle.records.specs.Kinds.{bodyLen, noLen}
-use Rattle.records.specs.Key.{keyOf, sameKey}
+use Rattle.records.specs.Key.{keyOf}
 use Rattle.records.specs.declared.Record.{Record}
 use Rattle.records.specs.declared.Record.the-variants.{Head, Event, Module, ModuleMove, Supervisor, SupervisorMove, Disabling, Step, End}
-use Rattle.records.specs.declared.RecordKey.{RecordKey}
 use Rattle.reader.specs.Read.{recordOf, shapeAt, readBy, readAt, readNumber}
-use Rattle.reader.specs.Walk.{Walk, more, stop, walkOf, walkFrom, recordsIn, Stopped, StopsAsRead, GoesOnAsRead}
-use Rattle.reader.specs.Find.{findIn}
+use Rattle.reader.specs.Walk.{Walk, more, stop, walkOf, walkFrom, Stopped, StopsAsRead, GoesOnAsRead}
 use Rattle.reader.specs.declared.Shape.{Shape}
 use Rattle.reader.specs.declared.Shape.the-variants.{Whole as WholeThere, Unknown as UnknownThere, Cut as CutThere, Nothing as NothingThere}
 use Rattle.reader.specs.declared.Read.{Read}
 use Rattle.reader.specs.declared.Read.the-variants.{Whole, Unknown, Cut, Nothing}
-use Rattle.reader.specs.declared.Found.{Found}
-use Rattle.reader.specs.declared.Found.the-variants.{It, Missing}
-use Rattle.reader.proofs.Read.{the-type}
-use Rattle.reader.proofs.Shape.{the-type as shape-type}
 
 -- past the end
 pub drop-past : (s : List ℕ) (b : ℕ) → length s < b → drop (length s) s ≡ drop b s

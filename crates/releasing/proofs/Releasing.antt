@@ -23,7 +23,6 @@ use Rattle.modules.specs.declared.Turn.the-variants.{Event, Stray, Nothing}
 use Rattle.modules.proofs.Turn.{the-type}
 use Rattle.messages.specs.Message.{noEvent, messageBytes, written, fitsAt, putAt}
 use Rattle.messages.specs.Write.{Wrote}
-use Rattle.messages.specs.declared.Message.{Message}
 use Rattle.messages.specs.declared.Message.the-variants.{Release}
 use Rattle.messages.proofs.Writing.{fits}
 use Rattle.permits.specs.Module.{eventFor, releases}

@@ -1,5 +1,5 @@
 -- Laws of a line of the listing's script.
-use mathlib.Core.Path.{_≡_, sym, ap, ap₂, _∙_}
+use mathlib.Core.Path.{_≡_, sym, ap, _∙_}
 use mathlib.Core.List.{List}
 use Prim.Native.Nat.{ℕ}
 use Rattle.device_states.specs.declared.Device.{Device}
@@ -11,7 +11,6 @@ use Rattle.script.specs.declared.Line.the-variants.{Turn, Response, Misshapen}
 use Rattle.script.specs.declared.Text.{Text}
 use Rattle.script.specs.Text.{textOf}
 use Rattle.script.specs.Answers.{refusedLine, turnLine, responseLine}
-use Rattle.sheet.specs.declared.Played.{Played}
 use Rattle.sheet.specs.Listing.{lineNumber, deviceAfter, answerTo, played}
 
 module _ (image : List ℕ) (d : Device) {l : Line} {t : Text} where

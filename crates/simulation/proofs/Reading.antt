@@ -1,15 +1,15 @@
 -- A reading of whole eighths, as the code makes it: the whole number times 0.125.
 use Prim.Native.Nat.{ℕ, _*_, _^_, _<_}
-use native.Mathlib.Nat.{mul-one, mul-assoc, mul-pos, mul-right-comm, lt-of-lt-of-le}
+use native.Mathlib.Nat.{mul-one, mul-assoc, mul-pos, lt-of-lt-of-le}
 use native.Mathlib.Omega.{arith}
-use mathlib.Core.Path.{_≡_, refl, sym, ap, ap₂, _∙_}
+use mathlib.Core.Path.{_≡_, sym, ap₂, _∙_}
 use mathlib.Core.Bool.{Bool, false}
-use lib.IntN.{ℤ, pos}
+use lib.IntN.{pos}
 use lib.Dec.{lit<, lit≤}
 use lib.Pow.{shl-lt}
 use mir.Syntax.{w16}
 use mir.Val.{Fits}
-use lib.Ieee.{Float, nan, inf, fin, unlike, binary64, up, down, round, mul, ofInt, ofBits}
+use lib.Ieee.{Float, fin, unlike, binary64, up, down, round, mul, ofInt, ofBits}
 use lib.Ieee.Exact.{HasValue, round-exact}
 use lib.Ieee.Fits.{down-pos}
 use lib.Ieee.Scale.{round-same}

@@ -1,17 +1,15 @@
 -- Laws of the messages that a step wrote.
 use Prim.Native.Nat.{ℕ, zero, suc, min, _+_, _-_, _≤_, _<_}
-use native.Mathlib.Nat.{le-refl}
 use native.Mathlib.Numerals.{unary-clauses}
 use native.Mathlib.Omega.{arith}
 use mathlib.Core.Path.{_≡_, refl, sym, ap, ap₂, _∙_}
 use mathlib.Core.List.{List, [], _∷_, _++_}
-use lib.ListN.{length, take, drop, length-drop, drop-of-length-le}
-use lib.Seq.{drop-drop, take-all}
-use Rattle.messages.specs.Message.{parse, messageBytes}
+use lib.ListN.{length, take, drop, length-drop}
+use lib.Seq.{drop-drop}
+use Rattle.messages.specs.Message.{parse}
 use Rattle.messages.specs.declared.Message.{Message}
 use Rattle.messages.specs.declared.Parsed.{Parsed}
 use Rattle.messages.specs.declared.Parsed.the-variants.{Whole, Misshapen}
-use Rattle.wire.specs.declared.Sent.{Sent}
 use Rattle.wire.specs.declared.Wire.{Wire}
 use Rattle.wire.specs.Wire.{withMessage, withMessages}
 use Rattle.wire.proofs.Laws.{with-append}

@@ -32,7 +32,6 @@ use Rattle.parties.specs.declared.Parties.{Parties}
 use Rattle.parties.specs.Parties.{moduleAt, supervisorAt, withModule, withSupervisor, withWire, withDevice}
 use Rattle.acts.specs.declared.Act.{Act}
 use Rattle.acts.specs.declared.Act.the-variants.{Module as ModuleLine, Supervisor as SupervisorLine, Delivery as DeliveryLine, Response as ResponseLine, Tick as TickLine, Unfitted as UnfittedLine, Misshapen as MisshapenLine}
-use Rattle.simulation.specs.declared.Answer.{Answer}
 use Rattle.simulation.specs.declared.Answer.the-variants.{Module as ModuleGot, Supervisor as SupervisorGot, Delivery, NoMessage, Response, Tick, Misshapen}
 use Rattle.simulation.specs.declared.Played.{Played}
 

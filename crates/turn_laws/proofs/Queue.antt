@@ -4,7 +4,7 @@ use native.Mathlib.Omega.{arith}
 use mathlib.Core.Path.{_≡_, refl, sym, ap, ap₂, _∙_, subst}
 use mathlib.Core.List.{List, [], _∷_, _++_, append-assoc}
 use mathlib.Core.Bool.{Bool, true}
-use lib.ListN.{length, take, drop, set, replicate, length-append, length-replicate, length-take, length-drop, take-append-drop, replicate-append-replicate}
+use lib.ListN.{length, take, drop, set, replicate, length-append, length-take, length-drop, take-append-drop, replicate-append-replicate}
 use lib.Dec.{T, eqb, leb, le→leb, leb→le, eqb→eq}
 use lib.Seq.{take-append-seam, drop-append-seam, set-append-seam, length-take-le}
 use lib.Ieee.Fits.{and-l, and-r, and-i}

@@ -1,12 +1,11 @@
 -- A tick keeps the state, the fit and the queue's eight places.
-use Prim.Native.Nat.{ℕ, suc, _≤_, _<_}
-use native.Mathlib.Omega.{arith}
+use Prim.Native.Nat.{ℕ, suc, _≤_}
 use mathlib.Core.Path.{_≡_, refl, sym, ap, _∙_, subst}
 use mathlib.Core.List.{List}
 use mathlib.Core.Bool.{Bool, true, false, cond, not, _&&_}
-use lib.Dec.{T, eqb, ltb, lt→ltb, ltb→lt}
+use lib.Dec.{T, eqb, ltb, lt→ltb}
 use lib.Ieee.Fits.{and-i, eq→eqb}
-use borrow.Author.Tests.{eqb-true, eqb-false}
+use borrow.Author.Tests.{eqb-true}
 use denote.Floats.{passes as holds}
 use Rattle.records.specs.declared.Record.{Record}
 use Rattle.rules.specs.LookUp.{found, eventsOf, ownerOf, controllable}

@@ -1,5 +1,5 @@
 -- A turn: what it does, by which bits of the mask it goes, and that it keeps the fit and the queue's eight places.
-use Prim.Native.Nat.{ℕ, suc, _<_}
+use Prim.Native.Nat.{ℕ, suc}
 use native.Mathlib.Omega.{arith}
 use mathlib.Core.Path.{_≡_, refl, sym, ap, _∙_, subst}
 use mathlib.Core.Logic.{inl, inr}

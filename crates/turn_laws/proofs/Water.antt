@@ -4,7 +4,7 @@ use native.Mathlib.Omega.{arith}
 use mathlib.Core.Path.{_≡_, refl, sym, ap, subst}
 use mathlib.Core.Bool.{Bool, false, cond}
 use denote.Floats.{is-true}
-use lib.Dec.{T, ltb, eqb, eqb→eq, ltb→lt, lt→ltb, leb→le, lit<}
+use lib.Dec.{T, ltb, eqb, eqb→eq, lt→ltb, leb→le, lit<}
 use lib.Ieee.{binary64, ofBits}
 use lib.Ieee.Fits.{and-i, eq→eqb}
 use borrow.Author.Tests.{leb-false}

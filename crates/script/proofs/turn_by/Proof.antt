@@ -1,8 +1,6 @@
 use borrow.Author.Needs.{needs}
 use Rattle.script.proofs.turn_by.Statement.{statement}
 use Rattle.script.proofs.turn_by.Tie as tie
-use Rattle.script.proofs.turn_by.Reads as reads
-use Rattle.script.proofs.turn_by.Lts as lts
 
 -- src/lib.rt:125:21
 enum-known-m : tie.Need-enum-known-m
