@@ -4,7 +4,7 @@ use mathlib.Core.List.{List, [], _∷_, _++_}
 use mathlib.Core.Option.{Option, none, some}
 use mathlib.Core.Bool.{Bool, true, false, cond}
 use Prim.Native.Nat.{ℕ, zero, suc}
-use lib.ListN.{replicate, length-replicate}
+use lib.ListN.{replicate}
 use lib.Dec.{eqb}
 use Rattle.reader.specs.Walk.{recordsOf}
 use Rattle.rules.specs.Check.{IsPlan}
@@ -16,6 +16,7 @@ use Rattle.messages.specs.Message.{parse}
 use Rattle.messages.specs.declared.Message.the-variants.{Bid, Permit, Release}
 use Rattle.messages.specs.declared.Parsed.{Parsed}
 use Rattle.messages.specs.declared.Parsed.the-variants.{Whole, Misshapen}
+use Rattle.modules.specs.declared.Called.{Called}
 use Rattle.device.specs.Device.{tickCall, startBy, startCall}
 use Rattle.device_states.specs.declared.Device.{Device}
 use Rattle.permits.specs.Module as M
@@ -28,15 +29,17 @@ use Rattle.agreement.specs.Compared.{DeviceAct, deviceTurn, deviceRespond, devi
 use Rattle.party_bytes.specs.Module.{moduleBytes, ModuleEncodable}
 use Rattle.party_bytes.specs.Supervisor.{supervisorBytes, SupervisorEncodable}
 use Rattle.device_bytes.specs.Device.{deviceBytes, DeviceEncodable}
-use Rattle.packing.specs.Answer.{Answer}
+use Rattle.device_bytes.proofs.Parts.{device-parts}
+use Rattle.packing.specs.Answer.{Answer, startAnswer}
 use Rattle.packing.specs.Flow.{flowOf}
+use Rattle.device_interface.specs.Calls as DeviceCalls
 use Rattle.supervisor_interface.specs.Calls as SupervisorCalls
 use Rattle.interface_laws.specs.SameCalls.{moduleAnswer, stepAnswer, supervisorAnswer, serveAnswer, deviceAnswer}
 use Rattle.interface_laws.specs.Run.{Memory, Given, moduleSends, supervisorSends, sensorOf, litresOf, onModule, onSupervisor, bytesDelivered, bytesDeliveredAt, bytesStep, bytesRun, bytesStart, deviceBytesStep, deviceBytesRun, deviceBytesStart, encoded, decoded, deliveryAnswers, pickedAnswers, actAnswers, runAnswers, deviceActAnswer, deviceAnswers}
 use Rattle.interface_laws.proofs.OwnParts.{choose}
 use Rattle.interface_laws.proofs.Exact.{exact}
 use Rattle.interface_laws.proofs.Encodable.{all-encodable}
-use Rattle.interface_laws.proofs.SameCalls.{same-calls}
+use Rattle.interface_laws.proofs.SameCalls.{in-zeros, same-calls}
 use Rattle.interface_laws.proofs.Sent.{AllBytes, module-sends, supervisor-sends, module-sent, supervisor-sent}
 
 -- the states of all parties can be encoded, and the messages under way are bytes
@@ -233,8 +236,10 @@ module _ (image : List ℕ) (accepted : IsPlan image) where
   device-run-encodable (a ∷ acts) d h = device-run-encodable acts (deviceStep image d a) (device-encodable d h a)
 
   pub device-start : deviceBytesStart image ≡ deviceBytes (startCall image .device)
-  unfolding deviceBytesStart startBy
-  device-start = same-calls .deviceStart image (replicate 592 0) (length-replicate {A = ℕ} 592 0) (ap (λ (v : Verdict). startBy v (recordsOf image) .answer) accepted)
+  unfolding deviceBytesStart DeviceCalls.startBytes startBy
+  device-start =
+      ap (λ (c : Called). startAnswer 592 c (deviceBytes (startCall image .device)) (replicate 592 0) .buffer) (ap (λ (v : Verdict). startBy v (recordsOf image) .answer) accepted)
+      ∙ in-zeros 592 (deviceBytes (startCall image .device)) (device-parts .size (startCall image .device) (all-encodable .deviceStart image))
 
 pub decoded-encoded : (D : System) → SystemEncodable D → decoded (encoded D) ≡ D
 decoded-encoded D h =

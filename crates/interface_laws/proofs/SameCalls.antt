@@ -1,11 +1,11 @@
 -- `SameCalls` of specs/SameCalls.antt.
 use mathlib.Core.Path.{_≡_, refl, sym, ap, _∙_}
 use mathlib.Core.Logic.{_≢_}
-use mathlib.Core.List.{List, []}
+use mathlib.Core.List.{List, [], _++_}
 use mathlib.Core.Bool.{Bool, true, false, cond}
-use Prim.Native.Nat.{ℕ}
+use Prim.Native.Nat.{ℕ, _≤_}
 use native.Mathlib.Omega.{arith}
-use lib.ListN.{length, replicate}
+use lib.ListN.{length, drop, replicate, length-replicate}
 use lib.Dec.{eqb, ltb}
 use lib.Ieee.{binary64, toBits}
 use borrow.Author.Tests.{eqb-false, le-ltb, ltb-true}
@@ -18,7 +18,7 @@ use Rattle.own_bytes.specs.Own.{procedureBytes, ownBytes}
 use Rattle.messages.specs.Message.{putAt}
 use Rattle.modules.specs.Numbers.{calledNumber}
 use Rattle.modules.specs.declared.Called.{Called}
-use Rattle.modules.specs.declared.Called.the-variants.{Done}
+use Rattle.modules.specs.declared.Called.the-variants.{Done, Refused}
 use Rattle.device.specs.Numbers.{turningNumber}
 use Rattle.device.specs.Device.{startCall, turnCall, respondCall, tickCall}
 use Rattle.permits.specs.Numbers.{steppedNumber, servedNumber}
@@ -39,12 +39,12 @@ use Rattle.party_bytes.specs.Supervisor.{isOut, holderByte, supervisorBytes, Su
 use Rattle.party_bytes.proofs.Parts.{module-parts, supervisor-parts}
 use Rattle.device_bytes.specs.Device.{deviceBytes, devicePut, deviceOf, DeviceEncodable}
 use Rattle.device_bytes.proofs.Parts.{device-parts}
-use Rattle.packing.specs.Answer.{calledAnswer, turningAnswer, steppedAnswer, servedAnswer, lentAfter, startAnswer}
+use Rattle.packing.specs.Answer.{Answer, done, calledAnswer, turningAnswer, steppedAnswer, servedAnswer, lentAfter, startAnswer}
 use Rattle.packing.specs.Flow.{flowOf}
 use Rattle.device_interface.specs.Calls as DeviceCalls
 use Rattle.module_interface.specs.Calls as ModuleCalls
 use Rattle.supervisor_interface.specs.Calls as SupervisorCalls
-use Rattle.interface_laws.specs.SameCalls.{moduleAnswer, stepAnswer, supervisorAnswer, serveAnswer, deviceAnswer, turnAnswer, SameCalls}
+use Rattle.interface_laws.specs.SameCalls.{moduleAnswer, stepAnswer, supervisorAnswer, serveAnswer, deviceAnswer, turnAnswer, startedAnswer, SameCalls}
 use Rattle.interface_laws.proofs.Exact.{exact}
 use Rattle.interface_laws.proofs.InPlace.{over, put-over, put-device}
 use Rattle.interface_laws.proofs.OwnParts.{choose, start-encodable}
@@ -129,11 +129,19 @@ device-turned image d m h =
 
 -- ---- starts
 
-started : (size : ℕ) (c : Called) (bytes l : List ℕ) → c ≡ Done → length l ≡ size → length bytes ≡ size → startAnswer size c bytes l .buffer ≡ bytes
+started : (size : ℕ) (c : Called) (bytes l : List ℕ) → size ≤ length l → length bytes ≡ size → startAnswer size c bytes l ≡ startedAnswer size c bytes l
 unfolding startAnswer
-started size c bytes l d e s =
-    let room : ltb (length l) size ≡ false = le-ltb (length l) size (omega arith) in
-    ap (λ (a : Called). startAnswer size a bytes l .buffer) d ∙ simp room (over bytes l (s ∙ sym e))
+started size Done bytes l h s =
+    let room : ltb (length l) size ≡ false = le-ltb (length l) size h in
+    simp room (ap (λ (k : ℕ). record { number = done 0 0 size; state = []; buffer = bytes ++ drop k l }) s)
+started size (Refused n o) bytes l h s = refl
+
+-- in zeros of just its size
+pub in-zeros : (size : ℕ) (bytes : List ℕ) → length bytes ≡ size → startAnswer size Done bytes (replicate size 0) .buffer ≡ bytes
+in-zeros size bytes s =
+    let z : List ℕ = replicate size 0 in
+    let l : length z ≡ size = length-replicate {A = ℕ} size 0 in
+    ap (λ (a : Answer). a .buffer) (started size Done bytes z (omega arith) s) ∙ ap (λ (k : ℕ). bytes ++ drop k z) (sym s) ∙ over bytes z (s ∙ sym l)
 
 -- the all-zero states are zeros
 zero-float : toBits binary64 (eighths 0) ≡ 0
@@ -153,7 +161,7 @@ unfolding ModuleCalls.startBytes M.startBy startAnswer
 module-zeros image m =
     judged image (λ v. Zeros (M.startBy v (recordsOf image) m))
     (λ plan. choose Zeros (ltb m (modulesOf (recordsOf image))) _ _
-    (λ l. started 48 Done (moduleBytes (M.startModule (recordsOf image) m)) (replicate 48 0) refl refl (module-parts .size (M.startModule (recordsOf image) m) (start-encodable (recordsOf image) plan m (ltb-true m (modulesOf (recordsOf image)) l) .places)))
+    (λ l. in-zeros 48 (moduleBytes (M.startModule (recordsOf image) m)) (module-parts .size (M.startModule (recordsOf image) m) (start-encodable (recordsOf image) plan m (ltb-true m (modulesOf (recordsOf image)) l) .places)))
     (λ l. module-zero))
     (λ n o. module-zero)
   where
@@ -165,7 +173,7 @@ unfolding SupervisorCalls.startBytes S.startBy startAnswer
 supervisor-zeros image v =
     judged image (λ a. Zeros (S.startBy a (recordsOf image) v))
     (λ plan. choose Zeros (ltb v (supervisorsOf (recordsOf image))) _ _
-    (λ l. started 6 Done (supervisorBytes (S.startSupervisor (recordsOf image) v)) (replicate 6 0) refl refl (supervisor-parts .size (S.startSupervisor (recordsOf image) v)))
+    (λ l. in-zeros 6 (supervisorBytes (S.startSupervisor (recordsOf image) v)) (supervisor-parts .size (S.startSupervisor (recordsOf image) v)))
     (λ l. supervisor-zero))
     (λ n o. supervisor-zero)
   where
@@ -189,12 +197,12 @@ same-calls =
           device-called d h (λ z. respondCall image z m e) (all-encodable .deviceRespond image d m e h) (refusals .device .respond image d m e .state);
       deviceTick = λ image d m s l h. unfold DeviceCalls.tickBytes in
           device-called d h (λ z. tickCall image z m (flowOf s l)) (all-encodable .deviceTick image d m (flowOf s l) h) (refusals .device .tick image d m (flowOf s l) .state);
-      moduleStart = λ image m l e d. unfold ModuleCalls.startBytes in
-          started 48 (M.moduleStart image m .answer) (moduleBytes (M.moduleStart image m .state)) l d e (module-parts .size (M.moduleStart image m .state) (all-encodable .moduleStart image m .own .places));
-      supervisorStart = λ image v l e d. unfold SupervisorCalls.startBytes in
-          started 6 (S.supervisorStart image v .answer) (supervisorBytes (S.supervisorStart image v .state)) l d e (supervisor-parts .size (S.supervisorStart image v .state));
-      deviceStart = λ image l e d. unfold DeviceCalls.startBytes in
-          started 592 (startCall image .answer) (deviceBytes (startCall image .device)) l d e (device-parts .size (startCall image .device) (all-encodable .deviceStart image));
+      moduleStart = λ image m l h. unfold ModuleCalls.startBytes in
+          started 48 (M.moduleStart image m .answer) (moduleBytes (M.moduleStart image m .state)) l h (module-parts .size (M.moduleStart image m .state) (all-encodable .moduleStart image m .own .places));
+      supervisorStart = λ image v l h. unfold SupervisorCalls.startBytes in
+          started 6 (S.supervisorStart image v .answer) (supervisorBytes (S.supervisorStart image v .state)) l h (supervisor-parts .size (S.supervisorStart image v .state));
+      deviceStart = λ image l h. unfold DeviceCalls.startBytes in
+          started 592 (startCall image .answer) (deviceBytes (startCall image .device)) l h (device-parts .size (startCall image .device) (all-encodable .deviceStart image));
       moduleZeros = module-zeros;
       supervisorZeros = supervisor-zeros;
     }

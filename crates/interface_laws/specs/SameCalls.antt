@@ -1,13 +1,14 @@
 -- A call over bytes is the call on the state that they are. Given the bytes of a state that can be encoded, it gives the number of the call's
 -- answer, the bytes of the state that the call leaves and its buffer, for every image and every argument, refused or not. A message is a list of
 -- bytes.
-use Prim.Native.Nat.{ℕ}
+use Prim.Native.Nat.{ℕ, _≤_}
 use mathlib.Core.Path.{_≡_}
-use mathlib.Core.List.{List, []}
-use lib.ListN.{length, replicate}
+use mathlib.Core.List.{List, [], _++_}
+use lib.ListN.{length, drop, replicate}
 use lib.Ieee.{Float}
 use Rattle.roundtrip.specs.Fits.{Bytes}
-use Rattle.modules.specs.declared.Called.the-variants.{Done}
+use Rattle.modules.specs.declared.Called.{Called}
+use Rattle.modules.specs.declared.Called.the-variants.{Done, Refused}
 use Rattle.device.specs.Device.{startCall, turnCall, respondCall, tickCall}
 use Rattle.permits.specs.Module as M
 use Rattle.permits.specs.Supervisor as S
@@ -21,7 +22,7 @@ use Rattle.permits.specs.declared.SupervisorCalled.{SupervisorCalled}
 use Rattle.party_bytes.specs.Module.{moduleBytes, ModuleEncodable}
 use Rattle.party_bytes.specs.Supervisor.{supervisorBytes, SupervisorEncodable}
 use Rattle.device_bytes.specs.Device.{deviceBytes, DeviceEncodable}
-use Rattle.packing.specs.Answer.{Answer, calledAnswer, turningAnswer, steppedAnswer, servedAnswer}
+use Rattle.packing.specs.Answer.{Answer, refused, done, calledAnswer, turningAnswer, steppedAnswer, servedAnswer}
 use Rattle.packing.specs.Flow.{flowOf}
 use Rattle.device_interface.specs.Calls as DeviceCalls
 use Rattle.module_interface.specs.Calls as ModuleCalls
@@ -46,6 +47,11 @@ deviceAnswer c = record { number = calledAnswer (c .answer); state = deviceBytes
 abbrev pub turnAnswer : DeviceTurned → Answer
 turnAnswer c = record { number = turningAnswer (c .answer); state = deviceBytes (c .device); buffer = [] }
 
+-- a start, whose state has so many bytes: they are the first ones of the buffer, and the rest stays; a refused start leaves the buffer
+abbrev pub startedAnswer : ℕ → Called → List ℕ → List ℕ → Answer
+startedAnswer size Done bytes l = record { number = done 0 0 size; state = []; buffer = bytes ++ drop size l }
+startedAnswer size (Refused n o) bytes l = record { number = refused n o; state = []; buffer = l }
+
 pub record SameCalls : Type 0 where
   pub moduleStep : (image : List ℕ) (m : ℕ) (x : Module) (b : List ℕ) → ModuleEncodable x
       → ModuleCalls.stepBytes image (moduleBytes x) m b ≡ stepAnswer (M.moduleStep image m x b)
@@ -65,13 +71,14 @@ pub record SameCalls : Type 0 where
       → DeviceCalls.respondBytes image (deviceBytes d) m e ≡ deviceAnswer (respondCall image d m e)
   pub deviceTick : (image : List ℕ) (d : Device) (m s : ℕ) (l : Float) → DeviceEncodable d
       → DeviceCalls.tickBytes image (deviceBytes d) m s l ≡ deviceAnswer (tickCall image d m (flowOf s l))
-  -- an accepted start writes the starting state, whatever stood in the bytes lent, of just its size
-  pub moduleStart : (image : List ℕ) (m : ℕ) (l : List ℕ) → length l ≡ 48 → M.moduleStart image m .answer ≡ Done
-      → ModuleCalls.startBytes image m l .buffer ≡ moduleBytes (M.moduleStart image m .state)
-  pub supervisorStart : (image : List ℕ) (v : ℕ) (l : List ℕ) → length l ≡ 6 → S.supervisorStart image v .answer ≡ Done
-      → SupervisorCalls.startBytes image v l .buffer ≡ supervisorBytes (S.supervisorStart image v .state)
-  pub deviceStart : (image l : List ℕ) → length l ≡ 592 → startCall image .answer ≡ Done
-      → DeviceCalls.startBytes image l .buffer ≡ deviceBytes (startCall image .device)
+  -- a start that is given room for the state, whatever stood in the bytes lent
+  pub moduleStart : (image : List ℕ) (m : ℕ) (l : List ℕ) → 48 ≤ length l
+      → ModuleCalls.startBytes image m l ≡ startedAnswer 48 (M.moduleStart image m .answer) (moduleBytes (M.moduleStart image m .state)) l
+  pub supervisorStart : (image : List ℕ) (v : ℕ) (l : List ℕ) → 6 ≤ length l
+      → SupervisorCalls.startBytes image v l
+      ≡ startedAnswer 6 (S.supervisorStart image v .answer) (supervisorBytes (S.supervisorStart image v .state)) l
+  pub deviceStart : (image l : List ℕ) → 592 ≤ length l
+      → DeviceCalls.startBytes image l ≡ startedAnswer 592 (startCall image .answer) (deviceBytes (startCall image .device)) l
   -- a start into zeros leaves the bytes of the state that it gives, also a refused one
   pub moduleZeros : (image : List ℕ) (m : ℕ) → ModuleCalls.startBytes image m (replicate 48 0) .buffer ≡ moduleBytes (M.moduleStart image m .state)
   pub supervisorZeros : (image : List ℕ) (v : ℕ)
