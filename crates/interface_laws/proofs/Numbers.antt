@@ -2,11 +2,23 @@
 use mathlib.Core.Path.{_≡_, refl, sym, ap, _∙_}
 use mathlib.Core.List.{List}
 use mathlib.Core.Bool.{Bool, true, false, cond}
-use Prim.Native.Nat.{ℕ, _%_, _≤_}
+use Prim.Native.Nat.{ℕ, _%_, _≤_, _<_}
 use native.Mathlib.Omega.{arith}
 use lib.ListN.{length}
-use lib.Dec.{ltb}
+use lib.Dec.{ltb, lit<}
 use borrow.Author.Tests.{ne-eqb}
+use Rattle.records.specs.Kinds.{kindOf, sizeOf}
+use Rattle.reader.specs.Read.{readAt, readNumber}
+use Rattle.reader.specs.declared.Read.{Read}
+use Rattle.reader.specs.declared.Read.the-variants.{Whole, Unknown, Cut, Nothing as Absent}
+use Rattle.reader.specs.declared.Found.{Found}
+use Rattle.reader.specs.declared.Found.the-variants.{It, Missing}
+use Rattle.writer.specs.Write.{answerOf}
+use Rattle.writer.specs.declared.Written.{Written}
+use Rattle.writer.specs.declared.Written.the-variants.{Length, Refused as WriteRefused}
+use Rattle.messages.specs.Message.{messageBytes, short, parse, parsedNumber}
+use Rattle.messages.specs.declared.Parsed.{Parsed}
+use Rattle.messages.specs.declared.Parsed.the-variants.{Whole as Message, Misshapen}
 use Rattle.rules.specs.Check.{verdictOf}
 use Rattle.rules.specs.declared.Verdict.{Verdict}
 use Rattle.rules.specs.declared.Verdict.the-variants.{Accepted, Refused as CheckRefused}
@@ -26,18 +38,20 @@ use Rattle.permits.specs.declared.Stepped.{Stepped}
 use Rattle.permits.specs.declared.Stepped.the-variants.{Turned as Turns, Bids, Waits, Refused as StepRefused}
 use Rattle.permits.specs.declared.Served.{Served}
 use Rattle.permits.specs.declared.Served.the-variants.{Sends, Waits as ServedWaits, Refused as ServeRefused}
-use Rattle.refusals.specs.Numbers.{verdictNumber}
-use Rattle.refusals.specs.Refusals.{InTable, CheckAnswer, CallAnswer, TurnAnswer, StepAnswer, ServeAnswer}
+use Rattle.refusals.specs.Numbers.{verdictNumber, writtenNumber}
+use Rattle.refusals.specs.Refusals.{InTable, CheckAnswer, WriteAnswer, CallAnswer, TurnAnswer, StepAnswer, ServeAnswer}
 use Rattle.refusals.proofs.Refusals.{refusals}
 use Rattle.device_bytes.specs.Device.{deviceBytes, deviceOf}
 use Rattle.party_bytes.specs.Module.{moduleBytes, moduleOf}
 use Rattle.party_bytes.specs.Supervisor.{supervisorBytes, supervisorOf}
 use Rattle.packing.specs.Answer.{packed, verdictAnswer, calledAnswer, turnAnswer, turningAnswer, steppedAnswer, servedAnswer, startAnswer}
 use Rattle.packing.specs.Flow.{flowOf}
+use Rattle.plan_interface.specs.Records.{readBy, recordBy, writtenAnswer, writeBy}
+use Rattle.plan_interface.specs.Messages.{messageKind, parsedAnswer, messageBy, writeParsed}
 use Rattle.device_interface.specs.Calls as Device
 use Rattle.module_interface.specs.Calls as Module
 use Rattle.supervisor_interface.specs.Calls as Supervisor
-use Rattle.interface_laws.specs.Laws.{numberOf, startNumber, SameNumbers}
+use Rattle.interface_laws.specs.Laws.{numberOf, startNumber, recordNumber, messageNumber, SameNumbers}
 
 -- what is done has the number 0, and what is refused its own
 pub accepted : (d v s : ℕ) → packed 0 d v s % 256 ≡ 0
@@ -52,6 +66,45 @@ verdict-number : (a : Verdict) → CheckAnswer a → verdictAnswer a % 256 ≡ v
 unfolding verdictAnswer
 verdict-number Accepted h = accepted 0 0 0
 verdict-number (CheckRefused n o) h = number n o (h .numbered n o refl)
+
+-- ---- the calls on one record and on one message
+
+small : (n o : ℕ) → n < 256 → packed n 0 0 o % 256 ≡ n
+unfolding packed
+small n o h = omega arith
+
+read-number : (s : List ℕ) (at : ℕ) (x : Read) → readBy s at x % 256 ≡ readNumber x
+unfolding readBy
+read-number s at (Whole r n) = accepted 0 (kindOf r) (sizeOf r)
+read-number s at Unknown = small 2 _ (lit< tt)
+read-number s at Cut = small 3 _ (lit< tt)
+read-number s at Absent = small 3 _ (lit< tt)
+
+written-number : (a : Written) → WriteAnswer a → writtenAnswer a % 256 ≡ writtenNumber a
+unfolding writtenAnswer
+written-number (Length n) h = accepted 0 0 n
+written-number (WriteRefused n o) h = number n o (h .numbered n o refl)
+
+record-number : (f : Found) (l : List ℕ) → numberOf (writeBy f l) ≡ recordNumber f l
+unfolding writeBy
+record-number (It r) l = written-number (answerOf r l) (refusals .writers .write r l .answer)
+record-number Missing l = small 5 0 (lit< tt)
+
+parsed-number : (p : Parsed) → parsedAnswer p % 256 ≡ parsedNumber p
+unfolding parsedAnswer
+parsed-number (Message g) = accepted 0 (messageKind g) (length (messageBytes g))
+parsed-number Misshapen = small 10 0 (lit< tt)
+
+message-number : (p : Parsed) (l : List ℕ) → numberOf (writeParsed p l) ≡ messageNumber p l
+unfolding writeParsed
+message-number (Message g) l = go (short (messageBytes g) l) refl
+  where
+    go : (t : Bool) → short (messageBytes g) l ≡ t → numberOf (writeParsed (Message g) l) ≡ cond (short (messageBytes g) l) 15 0
+    go true e = simp e (small 15 0 (lit< tt))
+    go false e = simp e (accepted 0 0 (length (messageBytes g)))
+message-number Misshapen l = small 10 0 (lit< tt)
+
+-- ---- the calls on states
 
 called-number : (a : Called) → CallAnswer a → calledAnswer a % 256 ≡ calledNumber a
 unfolding calledAnswer
@@ -98,6 +151,10 @@ pub same-numbers : SameNumbers
 same-numbers =
     record {
       check = λ image. verdict-number (verdictOf image) (refusals .checker .check image);
+      readRecord = λ s at. read-number s at (readAt s at);
+      writeRecord = λ k a b c d w l. record-number (recordBy k a b c d w) l;
+      readMessage = λ g. parsed-number (parse g);
+      writeMessage = λ k a b e w l. message-number (messageBy k a b e w) l;
       deviceStart = λ image l. unfold Device.startBytes in start-number 592 (startCall image .answer) (deviceBytes (startCall image .device)) l (refusals .device .start image);
       deviceTurn = λ image s m. unfold Device.turnBytes in turning-number _ (refusals .device .turn image (deviceOf s) m .answer);
       deviceRespond = λ image s m e. unfold Device.respondBytes in called-number _ (refusals .device .respond image (deviceOf s) m e .answer);

@@ -7,7 +7,14 @@ use mathlib.Core.Bool.{true, false, cond}
 use lib.ListN.{length}
 use lib.Dec.{eqb, ltb}
 use lib.Ieee.{Float}
+use Rattle.reader.specs.Read.{readAt, readNumber}
 use Rattle.reader.specs.Walk.{recordsOf}
+use Rattle.reader.specs.declared.Found.{Found}
+use Rattle.reader.specs.declared.Found.the-variants.{It, Missing}
+use Rattle.writer.specs.Write.{answerOf}
+use Rattle.messages.specs.Message.{messageBytes, short, parse, parsedNumber}
+use Rattle.messages.specs.declared.Parsed.{Parsed}
+use Rattle.messages.specs.declared.Parsed.the-variants.{Whole, Misshapen}
 use Rattle.rules.specs.LookUp.{modulesOf, supervisorsOf}
 use Rattle.rules.specs.Check.{verdictOf}
 use Rattle.rules.specs.declared.Verdict.the-variants.{Accepted}
@@ -17,14 +24,14 @@ use Rattle.device.specs.Device.{startCall, turnCall, respondCall, tickCall}
 use Rattle.permits.specs.Numbers.{steppedNumber, servedNumber}
 use Rattle.permits.specs.Module.{moduleStart, moduleStep, moduleDeliver, moduleRespond, moduleTick}
 use Rattle.permits.specs.Supervisor.{supervisorStart, supervisorStep, supervisorDeliver}
-use Rattle.refusals.specs.Numbers.{verdictNumber}
+use Rattle.refusals.specs.Numbers.{verdictNumber, writtenNumber}
 use Rattle.device_bytes.specs.Device.{isDevice, deviceOf}
 use Rattle.party_bytes.specs.Module.{isModule, moduleOf}
 use Rattle.party_bytes.specs.Supervisor.{isSupervisor, supervisorOf}
 use Rattle.packing.specs.Answer.{Answer, refused}
 use Rattle.packing.specs.Flow.{flowOf}
-use Rattle.plan_interface.specs.Records.{checkAnswer, writeBytes}
-use Rattle.plan_interface.specs.Messages.{writeMessageBytes}
+use Rattle.plan_interface.specs.Records.{checkAnswer, readAnswer, recordBy, writeBytes}
+use Rattle.plan_interface.specs.Messages.{readMessageAnswer, messageBy, writeMessageBytes}
 use Rattle.device_interface.specs.Calls as Device
 use Rattle.module_interface.specs.Calls as Module
 use Rattle.supervisor_interface.specs.Calls as Supervisor
@@ -83,9 +90,22 @@ pub record NoState : Type 0 where
 abbrev pub startNumber : ℕ → ℕ → List ℕ → ℕ
 startNumber size n l = cond (eqb n 0) (cond (ltb (length l) size) 15 0) n
 
+-- the number of a written record, "A kind that is none is 5", and of a written message, "A kind that is none is 10"
+abbrev pub recordNumber : Found → List ℕ → ℕ
+recordNumber (It r) l = writtenNumber (answerOf r l)
+recordNumber Missing l = 5
+
+abbrev pub messageNumber : Parsed → List ℕ → ℕ
+messageNumber (Whole g) l = cond (short (messageBytes g) l) 15 0
+messageNumber Misshapen l = 10
+
 -- the number of an answer is the number of the call that it is made of
 pub record SameNumbers : Type 0 where
   pub check : (image : List ℕ) → checkAnswer image % 256 ≡ verdictNumber (verdictOf image)
+  pub readRecord : (s : List ℕ) (at : ℕ) → readAnswer s at % 256 ≡ readNumber (readAt s at)
+  pub writeRecord : (k a b c d w : ℕ) (l : List ℕ) → numberOf (writeBytes k a b c d w l) ≡ recordNumber (recordBy k a b c d w) l
+  pub readMessage : (g : List ℕ) → readMessageAnswer g % 256 ≡ parsedNumber (parse g)
+  pub writeMessage : (k a b e w : ℕ) (l : List ℕ) → numberOf (writeMessageBytes k a b e w l) ≡ messageNumber (messageBy k a b e w) l
   pub deviceStart : (image l : List ℕ) → numberOf (Device.startBytes image l) ≡ startNumber 592 (calledNumber (startCall image .answer)) l
   pub deviceTurn : (image s : List ℕ) (m : ℕ)
       → numberOf (Device.turnBytes image s m) ≡ turningNumber (turnCall image (deviceOf s) m .answer)
