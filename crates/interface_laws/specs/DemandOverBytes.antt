@@ -15,7 +15,8 @@ use Rattle.device_bytes.specs.Device.{deviceBytes, deviceOf}
 use Rattle.packing.specs.Flow.{flowOf}
 use Rattle.device_interface.specs.Calls as DeviceCalls
 use Rattle.module_interface.specs.Calls as ModuleCalls
-use Rattle.interface_laws.specs.Run.{sensorOf, litresOf, bytesRun, bytesStart, deviceBytesRun, deviceBytesStart, encoded, decoded, runAnswers, deviceAnswers}
+use Rattle.interface_laws.specs.Run.{sensorOf, litresOf, bytesRun, bytesStart, encoded, decoded, runAnswers}
+use Rattle.interface_laws.specs.Run.{deviceBytesRun, deviceBytesStart, deviceAnswers}
 use Rattle.interface_laws.specs.Compared.{bytesSeen, bytesFed, deviceBytesSeen}
 
 pub record OverBytes (image : List ℕ) (acts : List Act) : Type 0 where
@@ -23,7 +24,8 @@ pub record OverBytes (image : List ℕ) (acts : List Act) : Type 0 where
   -- order", all of it in numbers and bytes
   pub equal : bytesSeen image (bytesStart image) acts ≡ deviceBytesSeen image (deviceBytesStart image) (bytesFed image (bytesStart image) acts)
   -- every answer, and the bytes at the end, are those of the calls on states by value
-  pub calls : bytesRun image (bytesStart image) acts ≡ record { answers = runAnswers image (start image) acts; memory = encoded (run image (start image) acts) }
+  pub calls : bytesRun image (bytesStart image) acts
+      ≡ record { answers = runAnswers image (start image) acts; memory = encoded (run image (start image) acts) }
   -- and they are read as the states of which demand 3 holds
   pub states : decoded (bytesRun image (bytesStart image) acts .memory) ≡ run image (start image) acts
   pub demand : Demand3 image acts
@@ -31,7 +33,10 @@ pub record OverBytes (image : List ℕ) (acts : List Act) : Type 0 where
   -- bytes of its calls by value
   pub feeds : bytesFed image (bytesStart image) acts ≡ fed image (start image) acts
   pub device-calls : deviceBytesRun image (deviceBytesStart image) (bytesFed image (bytesStart image) acts)
-      ≡ record { answers = deviceAnswers image (startCall image .device) (fed image (start image) acts); memory = deviceBytes (deviceRun image (startCall image .device) (fed image (start image) acts)) }
+      ≡ record {
+        answers = deviceAnswers image (startCall image .device) (fed image (start image) acts);
+        memory = deviceBytes (deviceRun image (startCall image .device) (fed image (start image) acts));
+      }
   pub device-state : deviceOf (deviceBytesRun image (deviceBytesStart image) (bytesFed image (bytesStart image) acts) .memory)
       ≡ deviceRun image (startCall image .device) (fed image (start image) acts)
 

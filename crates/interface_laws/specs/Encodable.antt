@@ -1,5 +1,6 @@
 -- The state that a call leaves can be encoded if the state that it got can, and so can every starting state. Thus what one call leaves is what the
--- next one reads (`module-again`, `supervisor-again` and `device-again` of specs/Exact.antt). Of every image, whether accepted or not; a message is a list of bytes.
+-- next one reads (`module-again`, `supervisor-again` and `device-again` of specs/Exact.antt). Of every image, whether accepted or not; a message
+-- is a list of bytes.
 use Prim.Native.Nat.{ℕ}
 use mathlib.Core.List.{List}
 use Rattle.roundtrip.specs.Fits.{Bytes}
@@ -17,12 +18,15 @@ use Rattle.device_bytes.specs.Device.{DeviceEncodable}
 pub record AllEncodable : Type 0 where
   pub moduleStart : (image : List ℕ) (m : ℕ) → ModuleEncodable (moduleStart image m .state)
   pub moduleStep : (image : List ℕ) (m : ℕ) (x : Module) (b : List ℕ) → ModuleEncodable x → ModuleEncodable (moduleStep image m x b .state)
-  pub moduleDeliver : (image : List ℕ) (m : ℕ) (x : Module) (g : List ℕ) → Bytes g → ModuleEncodable x → ModuleEncodable (moduleDeliver image m x g .state)
+  pub moduleDeliver : (image : List ℕ) (m : ℕ) (x : Module) (g : List ℕ) → Bytes g → ModuleEncodable x
+      → ModuleEncodable (moduleDeliver image m x g .state)
   pub moduleRespond : (image : List ℕ) (m : ℕ) (x : Module) (e : ℕ) → ModuleEncodable x → ModuleEncodable (moduleRespond image m x e .state)
   pub moduleTick : (image : List ℕ) (m : ℕ) (x : Module) (f : Flow) → ModuleEncodable x → ModuleEncodable (moduleTick image m x f .state)
   pub supervisorStart : (image : List ℕ) (v : ℕ) → SupervisorEncodable (supervisorStart image v .state)
-  pub supervisorStep : (image : List ℕ) (v : ℕ) (y : Supervisor) (b : List ℕ) → SupervisorEncodable y → SupervisorEncodable (supervisorStep image v y b .state)
-  pub supervisorDeliver : (image : List ℕ) (v : ℕ) (y : Supervisor) (g : List ℕ) → SupervisorEncodable y → SupervisorEncodable (supervisorDeliver image v y g .state)
+  pub supervisorStep : (image : List ℕ) (v : ℕ) (y : Supervisor) (b : List ℕ) → SupervisorEncodable y
+      → SupervisorEncodable (supervisorStep image v y b .state)
+  pub supervisorDeliver : (image : List ℕ) (v : ℕ) (y : Supervisor) (g : List ℕ) → SupervisorEncodable y
+      → SupervisorEncodable (supervisorDeliver image v y g .state)
   pub deviceStart : (image : List ℕ) → DeviceEncodable (startCall image .device)
   pub deviceTurn : (image : List ℕ) (d : Device) (m : ℕ) → DeviceEncodable d → DeviceEncodable (turnCall image d m .device)
   pub deviceRespond : (image : List ℕ) (d : Device) (m e : ℕ) → DeviceEncodable d → DeviceEncodable (respondCall image d m e .device)

@@ -70,16 +70,19 @@ litresOf NoSensor = eighths 0
 
 -- the answer of a call on module m or supervisor v, whose state bytes are those that it leaves, with the messages w under way
 abbrev pub onModule : Memory → ℕ → Answer → List (List ℕ) → Given Memory
-onModule B m a w = record { answers = a ∷ []; memory = record { moduleAt = update (B .moduleAt) m (a .state); supervisorAt = B .supervisorAt; underWay = w } }
+onModule B m a w =
+    record { answers = a ∷ []; memory = record { moduleAt = update (B .moduleAt) m (a .state); supervisorAt = B .supervisorAt; underWay = w } }
 
 abbrev pub onSupervisor : Memory → ℕ → Answer → List (List ℕ) → Given Memory
-onSupervisor B v a w = record { answers = a ∷ []; memory = record { moduleAt = B .moduleAt; supervisorAt = update (B .supervisorAt) v (a .state); underWay = w } }
+onSupervisor B v a w =
+    record { answers = a ∷ []; memory = record { moduleAt = B .moduleAt; supervisorAt = update (B .supervisorAt) v (a .state); underWay = w } }
 
 unfoldable pub bytesDelivered : List ℕ → Memory → List ℕ → List (List ℕ) → Parsed → Given Memory
 bytesDelivered image B g w (Whole (Bid m v)) = onSupervisor B v (SupervisorCalls.deliverBytes image (B .supervisorAt v) v g) w
 bytesDelivered image B g w (Whole (Permit v m k)) = onModule B m (ModuleCalls.deliverBytes image (B .moduleAt m) m g) w
 bytesDelivered image B g w (Whole (Release m v e)) = onSupervisor B v (SupervisorCalls.deliverBytes image (B .supervisorAt v) v g) w
-bytesDelivered image B g w Misshapen = record { answers = []; memory = record { moduleAt = B .moduleAt; supervisorAt = B .supervisorAt; underWay = w } }
+bytesDelivered image B g w Misshapen =
+    record { answers = []; memory = record { moduleAt = B .moduleAt; supervisorAt = B .supervisorAt; underWay = w } }
 
 unfoldable pub bytesDeliveredAt : List ℕ → Memory → Option (Picked (List ℕ)) → Given Memory
 bytesDeliveredAt image B none = record { answers = []; memory = B }
