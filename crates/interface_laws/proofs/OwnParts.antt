@@ -29,7 +29,7 @@ use Rattle.water.specs.Water.{flowOk, noWater, waterOf, added, reached, waterZe
 use Rattle.water.specs.declared.Water.{Water}
 use Rattle.water.specs.declared.Flow.{Flow}
 use Rattle.water.specs.declared.Flow.the-variants.{Litres, NoSensor}
-use Rattle.modules.specs.Queue.{queueOf, full, withQueue, queued}
+use Rattle.modules.specs.Queue.{queueOf, full, withQueue}
 use Rattle.modules.specs.Procedure.{arriveAt, withOutputs, advanced, outputOn, outputOff, performed, tickOf, respondOf}
 use Rattle.modules.specs.Turn.{byResponse, byCommand, enabled, byChoice, turnOn, turnOf, startOwn, emptyOwn}
 use Rattle.modules.specs.Fits.{every, idleFits, stepFits, procedureFits, ownFits}

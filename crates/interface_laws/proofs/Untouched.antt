@@ -20,8 +20,8 @@ use Rattle.modules.specs.declared.Called.{Called}
 use Rattle.modules.specs.declared.Called.the-variants.{Done, Refused}
 use Rattle.device.specs.Device.{startCall}
 use Rattle.permits.specs.Numbers.{steppedNumber, servedNumber}
-use Rattle.permits.specs.Module.{moduleStart, moduleStep, moduleDeliver, moduleRespond, moduleTick}
-use Rattle.permits.specs.Supervisor.{supervisorStart, supervisorStep, supervisorDeliver}
+use Rattle.permits.specs.Module.{moduleStart, moduleStep}
+use Rattle.permits.specs.Supervisor.{supervisorStart, supervisorStep}
 use Rattle.refusals.proofs.Refusals.{refusals}
 use Rattle.device_bytes.specs.Device.{deviceBytes}
 use Rattle.party_bytes.specs.Module.{moduleBytes, moduleOf}

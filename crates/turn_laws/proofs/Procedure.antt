@@ -9,7 +9,7 @@ use lib.Ieee.Fits.{and-i}
 use borrow.Author.Tests.{eqb-true, eq-eqb}
 use denote.Floats.{passes as holds}
 use Rattle.records.specs.Range.{operandInRange}
-use Rattle.litres.specs.Eighths.{count, targetOk}
+use Rattle.litres.specs.Eighths.{targetOk}
 use Rattle.records.specs.declared.Record.{Record}
 use Rattle.rules.specs.LookUp.{found, moduleState, ownerOf}
 use Rattle.plan.specs.Plan.{ownEvent, stepIn, operationOf, operandOf}
