@@ -1,21 +1,31 @@
--- The choice of a step, from what the code is told: adjacent are the neighbours, l says whether a permit is missing, w
--- whether the module has a wish.
+-- The choice of a step, from what the code is told: adjacent are the neighbours, l says whether a permit is missing.
 use mathlib.Core.Path.{_≡_, refl, sym, ap, ap₂, _∙_}
 use mathlib.Core.List.{List}
 use mathlib.Core.Option.{Option, none, some}
 use mathlib.Core.Bool.{Bool, true, false, not, _||_, true≢false}
 use Prim.Native.Nat.{ℕ}
 use lib.Dec.{eqb}
+use borrow.Author.Tests.{not-true, not-false}
 use Rattle.bits.specs.Bit.{isSome, optionOf}
 use Rattle.bits.specs.declared.Maybe.{Maybe}
 use Rattle.bits.specs.declared.Maybe.the-variants.{Just, Nothing}
 use Rattle.records.specs.declared.Record.{Record}
 use Rattle.plan.specs.Plan.{neighbours}
+use Rattle.modules.specs.declared.Own.{Own}
 use Rattle.modules.specs.Turn.{wish}
 use Rattle.permits.specs.Module.{missingIn, missing, heldIn, heldFits, Choice, takesTurn, waits, bidsTo, choiceOn, choice}
 use Rattle.permits.specs.declared.Module.{Module}
 use Rattle.holding.specs.Lacking.{Lacking}
 use Rattle.holding.proofs.Held.{missing-is}
+
+-- ---- a wish, or another reason
+
+module _ (rs : List Record) (m : ℕ) (sure : Bool) (own : Own) where
+  pub sure-by : sure ≡ true → true ≡ (sure || wish rs m own)
+  sure-by p = ap (λ (b : Bool). b || wish rs m own) (sym p)
+
+  pub wish-by : {w : Bool} → sure ≡ false → w ≡ wish rs m own → w ≡ (sure || wish rs m own)
+  wish-by p e = e ∙ ap (λ (b : Bool). b || wish rs m own) (sym p)
 
 -- ---- the choice
 
@@ -33,50 +43,63 @@ rests none false true b h p q = absurd (true≢false q)
 rests none false false b h p q = refl
 rests (some v) n w b h p q = absurd (true≢false p)
 
-stands : (o : Option ℕ) (n w b h : Bool) → isSome o ≡ true → (b || not (h || w)) ≡ true → waits ≡ choiceOn o n w b h
+stands : (o : Option ℕ) (n w h : Bool) → isSome o ≡ true → waits ≡ choiceOn o n w true h
 unfolding choiceOn
-stands none n w b h p q = absurd (true≢false (sym p))
-stands (some v) n w true h p q = refl
-stands (some v) n w false true p q = absurd (true≢false (sym q))
-stands (some v) n true false false p q = absurd (true≢false (sym q))
-stands (some v) n false false false p q = refl
+stands none n w h p = absurd (true≢false (sym p))
+stands (some v) n w h p = refl
 
-bids : (v : ℕ) (n w b h : Bool) → (b || not (h || w)) ≡ false → bidsTo v ≡ choiceOn (some v) n w b h
+idles : (o : Option ℕ) (n w b h : Bool) → isSome o ≡ true → (h || w) ≡ false → waits ≡ choiceOn o n w b h
 unfolding choiceOn
-bids v n w true h q = absurd (true≢false q)
-bids v n w false true q = refl
-bids v n true false false q = refl
-bids v n false false false q = absurd (true≢false q)
+idles none n w b h p q = absurd (true≢false (sym p))
+idles (some v) n w true h p q = refl
+idles (some v) n w false true p q = absurd (true≢false q)
+idles (some v) n true false false p q = absurd (true≢false q)
+idles (some v) n false false false p q = refl
 
-module _ (rs : List Record) (m adjacent : ℕ) (x : Module) {w : Bool} (e : adjacent ≡ neighbours rs m) (g : w ≡ wish rs m (x .own)) where
+bids : (v : ℕ) (n w h : Bool) → (h || w) ≡ true → bidsTo v ≡ choiceOn (some v) n w false h
+unfolding choiceOn
+bids v n w true q = refl
+bids v n true false q = refl
+bids v n false false q = absurd (true≢false (sym q))
+
+module _ (rs : List Record) (m adjacent : ℕ) (x : Module) (e : adjacent ≡ neighbours rs m) where
   abbrev lowest : Option ℕ
   lowest = missing rs m (x .held)
 
-  -- the choice by the code's numbers
-  abbrev by : Option ℕ → Choice
-  by o = choiceOn o (not (eqb adjacent 0)) w (x .bid) (not (eqb (x .held) 0))
+  abbrev wishes : Bool
+  wishes = wish rs m (x .own)
 
-  by-is : by lowest ≡ choice rs m x
+  -- the choice by the code's numbers, with a bid outstanding or not
+  abbrev by : Option ℕ → Bool → Choice
+  by o b = choiceOn o (not (eqb adjacent 0)) wishes b (not (eqb (x .held) 0))
+
+  by-is : by lowest (x .bid) ≡ choice rs m x
   unfolding choice
-  by-is = ap₂ (λ (n : ℕ) (b : Bool). choiceOn lowest (not (eqb n 0)) b (x .bid) (not (eqb (x .held) 0))) e g
+  by-is = ap (λ (n : ℕ). choiceOn lowest (not (eqb n 0)) wishes (x .bid) (not (eqb (x .held) 0))) e
 
-  pub bid-by : {r : Maybe} {v : ℕ} → optionOf r ≡ missingIn adjacent (x .held) → r ≡ Just v → (x .bid || not (not (eqb (x .held) 0) || w)) ≡ false → bidsTo v ≡ choice rs m x
-  bid-by {v = v} h t q =
-      bids v (not (eqb adjacent 0)) w (x .bid) (not (eqb (x .held) 0)) q ∙ ap by (ap optionOf (sym t) ∙ h ∙ missing-is adjacent (x .held) rs m e) ∙ by-is
+  -- w is whether a permit is held or there is a wish
+  pub bid-by : {w : Bool} {r : Maybe} {v : ℕ} → x .bid ≡ false → w ≡ (not (eqb (x .held) 0) || wish rs m (x .own)) → not w ≡ false
+      → optionOf r ≡ missingIn adjacent (x .held) → r ≡ Just v → bidsTo v ≡ choice rs m x
+  bid-by {w} {v = v} p g q h t =
+      bids v (not (eqb adjacent 0)) wishes (not (eqb (x .held) 0)) (sym g ∙ not-false w q)
+      ∙ ap₂ by (ap optionOf (sym t) ∙ h ∙ missing-is adjacent (x .held) rs m e) (sym p) ∙ by-is
 
-  module _ {l : Bool} (u : heldFits rs m (x .held) ≡ true)
-      (f : Lacking adjacent (x .held) l) where
+  module _ {l : Bool} (u : heldFits rs m (x .held) ≡ true) (f : Lacking adjacent (x .held) l) where
     is : isSome lowest ≡ l
     is = sym (f .is (ap (λ (n : ℕ). heldIn n (x .held)) e ∙ u) ∙ ap isSome (missing-is adjacent (x .held) rs m e))
 
-    pub turn-by : l ≡ false → (not (eqb adjacent 0) || w) ≡ true → takesTurn ≡ choice rs m x
-    turn-by p q = turns lowest (not (eqb adjacent 0)) w (x .bid) (not (eqb (x .held) 0)) (is ∙ p) q ∙ by-is
+    -- here w is whether there are neighbours or a wish
+    pub turn-by : {w : Bool} → l ≡ false → w ≡ (not (eqb adjacent 0) || wish rs m (x .own)) → w ≡ true → takesTurn ≡ choice rs m x
+    turn-by p g q = turns lowest (not (eqb adjacent 0)) wishes (x .bid) (not (eqb (x .held) 0)) (is ∙ p) (sym g ∙ q) ∙ by-is
 
-    pub rest-by : l ≡ false → (not (eqb adjacent 0) || w) ≡ false → waits ≡ choice rs m x
-    rest-by p q = rests lowest (not (eqb adjacent 0)) w (x .bid) (not (eqb (x .held) 0)) (is ∙ p) q ∙ by-is
+    pub rest-by : {w : Bool} → l ≡ false → w ≡ (not (eqb adjacent 0) || wish rs m (x .own)) → w ≡ false → waits ≡ choice rs m x
+    rest-by p g q = rests lowest (not (eqb adjacent 0)) wishes (x .bid) (not (eqb (x .held) 0)) (is ∙ p) (sym g ∙ q) ∙ by-is
 
-    pub stand-by : l ≡ true → (x .bid || not (not (eqb (x .held) 0) || w)) ≡ true → waits ≡ choice rs m x
-    stand-by p q = stands lowest (not (eqb adjacent 0)) w (x .bid) (not (eqb (x .held) 0)) (is ∙ p) q ∙ by-is
+    pub stand-by : l ≡ true → x .bid ≡ true → waits ≡ choice rs m x
+    stand-by p q = stands lowest (not (eqb adjacent 0)) wishes (not (eqb (x .held) 0)) (is ∙ p) ∙ ap (by lowest) (sym q) ∙ by-is
+
+    pub idle-by : {w : Bool} → l ≡ true → w ≡ (not (eqb (x .held) 0) || wish rs m (x .own)) → not w ≡ true → waits ≡ choice rs m x
+    idle-by {w} p g q = idles lowest (not (eqb adjacent 0)) wishes (x .bid) (not (eqb (x .held) 0)) (is ∙ p) (sym g ∙ not-true w q) ∙ by-is
 
     -- where a permit is missing there is a lowest
     pub none-by : {r : Maybe} → l ≡ true → optionOf r ≡ missingIn adjacent (x .held) → r ≡ Nothing → waits ≡ choice rs m x

@@ -1,16 +1,18 @@
 // The module's step on many devices: definitions in permits/specs/Module.antt.
 ghost use mathlib.Core.Path.{_≡_};
 ghost use mathlib.Core.List.{List};
-ghost use mathlib.Core.Bool.{true};
+ghost use mathlib.Core.Bool.{true, _||_};
 ghost use Rattle.places.specs.Places.{recordsBy};
 ghost use Rattle.records.specs.declared.Record.{Record};
 ghost use Rattle.plan.specs.Plan.{neighbours};
+ghost use Rattle.modules.specs.Turn.{wish};
 ghost use Rattle.permits.specs.Module.{heldFits, choice, takesTurn, bidsTo, stepIn, moduleStep};
 ghost use Rattle.permits.specs.Step.{Gave};
 ghost use Rattle.module_steps.specs.Choice.{choiceOf};
 use bits::Maybe;
 use checker::Examined;
 use messages::Message;
+use modules::Own;
 use permits::Module;
 use permits::ModuleStepped;
 use permits::Stepped;
@@ -32,6 +34,16 @@ fn step_refused(x: Module, n: u8, at: usize) -> ModuleStepped
     }
 }
 
+// Whether the module is to go on: for another reason, or else by a wish, which is looked for only then.
+fn wants(image: &[u8], places: Places, m: u8, sure: bool, own: Own) -> bool
+    ensures { λ r. ⌜ r ≡ (sure || wish (recordsBy (now (image .entry)) places) m own) ⌝ }
+{
+    if sure {
+        return true;
+    }
+    turns::wish(image, places, m, own)
+}
+
 fn choose(image: &[u8], places: Places, m: u8, adjacent: u32, x: Module) -> Chosen
     requires { ⌜ adjacent ≡ neighbours (recordsBy (now image) places) m ⌝ }
     requires { ⌜ heldFits (recordsBy (now image) places) m (x .held) ≡ true ⌝ }
@@ -39,10 +51,11 @@ fn choose(image: &[u8], places: Places, m: u8, adjacent: u32, x: Module) -> Chos
 {
     let own = x.own;
     let held = x.held;
-    let bid = x.bid;
-    let wish = turns::wish(image, places, m, own);
     if holding::lacks(adjacent, held) {
-        if bid | !((held != 0) | wish) {
+        if x.bid {
+            return Chosen::Wait;
+        }
+        if !wants(image, places, m, held != 0, own) {
             return Chosen::Wait;
         }
         let Maybe::Just(v) = holding::missing(adjacent, held) else {
@@ -50,7 +63,7 @@ fn choose(image: &[u8], places: Places, m: u8, adjacent: u32, x: Module) -> Chos
         };
         Chosen::Bid(v)
     } else {
-        if (adjacent != 0) | wish {
+        if wants(image, places, m, adjacent != 0, own) {
             Chosen::Turn
         } else {
             Chosen::Wait

@@ -1,16 +1,19 @@
-use Rattle.module_steps.proofs.Choosing.{turn-by, rest-by, stand-by, bid-by, none-by}
+use Rattle.module_steps.proofs.Choosing.{turn-by, rest-by, stand-by, idle-by, bid-by, none-by}
 use borrow.Author.Needs.{needs}
 use Rattle.module_steps.proofs.choose.Statement.{statement}
 use Rattle.module_steps.proofs.choose.Tie as tie
-
-wish-requires : tie.Need-wish-requires
-wish-requires c κs = search needs
 
 lacks-requires : tie.Need-lacks-requires
 lacks-requires c κs = search needs
 
 returns : tie.Need-returns
 returns c = search stand-by
+
+wants-requires : tie.Need-wants-requires
+wants-requires c κs = search needs
+
+returns-2 : tie.Need-returns-2
+returns-2 c = search idle-by
 
 missing-requires : tie.Need-missing-requires
 missing-requires c κs = search needs
@@ -21,29 +24,34 @@ enum-known-v c = search needs
 enum-told : tie.Need-enum-told
 enum-told c = search needs
 
-returns-2 : tie.Need-returns-2
-returns-2 c = search none-by
-
 returns-3 : tie.Need-returns-3
-returns-3 c = search bid-by
+returns-3 c = search none-by
+
+wants-requires-2 : tie.Need-wants-requires-2
+wants-requires-2 c κs = search needs
 
 returns-4 : tie.Need-returns-4
-returns-4 c = search turn-by
+returns-4 c = search bid-by
 
 returns-5 : tie.Need-returns-5
-returns-5 c = search rest-by
+returns-5 c = search turn-by
+
+returns-6 : tie.Need-returns-6
+returns-6 c = search rest-by
 
 pub choose-spec : {M : Type 1} → statement M
 choose-spec =
     tie.close
     (tie.spec
-    wish-requires
     lacks-requires
     returns
+    wants-requires
+    returns-2
     missing-requires
     enum-known-v
     enum-told
-    returns-2
     returns-3
+    wants-requires-2
     returns-4
-    returns-5)
+    returns-5
+    returns-6)
