@@ -5,8 +5,10 @@ use mathlib.Core.Bool.{Bool, true, false, cond, not}
 use Prim.Native.Nat.{ℕ, _*_, _≤_, _<_}
 use native.Mathlib.Omega.{arith}
 use lib.Count.{ones}
+use lib.Dec.{lit≤}
 use lib.ListN.{length}
-use borrow.Author.Tests.{le-ltb, not-true, not-false}
+use borrow.Author.Tests.{lt-ltb, le-ltb, not-true, not-false}
+use Rattle.bits.proofs.Mask.{mask-small}
 use Rattle.records.specs.declared.Record.{Record}
 use Rattle.rules.specs.LookUp.{modulesOf}
 use Rattle.rules.specs.declared.Verdict.the-variants.{Accepted as IsAccepted}
@@ -24,7 +26,7 @@ use Rattle.messages.specs.Message.{messageBytes, short, written}
 use Rattle.messages.specs.Write.{Wrote}
 use Rattle.messages.specs.declared.Message.the-variants.{Bid}
 use Rattle.messages.proofs.Writing.{start-fits, put-start, put-short}
-use Rattle.permits.specs.Module.{fitsIn, takesTurn, bidsTo, choice, turnTaken, afterTurn, sentBy, answerBy, stateBy, StepCall, stepRefused, stepIn, stepBy, moduleStep}
+use Rattle.permits.specs.Module.{fitsIn, releases, takesTurn, bidsTo, choice, turnTaken, afterTurn, sentBy, answerBy, stateBy, StepCall, stepRefused, stepIn, stepBy, moduleStep}
 use Rattle.permits.specs.Step.{bytesOfMessages, Gave}
 use Rattle.permits.specs.declared.Module.{Module}
 use Rattle.permits.specs.declared.ModuleStepped.{ModuleStepped}
@@ -35,7 +37,7 @@ use Rattle.module_steps.specs.Choice.{choiceOf}
 use Rattle.module_steps.specs.declared.Chosen.{Chosen}
 use Rattle.module_steps.specs.declared.Chosen.the-variants.{Turn as ChosenTurn, Bid as ChosenBid, Wait}
 use Rattle.releasing.specs.Released.{releaseBytes, Released}
-use Rattle.releasing.proofs.Releasing.{sent-count}
+use Rattle.releasing.proofs.Releasing.{to-neighbours, sent-count}
 use Rattle.holding.proofs.Judged.{lacking, unfit, fit}
 
 refuses : (x : Module) (b : List ℕ) (n o : ℕ) {r : ModuleStepped} → r ≡ (record { answer = StepRefused n o; state = x }) → Gave (stepRefused x b n o) (r .answer) (r .state) b
@@ -47,34 +49,44 @@ turned-round false t e = ap not (sym e)
 
 -- ---- a turn: f is whether its releases were written
 
-module _ (rs : List Record) (m : ℕ) (x : Module) (b : List ℕ) {t : Turned} {f : Bool} {after : List ℕ} (e : t ≡ turnOf rs m (x .received) (x .own)) (w : Released rs m (t .turn) b f after) where
+module _ (rs : List Record) (m adjacent : ℕ) (x : Module) (b : List ℕ) {t : Turned} {f : Bool} {after : List ℕ} (e : t ≡ turnOf rs m (x .received) (x .own)) (q : adjacent ≡ neighbours rs m)
+    (w : Released rs m adjacent (t .turn) b f after) where
   did : t .turn ≡ turnTaken rs m x .turn
   did = ap (λ (y : Turned). y .turn) e
 
-  wrote : Released rs m (turnTaken rs m x .turn) b f after
-  wrote = subst (λ (d : Turn). Released rs m d b f after) did w
-
   abbrev released : List ℕ
-  released = releaseBytes rs m (turnTaken rs m x .turn)
+  released = bytesOfMessages (releases rs m (turnTaken rs m x .turn) 32)
+
+  bytes-are : releaseBytes rs m adjacent (t .turn) ≡ released
+  bytes-are =
+      ap₂ (λ (n : ℕ) (d : Turn). releaseBytes rs m n d) q did ∙ ap bytesOfMessages (to-neighbours rs m (turnTaken rs m x .turn) 32)
 
   room : short released b ≡ not f
-  room = turned-round (short released b) f (wrote .answer)
+  room = turned-round (short released b) f (w .answer ∙ ap (λ (l : List ℕ). not (short l b)) bytes-are)
+
+  wrote : after ≡ cond f (written released b) b
+  wrote = w .buffer ∙ ap (λ (l : List ℕ). cond f (written l b) b) bytes-are
+
+  count : length released ≡ 4 * ones (neighbours rs m)
+  count =
+      ap length (sym (ap bytesOfMessages (to-neighbours rs m (turnTaken rs m x .turn) 32)))
+      ∙ sent-count rs m (neighbours rs m) (turnTaken rs m x .turn) (mask-small _ 32 32 (lit≤ tt))
 
   pub turn-short : {r : ModuleStepped} → f ≡ false → r ≡ (record { answer = StepRefused 15 0; state = x }) → Gave (stepIn rs m x b takesTurn) (r .answer) (r .state) after
   unfolding stepIn sentBy
   turn-short {r} h g =
       simp (room ∙ ap not h)
-      (subst (Gave (stepRefused x b 15 0) (r .answer) (r .state)) (sym (wrote .buffer ∙ ap (λ (y : Bool). cond y (written released b) b) h)) (refuses x b 15 0 g))
+      (subst (Gave (stepRefused x b 15 0) (r .answer) (r .state)) (sym (wrote ∙ ap (λ (y : Bool). cond y (written released b) b) h)) (refuses x b 15 0 g))
 
-  pub turn-taken : {adjacent n : ℕ} → f ≡ true → adjacent ≡ neighbours rs m → n ≡ 4 * ones adjacent
+  pub turn-taken : {n : ℕ} → f ≡ true → n ≡ 4 * ones adjacent
       → Gave (stepIn rs m x b takesTurn) (Turns (t .turn) n) (record { own = t .own; held = 0; received = 0; bid = x .bid }) after
   unfolding stepIn sentBy answerBy stateBy
-  turn-taken h q g =
+  turn-taken h g =
       simp (room ∙ ap not h)
       (record {
-        answer = ap₂ (λ (y : Turn) (k : ℕ). Turns y k) did (g ∙ ap (λ (k : ℕ). 4 * ones k) q ∙ sym (sent-count rs m (turnTaken rs m x .turn)));
+        answer = ap₂ (λ (y : Turn) (k : ℕ). Turns y k) did (g ∙ ap (λ (k : ℕ). 4 * ones k) q ∙ sym count);
         state = ap (λ (y : Turned). afterTurn x (y .own)) e;
-        buffer = wrote .buffer ∙ ap (λ (y : Bool). cond y (written released b) b) h;
+        buffer = wrote ∙ ap (λ (y : Bool). cond y (written released b) b) h;
       })
 
 -- ---- a bid: t is what the writer of messages answered

@@ -86,7 +86,7 @@ fn take_turn(
     let own = x.own;
     let t = turns::turn(image, places, m, x.received, own);
     let did = t.turn;
-    if releasing::release(image, places, m, did, &mut *buffer) {
+    if releasing::release(image, places, m, adjacent, did, &mut *buffer) {
         let n = releasing::length_of(adjacent);
         let after = t.own;
         let mut state = x;

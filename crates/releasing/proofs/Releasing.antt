@@ -2,34 +2,36 @@
 use mathlib.Core.Path.{_≡_, refl, sym, ap, ap₂, _∙_}
 use mathlib.Core.List.{List, [], _∷_, _++_, append-nil}
 use mathlib.Core.Bool.{Bool, true, false, cond, not}
-use Prim.Native.Nat.{ℕ, zero, suc, _+_, _*_, _≤_, _<_}
+use Prim.Native.Nat.{ℕ, zero, suc, _+_, _*_, _/_, _^_, _≤_, _<_}
+use native.Mathlib.Nat.{div-lt-iff-lt-mul}
 use native.Mathlib.Decide.{le-ind}
 use native.Mathlib.Numerals.{add-one}
 use native.Mathlib.Omega.{arith}
 use lib.Count.{ones, onesIn}
 use lib.Dec.{lit≤}
+use lib.Pow.{pow-pos}
 use lib.ListN.{length, drop, length-append, length-drop}
 use lib.Seq.{take-append-seam, drop-append-add, drop-drop}
 use borrow.Author.Tests.{lt-ltb, le-ltb}
 use types.Run.{OneOf, miss}
 use denote.Enum.Declared.{tagOf}
 use Rattle.bits.specs.Bit.{bit}
-use Rattle.bits.proofs.Laws.{ones-in}
-use Rattle.bits.proofs.Mask.{mask-small}
+use Rattle.bits.proofs.Laws.{bit-above, ones-in}
 use Rattle.records.specs.declared.Record.{Record}
-use Rattle.plan.specs.Plan.{inAlphabet, neighbours, neighbourCount}
+use Rattle.plan.specs.Plan.{inAlphabet, neighbours}
 use Rattle.modules.specs.declared.Turn.{Turn}
 use Rattle.modules.specs.declared.Turn.the-variants.{Event, Stray, Nothing}
 use Rattle.modules.proofs.Turn.{the-type}
 use Rattle.messages.specs.Message.{noEvent, messageBytes, written, fitsAt, putAt}
 use Rattle.messages.specs.Write.{Wrote}
+use Rattle.messages.specs.declared.Message.{Message}
 use Rattle.messages.specs.declared.Message.the-variants.{Release}
 use Rattle.messages.proofs.Writing.{fits}
 use Rattle.permits.specs.Module.{eventFor, releases}
 use Rattle.permits.specs.Step.{bytesOfMessages}
 use Rattle.permits.proofs.Stepping.{bytes-append}
 use Rattle.holding.proofs.Held.{ones-top}
-use Rattle.releasing.specs.Released.{Released}
+use Rattle.releasing.specs.Released.{releasesTo, Released}
 
 -- ---- the event that a release carries
 
@@ -68,50 +70,60 @@ written-more p q b h =
     (ap₂ (λ (x y : List ℕ). x ++ q ++ y) (take-append-seam p (drop (length p) b)) (drop-append-add p (drop (length p) b) (length q) ∙ drop-drop (length q) (length p) b)
     ∙ ap (λ (n : ℕ). p ++ q ++ drop n b) (sym (length-append p q)))
 
-module _ (rs : List Record) (m : ℕ) (t : Turn) where
-  -- the releases to the neighbours below v, and the one to v
+-- with the mask of the neighbours they are the releases of the turn
+pub to-neighbours : (rs : List Record) (m : ℕ) (t : Turn) (n : ℕ) → releasesTo rs m (neighbours rs m) t n ≡ releases rs m t n
+unfolding releasesTo releases
+to-neighbours rs m t zero = refl
+to-neighbours rs m t (suc n) = ap (λ (l : List Message). l ++ cond (bit (neighbours rs m) n) (Release m n (eventFor rs n t) ∷ []) []) (to-neighbours rs m t n)
+
+module _ (rs : List Record) (m adjacent : ℕ) (t : Turn) where
+  -- the releases to those below v, and the one to v
   abbrev pub sent : ℕ → List ℕ
-  sent v = bytesOfMessages (releases rs m t v)
+  sent v = bytesOfMessages (releasesTo rs m adjacent t v)
 
   abbrev one : ℕ → List ℕ
   one v = messageBytes (Release m v (eventFor rs v t))
 
-  sent-next : (v : ℕ) → sent (suc v) ≡ sent v ++ cond (bit (neighbours rs m) v) (one v) []
-  unfolding releases bytesOfMessages
+  sent-next : (v : ℕ) → sent (suc v) ≡ sent v ++ cond (bit adjacent v) (one v) []
+  unfolding releasesTo bytesOfMessages
   sent-next v =
-      bytes-append (releases rs m t v) (cond (bit (neighbours rs m) v) (Release m v (eventFor rs v t) ∷ []) [])
-      ∙ ap (λ (l : List ℕ). sent v ++ l) (go (bit (neighbours rs m) v))
+      bytes-append (releasesTo rs m adjacent t v) (cond (bit adjacent v) (Release m v (eventFor rs v t) ∷ []) [])
+      ∙ ap (λ (l : List ℕ). sent v ++ l) (go (bit adjacent v))
     where
       go : (b : Bool) → bytesOfMessages (cond b (Release m v (eventFor rs v t) ∷ []) []) ≡ cond b (one v) []
       go true = append-nil (one v)
       go false = refl
 
   -- each is of 4 bytes
-  sent-length : (v : ℕ) → length (sent v) ≡ 4 * onesIn v (neighbours rs m)
-  sent-length zero = unfold releases bytesOfMessages onesIn in refl
+  sent-length : (v : ℕ) → length (sent v) ≡ 4 * onesIn v adjacent
+  sent-length zero = unfold releasesTo bytesOfMessages onesIn in refl
   sent-length (suc v) =
       ap length (sent-next v) ∙ length-append (sent v) (cond b (one v) []) ∙ ap₂ _+_ (sent-length v) (go b)
-      ∙ (let e : 4 * onesIn v n + 4 * cond b 1 0 ≡ 4 * (onesIn v n + cond b 1 0) = omega arith in e) ∙ ap (λ (k : ℕ). 4 * k) (sym (ones-top v n))
+      ∙ (let e : 4 * onesIn v adjacent + 4 * cond b 1 0 ≡ 4 * (onesIn v adjacent + cond b 1 0) = omega arith in e)
+      ∙ ap (λ (k : ℕ). 4 * k) (sym (ones-top v adjacent))
     where
-      n : ℕ
-      n = neighbours rs m
-
       b : Bool
-      b = bit n v
+      b = bit adjacent v
 
       go : (c : Bool) → length (cond c (one v) []) ≡ 4 * cond c 1 0
       go true = unfold messageBytes in refl
       go false = refl
 
-  pub sent-count : length (sent 32) ≡ 4 * neighbourCount rs m
-  sent-count = sent-length 32 ∙ ap (λ (k : ℕ). 4 * k) (ones-in 32 (neighbours rs m) (mask-small _ 32 32 (lit≤ tt)))
+  pub sent-count : adjacent < 2 ^ 32 → length (sent 32) ≡ 4 * ones adjacent
+  sent-count h = sent-length 32 ∙ ap (λ (k : ℕ). 4 * k) (ones-in 32 adjacent h)
 
   sent-le : (v k : ℕ) → v ≤ k → length (sent v) ≤ length (sent k)
   sent-le v k h =
       le-ind (λ (j : ℕ). length (sent v) ≤ length (sent j)) (omega arith)
-      (λ j l i. let e : length (sent (suc j)) ≡ length (sent j) + length (cond (bit (neighbours rs m) j) (one j) []) = ap length (sent-next j) ∙ length-append (sent j) _ in omega arith) k h
+      (λ j l i. let e : length (sent (suc j)) ≡ length (sent j) + length (cond (bit adjacent j) (one j) []) = ap length (sent-next j) ∙ length-append (sent j) _ in omega arith) k h
 
-  -- the loop of `release` at v: the releases below are written
+  -- past the last of the mask there is none
+  sent-rest : (v k : ℕ) → v ≤ k → adjacent < 2 ^ v → sent k ≡ sent v
+  sent-rest v k h s =
+      le-ind (λ (j : ℕ). sent j ≡ sent v) refl
+      (λ j l i. sent-next j ∙ ap (λ (b : Bool). sent j ++ cond b (one j) []) (bit-above v adjacent j s l) ∙ append-nil (sent j) ∙ i) k h
+
+  -- the loop of `release_all` at v: the releases below are written
   pub record Going (b₀ b : List ℕ) (at v : ℕ) : Type 0 where
     pub below : v ≤ 32
     pub room : length (sent 32) ≤ length b₀
@@ -119,7 +131,7 @@ module _ (rs : List Record) (m : ℕ) (t : Turn) where
     pub bytes : b ≡ written (sent v) b₀
 
   pub begins : (b : List ℕ) → length (sent 32) ≤ length b → Going b b 0 0
-  begins b h = record { below = lit≤ tt; room = h; place = unfold releases bytesOfMessages in refl; bytes = unfold releases bytesOfMessages in refl }
+  begins b h = record { below = lit≤ tt; room = h; place = unfold releasesTo bytesOfMessages in refl; bytes = unfold releasesTo bytesOfMessages in refl }
 
   module _ (b₀ b : List ℕ) (at v : ℕ) (g : Going b₀ b at v) where
     pub long-by : length b ≡ length b₀
@@ -128,10 +140,16 @@ module _ (rs : List Record) (m : ℕ) (t : Turn) where
     pub done-by : 32 ≤ v → b ≡ written (sent 32) b₀
     done-by h = g .bytes ∙ ap (λ (k : ℕ). written (sent k) b₀) (let e : v ≡ 32 = omega arith in e)
 
-    -- a says whether v is a neighbour
-    module _ (adjacent : ℕ) {a : Bool} (e : adjacent ≡ neighbours rs m) (f : a ≡ bit adjacent v) (l : v < 32) where
+    pub rest-by : adjacent / 2 ^ v ≡ 0 → b ≡ written (sent 32) b₀
+    rest-by z =
+        let w : adjacent / 2 ^ v < 1 = omega arith in
+        let u : adjacent < 1 * 2 ^ v = div-lt-iff-lt-mul (pow-pos v) .0 w in
+        g .bytes ∙ ap (λ (l : List ℕ). written l b₀) (sym (sent-rest v 32 (g .below) (omega arith)))
+
+    -- a says whether the mask has v
+    module _ {a : Bool} (f : a ≡ bit adjacent v) (l : v < 32) where
       next : sent (v + 1) ≡ sent v ++ cond a (one v) []
-      next = ap sent (add-one v) ∙ sent-next v ∙ ap (λ (c : Bool). sent v ++ cond c (one v) []) (ap (λ (n : ℕ). bit n v) (sym e) ∙ sym f)
+      next = ap sent (add-one v) ∙ sent-next v ∙ ap (λ (c : Bool). sent v ++ cond c (one v) []) (sym f)
 
       module _ (h : a ≡ true) where
         more : sent (v + 1) ≡ sent v ++ one v
@@ -164,16 +182,16 @@ module _ (rs : List Record) (m : ℕ) (t : Turn) where
             bytes = p ∙ g .bytes ∙ ap (λ (l : List ℕ). written l b₀) (sym n);
           }
 
--- the room for all releases: n is 4 bytes for each neighbour
-module _ (rs : List Record) (m : ℕ) (t : Turn) (b : List ℕ) {adjacent n : ℕ} (e : adjacent ≡ neighbours rs m) (f : n ≡ 4 * ones adjacent) where
-  long : length (sent rs m t 32) ≡ n
-  long = sent-count rs m t ∙ ap (λ (k : ℕ). 4 * ones k) (sym e) ∙ sym f
+-- the room for all releases: n is 4 bytes for each
+module _ (rs : List Record) (m adjacent : ℕ) (t : Turn) (b : List ℕ) {n : ℕ} (s : adjacent < 2 ^ 32) (f : n ≡ 4 * ones adjacent) where
+  long : length (sent rs m adjacent t 32) ≡ n
+  long = sent-count rs m adjacent t s ∙ sym f
 
-  pub room-all : n ≤ length b → length (sent rs m t 32) ≤ length b
+  pub room-all : n ≤ length b → length (sent rs m adjacent t 32) ≤ length b
   room-all h = omega (arith, long)
 
-  pub released-none : length b < n → Released rs m t b false b
-  released-none h = record { answer = sym (ap not (lt-ltb (length b) (length (sent rs m t 32)) (omega (arith, long)))); buffer = refl }
+  pub released-none : length b < n → Released rs m adjacent t b false b
+  released-none h = record { answer = sym (ap not (lt-ltb (length b) (length (sent rs m adjacent t 32)) (omega (arith, long)))); buffer = refl }
 
-  pub released-all : {after : List ℕ} → n ≤ length b → after ≡ written (sent rs m t 32) b → Released rs m t b true after
-  released-all h g = record { answer = sym (ap not (le-ltb (length b) (length (sent rs m t 32)) (omega (arith, long)))); buffer = g }
+  pub released-all : {after : List ℕ} → n ≤ length b → after ≡ written (sent rs m adjacent t 32) b → Released rs m adjacent t b true after
+  released-all h g = record { answer = sym (ap not (le-ltb (length b) (length (sent rs m adjacent t 32)) (omega (arith, long)))); buffer = g }

@@ -4,12 +4,10 @@ ghost use Prim.Native.Nat.{_*_, _≤_};
 ghost use lib.Count.{ones};
 ghost use lib.ListN.{length};
 ghost use Rattle.places.specs.Places.{recordsBy};
-ghost use Rattle.plan.specs.Plan.{neighbours};
 ghost use Rattle.messages.specs.Message.{messageBytes, written, putAt};
 ghost use Rattle.messages.specs.declared.Message.the-variants.{Release};
-ghost use Rattle.permits.specs.Module.{eventFor, releases};
-ghost use Rattle.permits.specs.Step.{bytesOfMessages};
-ghost use Rattle.releasing.specs.Released.{Released};
+ghost use Rattle.permits.specs.Module.{eventFor};
+ghost use Rattle.releasing.specs.Released.{releaseBytes, Released};
 use messages::Message;
 use modules::Turn;
 use places::Places;
@@ -41,16 +39,19 @@ fn release_to(image: &[u8], places: Places, m: u8, v: u8, t: Turn, buffer: &mut 
     messages::write(g, &mut *buffer, at);
 }
 
-// The releases to all neighbours, in ascending order.
+// The releases to all supervisors of a mask, in ascending order.
 fn release_all(image: &[u8], places: Places, m: u8, adjacent: u32, t: Turn, buffer: &mut [u8])
-    requires { ⌜ adjacent ≡ neighbours (recordsBy (now image) places) m ⌝ }
-    requires { ⌜ length (bytesOfMessages (releases (recordsBy (now image) places) m t 32)) ≤ length (now buffer) ⌝ }
-    ensures { λ r. ⌜ now (buffer .exit) ≡ written (bytesOfMessages (releases (recordsBy (now (image .entry)) places) m t 32)) (now (buffer .entry)) ⌝ }
+    requires { ⌜ length (releaseBytes (recordsBy (now image) places) m adjacent t) ≤ length (now buffer) ⌝ }
+    ensures { λ r. ⌜ now (buffer .exit) ≡ written (releaseBytes (recordsBy (now (image .entry)) places) m adjacent t) (now (buffer .entry)) ⌝ }
 {
     let mask = adjacent as u64;
     let mut at: usize = 0;
     let mut v: u8 = 0;
     while v < 32 {
+        // Past the last of them nothing is left to write.
+        if mask >> v == 0 {
+            return;
+        }
         if bits::has(mask, v) {
             release_to(image, places, m, v, t, &mut *buffer, at);
             at += 4;
@@ -66,11 +67,17 @@ pub fn length_of(adjacent: u32) -> usize
     4 * u32::count_ones(adjacent) as usize
 }
 
-// The releases of a module's turn into the buffer, if there is room for them.
-pub fn release(image: &[u8], places: Places, m: u8, t: Turn, buffer: &mut [u8]) -> bool
-    ensures { λ r. ⌜ Released (recordsBy (now (image .entry)) places) m t (now (buffer .entry)) r (now (buffer .exit)) ⌝ }
+// The releases of a module's turn to the supervisors of a mask into the buffer, if there is room for them.
+pub fn release(
+    image: &[u8],
+    places: Places,
+    m: u8,
+    adjacent: u32,
+    t: Turn,
+    buffer: &mut [u8],
+) -> bool
+    ensures { λ r. ⌜ Released (recordsBy (now (image .entry)) places) m adjacent t (now (buffer .entry)) r (now (buffer .exit)) ⌝ }
 {
-    let adjacent = masks::neighbours(image, places, m);
     let n = length_of(adjacent);
     if buffer.len() < n {
         return false;
