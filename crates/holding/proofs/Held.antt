@@ -133,6 +133,9 @@ held-rest adjacent held v l z s = sym (is-true _ (all-of (fitsAt adjacent held) 
     each : (k : ℕ) → k < 32 → T (fitsAt adjacent held k)
     each k h = go k (ltb k v) refl
 
+pub held-none : (adjacent held : ℕ) → held ≡ 0 → true ≡ heldIn adjacent held
+held-none adjacent held z = held-rest adjacent held 0 (omega arith) (omega arith) (unfold allBelow in refl)
+
 -- ---- from what the code is told
 
 module _ (adjacent held : ℕ) (p : adjacent < 2 ^ 32) (q : held < 2 ^ 32) where

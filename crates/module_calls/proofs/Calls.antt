@@ -1,10 +1,11 @@
 -- The response, the tick and the start, from what the code is told.
-use mathlib.Core.Path.{_≡_, refl, ap, _∙_}
+use mathlib.Core.Path.{_≡_, refl, sym, ap, _∙_}
 use mathlib.Core.List.{List}
-use mathlib.Core.Bool.{Bool, true, false}
+use mathlib.Core.Bool.{Bool, true, false, not, _&&_, _||_, true≢false}
 use Prim.Native.Nat.{ℕ, _≤_, _<_}
 use native.Mathlib.Omega.{arith}
-use borrow.Author.Tests.{lt-ltb, le-ltb}
+use lib.Dec.{eqb}
+use borrow.Author.Tests.{lt-ltb, le-ltb, eqb-true}
 use Rattle.records.specs.declared.Record.{Record}
 use Rattle.reader.specs.Walk.{recordsOf}
 use Rattle.rules.specs.LookUp.{modulesOf}
@@ -21,11 +22,29 @@ use Rattle.modules.specs.declared.Replied.{Replied}
 use Rattle.modules.specs.declared.Called.{Called}
 use Rattle.modules.specs.declared.Called.the-variants.{Done}
 use Rattle.modules.specs.Procedure.{calledBy, respondOf, tickOf}
+use Rattle.modules.specs.Fits.{ownFits}
 use Rattle.water.specs.declared.Flow.{Flow}
-use Rattle.permits.specs.Module.{fitsIn, callRefused, withOwn, replyBy, emptyModule, startModule, startBy, moduleStart, moduleRespond, moduleTick}
+use Rattle.permits.specs.Module.{fitsIn, moduleFits, callRefused, withOwn, replyBy, emptyModule, startModule, startBy, moduleStart, moduleRespond, moduleTick}
 use Rattle.permits.specs.declared.Module.{Module}
 use Rattle.permits.specs.declared.ModuleCalled.{ModuleCalled}
+use Rattle.holding.proofs.Held.{held-none}
 use Rattle.holding.proofs.Judged.{lacking, unfit, fit}
+
+-- ---- the fit
+
+-- without permits and a bid it is the same with any neighbours
+module _ (rs : List Record) (m : ℕ) (x : Module) where
+  alike : (a b : Bool) → eqb (x .held) 0 ≡ a → x .bid ≡ b → (a && not b) ≡ true → (j : ℕ) → fitsIn rs m j x ≡ ((not (eqb (x .held) 0) || eqb (x .received) 0) && true && ownFits rs m (x .own))
+  unfolding fitsIn
+  alike true false h q t j = simp (sym (held-none j (x .held) (eqb-true (x .held) 0 h)), q)
+  alike true true h q t j = absurd (true≢false (sym t))
+  alike false b h q t j = absurd (true≢false (sym t))
+
+  pub fits-without : {t : Bool} → (eqb (x .held) 0 && not (x .bid)) ≡ true → t ≡ fitsIn rs m 0 x → t ≡ moduleFits rs m x
+  fits-without q f = f ∙ alike (eqb (x .held) 0) (x .bid) refl refl q 0 ∙ sym (alike (eqb (x .held) 0) (x .bid) refl refl q (neighbours rs m))
+
+  pub fits-with : {t : Bool} {adjacent : ℕ} → adjacent ≡ neighbours rs m → t ≡ fitsIn rs m adjacent x → t ≡ moduleFits rs m x
+  fits-with n f = f ∙ ap (λ (j : ℕ). fitsIn rs m j x) n
 
 -- ---- of an accepted plan
 
@@ -38,16 +57,16 @@ module _ (rs : List Record) (m : ℕ) (x : Module) {k : ℕ} {c : ModuleCalled} 
   unfolding replyBy
   reply-absent r l h = h ∙ lacking rs m x (replied x r) (callRefused x 9 0) (callRefused x 11 0) e l
 
-  module _ {t : Bool} {adjacent : ℕ} (l : m < k) (n : adjacent ≡ neighbours rs m) (f : t ≡ fitsIn rs m adjacent x) where
+  module _ {t : Bool} (l : m < k) (f : t ≡ moduleFits rs m x) where
     pub reply-unfit : (r : Replied) → t ≡ false → c ≡ callRefused x 9 0 → c ≡ replyBy IsAccepted rs m x r
     unfolding replyBy
-    reply-unfit r q h = h ∙ unfit rs m x (replied x r) (callRefused x 9 0) (callRefused x 11 0) e l n f q
+    reply-unfit r q h = h ∙ unfit rs m x (replied x r) (callRefused x 9 0) (callRefused x 11 0) e l refl f q
 
-pub reply-fit : (rs : List Record) (m : ℕ) (x : Module) (r : Replied) {k adjacent : ℕ} {a : Called} {t : Bool} → k ≡ modulesOf rs → m < k → adjacent ≡ neighbours rs m → t ≡ fitsIn rs m adjacent x → t ≡ true → a ≡ calledBy (r .reply)
+pub reply-fit : (rs : List Record) (m : ℕ) (x : Module) (r : Replied) {k : ℕ} {a : Called} {t : Bool} → k ≡ modulesOf rs → m < k → t ≡ moduleFits rs m x → t ≡ true → a ≡ calledBy (r .reply)
     → (record { answer = a; state = record { own = r .own; held = x .held; received = x .received; bid = x .bid } }) ≡ replyBy IsAccepted rs m x r
 unfolding replyBy
-reply-fit rs m x r e l n f q h =
-    ap (λ (y : Called). record { answer = y; state = withOwn x (r .own) }) h ∙ fit rs m x (replied x r) (callRefused x 9 0) (callRefused x 11 0) e l n f q
+reply-fit rs m x r e l f q h =
+    ap (λ (y : Called). record { answer = y; state = withOwn x (r .own) }) h ∙ fit rs m x (replied x r) (callRefused x 9 0) (callRefused x 11 0) e l refl f q
 
 -- ---- the image as it was examined
 

@@ -2,7 +2,7 @@
 ghost use mathlib.Core.Path.{_≡_};
 ghost use Rattle.places.specs.Places.{recordsBy};
 ghost use Rattle.rules.specs.declared.Verdict.the-variants.{Accepted};
-ghost use Rattle.permits.specs.Module.{replyBy, moduleRespond, moduleTick, startModule, moduleStart};
+ghost use Rattle.permits.specs.Module.{moduleFits, replyBy, moduleRespond, moduleTick, startModule, moduleStart};
 use checker::Examined;
 use modules::Called;
 use modules::Replied;
@@ -13,13 +13,23 @@ use water::Flow;
 
 // ---- a response and a tick
 
+// Whether the state fits the plan. Where no permit is held and no bid is out, the neighbours make no difference and are not looked for.
+fn fits(image: &[u8], places: Places, m: u8, x: Module) -> bool
+    ensures { λ r. ⌜ r ≡ moduleFits (recordsBy (now (image .entry)) places) m x ⌝ }
+{
+    if (x.held == 0) & !x.bid {
+        return holding::fits(image, places, m, 0, x);
+    }
+    let adjacent = masks::neighbours(image, places, m);
+    holding::fits(image, places, m, adjacent, x)
+}
+
 // The answer to the reply of the module's own part, and the state with it.
 fn replied(image: &[u8], places: Places, m: u8, x: Module, r: Replied) -> ModuleCalled
     ensures { λ c. ⌜ c ≡ replyBy Accepted (recordsBy (now (image .entry)) places) m x r ⌝ }
 {
     if m < plan::modules_of(image, places) {
-        let adjacent = masks::neighbours(image, places, m);
-        if holding::fits(image, places, m, adjacent, x) {
+        if fits(image, places, m, x) {
             let own = r.own;
             let reply = r.reply;
             let mut state = x;

@@ -6,9 +6,6 @@ use Rattle.module_calls.proofs.replied.Tie as tie
 modules-of-requires : tie.Need-modules-of-requires
 modules-of-requires c κs = search needs
 
-neighbours-requires : tie.Need-neighbours-requires
-neighbours-requires c κs = search needs
-
 fits-requires : tie.Need-fits-requires
 fits-requires c κs = search needs
 
@@ -35,7 +32,6 @@ replied-spec =
     tie.close
     (tie.spec
     modules-of-requires
-    neighbours-requires
     fits-requires
     answer-requires
     refused-requires
