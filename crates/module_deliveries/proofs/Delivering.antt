@@ -6,14 +6,18 @@ use mathlib.Core.Bool.{Bool, true, false, cond, not, _&&_, true≢false}
 use Prim.Native.Nat.{ℕ, _≤_, _<_}
 use native.Mathlib.Omega.{arith}
 use lib.Bits.{bitOr}
-use lib.Dec.{eqb}
-use borrow.Author.Tests.{eqb-true}
+use lib.Dec.{eqb, ltb}
+use borrow.Author.Tests.{lt-ltb, eqb-true}
 use Rattle.bits.specs.Bit.{bit, putBit, optionOf}
 use Rattle.bits.specs.declared.Maybe.{Maybe}
 use Rattle.bits.specs.declared.Maybe.the-variants.{Just, Nothing}
 use Rattle.bits.proofs.Least.{least-some}
+use Rattle.bits.proofs.Mask.{mask-bit}
 use Rattle.records.specs.declared.Record.{Record}
-use Rattle.rules.specs.LookUp.{modulesOf}
+use Rattle.reader.specs.Walk.{recordsOf}
+use Rattle.rules.specs.LookUp.{modulesOf, supervisorsOf}
+use Rattle.rules.specs.Check.{verdictOf}
+use Rattle.rules.specs.declared.Verdict.{Verdict}
 use Rattle.rules.specs.declared.Verdict.the-variants.{Accepted as IsAccepted}
 use Rattle.places.specs.declared.Places.{Places}
 use Rattle.places.specs.Places.{recordsBy}
@@ -21,14 +25,14 @@ use Rattle.checker.specs.Examined.{examinedOf}
 use Rattle.checker.specs.declared.Examined.{Examined}
 use Rattle.checker.specs.declared.Examined.the-variants.{Accepted, Refused}
 use Rattle.checker.proofs.Examining.{call-by, refused-call}
-use Rattle.plan.specs.Plan.{neighbours}
+use Rattle.plan.specs.Plan.{neighbour, neighbours}
 use Rattle.modules.specs.declared.Called.the-variants.{Done}
 use Rattle.messages.specs.Message.{parse}
 use Rattle.messages.specs.declared.Message.{Message}
 use Rattle.messages.specs.declared.Message.the-variants.{Bid, Permit, Release}
 use Rattle.messages.specs.declared.Parsed.{Parsed}
 use Rattle.messages.specs.declared.Parsed.the-variants.{Whole, Misshapen}
-use Rattle.permits.specs.Names.{named}
+use Rattle.permits.specs.Names.{neighbours?, named}
 use Rattle.permits.specs.Module.{missingIn, fitsIn, callRefused, isFor, bidWith, takenBy, deliverIn, absent, deliverBy, moduleDeliver}
 use Rattle.permits.specs.declared.Module.{Module}
 use Rattle.permits.specs.declared.ModuleCalled.{ModuleCalled}
@@ -36,6 +40,11 @@ use Rattle.holding.proofs.Held.{missing-is}
 use Rattle.holding.proofs.Judged.{lacking, unfit, fit}
 
 -- ---- a permit of supervisor v for module n, with the mask k
+
+and-parts : (a b : Bool) → (a && b) ≡ true → (a ≡ true) × (b ≡ true)
+and-parts true true e = (refl, refl)
+and-parts true false e = absurd (true≢false (sym e))
+and-parts false b e = absurd (true≢false (sym e))
 
 and-both : (a b c : Bool) → (a && (b && c)) ≡ true → c ≡ true
 and-both true true c e = e
@@ -82,6 +91,26 @@ module _ (adjacent m : ℕ) (x : Module) (v n k : ℕ) (r : Maybe) (e : optionOf
 
     pub permit-other : {c : ModuleCalled} → (eqb n m && (x .bid && eqb w v)) ≡ false → c ≡ callRefused x 12 0 → (rs : List Record) → adjacent ≡ neighbours rs m → c ≡ takenBy rs m x (Permit v n k)
     permit-other t g rs q = g ∙ taken rs q false (found false t)
+
+-- ---- what a message names
+
+pub counted-in : (rs : List Record) (m : ℕ) {k : ℕ} → k ≡ modulesOf rs → m < k → m < modulesOf rs
+counted-in rs m e l = omega arith
+
+pub permit-asked : (rs : List Record) {v n k : ℕ} {g : Message} {b : Bool} → g ≡ Permit v n k → b ≡ named rs (Permit v n k) → b ≡ named rs g
+permit-asked rs h f = f ∙ ap (named rs) (sym h)
+
+-- a permit for this module, of one of 32 supervisors
+module _ (rs : List Record) (m adjacent : ℕ) {v n k : ℕ} {g : Message} (e : adjacent ≡ neighbours rs m) (l : m < modulesOf rs) (h : g ≡ Permit v n k) where
+  pub permit-named : {b : Bool} → (eqb n m && ltb v 32) ≡ true → b ≡ bit adjacent v → b ≡ named rs g
+  unfolding named
+  permit-named q f =
+      let s = and-parts (eqb n m) (ltb v 32) q in
+      f ∙ ap (λ (a : ℕ). bit a v) e ∙ mask-bit (λ u. ltb u (supervisorsOf rs) && neighbour rs m u) 32 v
+      ∙ ap (λ (a : Bool). a && (ltb v (supervisorsOf rs) && neighbour rs m v)) (s .1)
+      ∙ ap (λ (a : Bool). a && ltb v (supervisorsOf rs) && neighbour rs m v) (sym (lt-ltb m (modulesOf rs) l))
+      ∙ ap (λ (i : ℕ). neighbours? rs i v) (sym (eqb-true n m (s .0)))
+      ∙ ap (named rs) (sym h)
 
 -- ---- a message
 

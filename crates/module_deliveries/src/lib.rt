@@ -7,8 +7,10 @@ ghost use Rattle.bits.specs.Bit.{putBit};
 ghost use Rattle.places.specs.Places.{recordsBy};
 ghost use Rattle.records.specs.declared.Record.{Record};
 ghost use Rattle.rules.specs.declared.Verdict.the-variants.{Accepted};
+ghost use Rattle.rules.specs.LookUp.{modulesOf};
 ghost use Rattle.plan.specs.Plan.{neighbours};
 ghost use Rattle.messages.specs.declared.Message.the-variants.{Permit};
+ghost use Rattle.permits.specs.Names.{named};
 ghost use Rattle.permits.specs.Module.{takenBy, deliverIn, absent, deliverBy, moduleDeliver};
 use bits::Maybe;
 use checker::Examined;
@@ -66,6 +68,26 @@ fn take(m: u8, adjacent: u32, x: Module, g: Message) -> ModuleCalled
     }
 }
 
+// Whether the plan has what a message names. Of a permit for this module the neighbours tell, who are known.
+fn is_named(image: &[u8], places: Places, m: u8, adjacent: u32, g: Message) -> bool
+    requires { ⌜ (adjacent ≡ neighbours (recordsBy (now image) places) m) × (m < modulesOf (recordsBy (now image) places)) ⌝ }
+    ensures { λ r. ⌜ r ≡ named (recordsBy (now (image .entry)) places) g ⌝ }
+{
+    let Message::Permit {
+        supervisor,
+        owner,
+        mask: _,
+    } = g
+    else {
+        return permits::named(image, places, g);
+    };
+    if (owner == m) & (supervisor < 32) {
+        let neighbour_bits = adjacent as u64;
+        return bits::has(neighbour_bits, supervisor);
+    }
+    permits::named(image, places, g)
+}
+
 fn deliver_fitting(
     image: &[u8],
     places: Places,
@@ -74,13 +96,13 @@ fn deliver_fitting(
     x: Module,
     p: Parsed,
 ) -> ModuleCalled
-    requires { ⌜ adjacent ≡ neighbours (recordsBy (now image) places) m ⌝ }
+    requires { ⌜ (adjacent ≡ neighbours (recordsBy (now image) places) m) × (m < modulesOf (recordsBy (now image) places)) ⌝ }
     ensures { λ r. ⌜ r ≡ deliverIn (recordsBy (now (image .entry)) places) m x p ⌝ }
 {
     let Parsed::Whole(g) = p else {
         return holding::refused(x, 10, 0);
     };
-    if permits::named(image, places, g) {
+    if is_named(image, places, m, adjacent, g) {
         take(m, adjacent, x, g)
     } else {
         holding::refused(x, 11, 0)

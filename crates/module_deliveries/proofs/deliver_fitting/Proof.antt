@@ -15,8 +15,8 @@ refused-requires c κs = search needs
 returns : tie.Need-returns
 returns c = search deliver-fitting-misshapen
 
-named-requires : tie.Need-named-requires
-named-requires c κs = search needs
+is-named-requires : tie.Need-is-named-requires
+is-named-requires c κs = search needs
 
 take-requires : tie.Need-take-requires
 take-requires c κs = search needs
@@ -38,7 +38,7 @@ deliver-fitting-spec =
     enum-told
     refused-requires
     returns
-    named-requires
+    is-named-requires
     take-requires
     refused-requires-2
     returns-2

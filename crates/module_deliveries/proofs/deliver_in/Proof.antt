@@ -1,4 +1,4 @@
-use Rattle.module_deliveries.proofs.Delivering.{deliver-absent, deliver-unfit, deliver-fit}
+use Rattle.module_deliveries.proofs.Delivering.{counted-in, deliver-absent, deliver-unfit, deliver-fit}
 use borrow.Author.Needs.{needs}
 use Rattle.module_deliveries.proofs.deliver_in.Statement.{statement}
 use Rattle.module_deliveries.proofs.deliver_in.Tie as tie
@@ -13,7 +13,7 @@ fits-requires : tie.Need-fits-requires
 fits-requires c κs = search needs
 
 deliver-fitting-requires : tie.Need-deliver-fitting-requires
-deliver-fitting-requires c κs = search needs
+deliver-fitting-requires c κs = search (counted-in, needs)
 
 refused-requires : tie.Need-refused-requires
 refused-requires c κs = search needs
