@@ -29,8 +29,13 @@ fn note_fits(image: &[u8], places: Places, v: u8, noted: u16, m: u8) -> bool
 fn noted_fits(image: &[u8], places: Places, v: u8, noted: u16) -> bool
     ensures { λ r. ⌜ r ≡ allBelow (λ m. not (bit noted m) || neighbours? (recordsBy (now (image .entry)) places) m v) 16 ⌝ }
 {
+    let mask = noted as u64;
     let mut m: u8 = 0;
     while m < 16 {
+        // Past the last that is noted nothing is left to ask.
+        if mask >> m == 0 {
+            return true;
+        }
         if !note_fits(image, places, v, noted, m) {
             return false;
         }
