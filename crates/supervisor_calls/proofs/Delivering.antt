@@ -1,17 +1,17 @@
 -- A message delivered, from what the code is told.
-use mathlib.Core.Path.{_≡_, refl, sym, ap, _∙_, subst}
+use mathlib.Core.Path.{_≡_, refl, sym, ap, ap₂, _∙_, subst}
 use mathlib.Core.List.{List}
-use mathlib.Core.Bool.{Bool, true, false, cond, not, _&&_, _||_}
+use mathlib.Core.Bool.{Bool, true, false, cond, not, _&&_, _||_, true≢false}
 use Prim.Native.Nat.{ℕ, _≤_, _<_}
 use native.Mathlib.Omega.{arith}
 use lib.Dec.{T, eqb, ltb}
 use lib.Ieee.Fits.{and-l, and-r}
 use borrow.Author.Tests.{ltb-true, eq-eqb, ne-eqb, eqb-true}
 use denote.Floats.{passes as holds, is-true}
-use Rattle.bits.specs.Bit.{bit}
+use Rattle.bits.specs.Bit.{bit, allBelow}
 use Rattle.records.specs.declared.Record.{Record}
 use Rattle.reader.specs.Walk.{recordsOf}
-use Rattle.rules.specs.LookUp.{modulesOf, supervisorsOf}
+use Rattle.rules.specs.LookUp.{modulesOf, supervisorsOf, supervisorState}
 use Rattle.rules.specs.declared.Verdict.the-variants.{Accepted as IsAccepted}
 use Rattle.places.specs.declared.Places.{Places}
 use Rattle.places.specs.Places.{recordsBy}
@@ -28,10 +28,11 @@ use Rattle.messages.specs.declared.Message.the-variants.{Bid, Permit, Release}
 use Rattle.messages.specs.declared.Parsed.{Parsed}
 use Rattle.messages.specs.declared.Parsed.the-variants.{Whole, Misshapen}
 use Rattle.permits.specs.Names.{neighbours?, eventNamed, named}
-use Rattle.permits.specs.Supervisor.{supervisorFits, callRefused, afterNote, applied, afterRelease, heldBy, takenBy, deliverIn, absent, deliverBy, supervisorDeliver}
+use Rattle.permits.specs.Supervisor.{holderFits, supervisorFits, callRefused, afterNote, applied, afterRelease, heldBy, takenBy, deliverIn, absent, deliverBy, supervisorDeliver}
 use Rattle.permits.specs.declared.Supervisor.{Supervisor}
 use Rattle.permits.specs.declared.SupervisorCalled.{SupervisorCalled}
 use Rattle.permits.specs.declared.Holder.{Holder}
+use Rattle.permits.specs.declared.Holder.the-variants.{Home, Out}
 use Rattle.noting.specs.Notes.{putNote}
 use Rattle.noting.proofs.Notes.{put-in}
 use Rattle.noting.proofs.Planned.{present, lacking}
@@ -60,6 +61,35 @@ released-event rs g {m} {w} {e} n f = go (eqb e noEvent) (and-r (neighbours? rs 
     go : (b : Bool) → T (b || eventNamed rs m w e) → (b || inAlphabet rs w e) ≡ true
     go true t = is-true _ t
     go false t = is-true _ (and-r (ownEvent rs m e) (inAlphabet rs w e) t)
+
+-- the holder of a state that fits is a neighbour
+holder-near : (rs : List Record) (v : ℕ) (y : Supervisor) (m : ℕ) → supervisorFits rs v y ≡ true → heldBy (y .holder) m ≡ true → neighbours? rs m v ≡ true
+unfolding supervisorFits holderFits heldBy
+holder-near rs v y m f h = go (y .holder) (and-r (a && b) (holderFits rs v (y .holder)) (and-l (a && b && holderFits rs v (y .holder)) (ltb (y .last) 16) (holds _ f))) h
+  where
+    a : Bool
+    a = supervisorState rs v (y .state)
+
+    b : Bool
+    b = allBelow (λ n. not (bit (y .noted) n) || neighbours? rs n v) 16
+
+    go : (o : Holder) → T (holderFits rs v o) → heldBy o m ≡ true → neighbours? rs m v ≡ true
+    go Home t q = absurd (true≢false (sym q))
+    go (Out n) t q = ap (λ (i : ℕ). neighbours? rs i v) (sym (eqb-true n m q)) ∙ is-true _ t
+
+-- ---- what a message names
+
+pub release-asked : (rs : List Record) {m w e : ℕ} {g : Message} {b : Bool} → g ≡ Release m w e → b ≡ named rs (Release m w e) → b ≡ named rs g
+release-asked rs h f = f ∙ ap (named rs) (sym h)
+
+pub release-named : (rs : List Record) (v : ℕ) (y : Supervisor) {m w e : ℕ} {g : Message} {b o a : Bool} → supervisorFits rs v y ≡ true → g ≡ Release m w e → b ≡ heldBy (y .holder) m
+    → (eqb w v && b) ≡ true → o ≡ ownEvent rs m e → a ≡ inAlphabet rs w e → (eqb e 255 || (o && a)) ≡ named rs g
+unfolding named
+release-named rs v y {m} {w} {e} {b = b} f h k q i j =
+    let t : T (eqb w v && b) = holds _ q in
+    let here : w ≡ v = eqb-true w v (is-true _ (and-l (eqb w v) b t)) in
+    let near : neighbours? rs m w ≡ true = ap (neighbours? rs m) here ∙ holder-near rs v y m f (sym k ∙ is-true _ (and-r (eqb w v) b t)) in
+    ap₂ (λ (c d : Bool). eqb e 255 || (c && d)) i j ∙ sym (ap (λ (c : Bool). c && (eqb e noEvent || eventNamed rs m w e)) near) ∙ ap (named rs) (sym h)
 
 -- ---- a bid noted
 

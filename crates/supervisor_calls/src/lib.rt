@@ -8,7 +8,7 @@ ghost use Rattle.rules.specs.LookUp.{modulesOf};
 ghost use Rattle.plan.specs.Plan.{inAlphabet};
 ghost use Rattle.messages.specs.Message.{noEvent};
 ghost use Rattle.permits.specs.Names.{named};
-ghost use Rattle.permits.specs.Supervisor.{afterNote, afterRelease, callRefused, applied, heldBy, takenBy, deliverIn, absent, supervisorDeliver, supervisorStart};
+ghost use Rattle.permits.specs.Supervisor.{supervisorFits, afterNote, afterRelease, callRefused, applied, heldBy, takenBy, deliverIn, absent, supervisorDeliver, supervisorStart};
 use checker::Examined;
 use messages::Message;
 use messages::Parsed;
@@ -141,14 +141,36 @@ fn take(image: &[u8], places: Places, v: u8, y: Supervisor, g: Message) -> Super
     }
 }
 
+// Whether the plan has what a message names. Holder and supervisor are neighbours where the state fits, so that of the holder's release only the
+// event is asked for.
+fn is_named(image: &[u8], places: Places, v: u8, y: Supervisor, g: Message) -> bool
+    requires { ⌜ supervisorFits (recordsBy (now image) places) v y ≡ true ⌝ }
+    ensures { λ r. ⌜ r ≡ named (recordsBy (now (image .entry)) places) g ⌝ }
+{
+    let Message::Release {
+        owner,
+        supervisor,
+        event,
+    } = g
+    else {
+        return permits::named(image, places, g);
+    };
+    let holder = y.holder;
+    if (supervisor == v) & held_by(holder, owner) {
+        let owned = plan::own_event(image, places, owner, event);
+        return (event == 255) | (owned & plan::in_alphabet(image, places, supervisor, event));
+    }
+    permits::named(image, places, g)
+}
+
 fn deliver_in(image: &[u8], places: Places, v: u8, y: Supervisor, p: Parsed) -> SupervisorCalled
-    requires { ⌜ modulesOf (recordsBy (now image) places) ≤ 16 ⌝ }
+    requires { ⌜ (modulesOf (recordsBy (now image) places) ≤ 16) × (supervisorFits (recordsBy (now image) places) v y ≡ true) ⌝ }
     ensures { λ r. ⌜ r ≡ deliverIn (recordsBy (now (image .entry)) places) v y p ⌝ }
 {
     let Parsed::Whole(g) = p else {
         return refused(y, 10, 0);
     };
-    if permits::named(image, places, g) {
+    if is_named(image, places, v, y, g) {
         take(image, places, v, y, g)
     } else {
         refused(y, 11, 0)

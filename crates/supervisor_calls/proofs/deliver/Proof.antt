@@ -1,3 +1,4 @@
+use mathlib.Core.Path.{sym, _∙_}
 use Rattle.supervisor_calls.proofs.Delivering.{few-modules, deliver-refused, deliver-absent, deliver-unfit, deliver-fit}
 use borrow.Author.Needs.{needs}
 use Rattle.supervisor_calls.proofs.deliver.Statement.{statement}
@@ -19,7 +20,7 @@ fits-requires : tie.Need-fits-requires
 fits-requires c κs = search needs
 
 deliver-in-requires : tie.Need-deliver-in-requires
-deliver-in-requires c κs = search few-modules
+deliver-in-requires c κs = (search few-modules, sym (c .before .fits2 .ensures) ∙ c .if2 .taken)
 
 refused-requires : tie.Need-refused-requires
 refused-requires c κs = search needs

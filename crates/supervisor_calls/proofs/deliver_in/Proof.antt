@@ -16,11 +16,11 @@ refused-requires c κs = search needs
 returns : tie.Need-returns
 returns c = search misshapen-by
 
-named-requires : tie.Need-named-requires
-named-requires c κs = search needs
+is-named-requires : tie.Need-is-named-requires
+is-named-requires c κs = search needs
 
 take-requires : tie.Need-take-requires
-take-requires c κs = (c .before .before .before .before .before .before .pre, sym (c .before .named .ensures) ∙ c .if1 .taken)
+take-requires c κs = (c .before .before .before .before .before .before .pre .0, sym (c .before .is-named .ensures) ∙ c .if1 .taken)
 
 refused-requires-2 : tie.Need-refused-requires-2
 refused-requires-2 c κs = search needs
@@ -39,7 +39,7 @@ deliver-in-spec =
     enum-told
     refused-requires
     returns
-    named-requires
+    is-named-requires
     take-requires
     refused-requires-2
     returns-2
