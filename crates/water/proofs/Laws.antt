@@ -1,16 +1,16 @@
 -- `==` on values in eighths, and what the functions answer.
 use mathlib.Core.Path.{_≡_, refl, sym, ap, _∙_, subst}
-use Prim.Native.Nat.{ℕ, _+_, _*_, _^_, _≤_, _<_}
-use native.Mathlib.Nat.{add-zero}
+use Prim.Native.Nat.{ℕ, _+_, _*_, _%_, _^_, _≤_, _<_}
+use native.Mathlib.Nat.{add-zero, mul-one, zero-mul, mod-le}
 use native.Mathlib.Omega.{arith}
-use mathlib.Core.Bool.{Bool, true, false, not, _&&_, and-true}
+use mathlib.Core.Bool.{Bool, true, false, not, _&&_, and-true, true≢false}
 use lib.Dec.{T, eqb, ltb, leb, lit<, leb→le, ltb→lt, eqb→eq}
-use lib.Ieee.{Float, fin, binary64, up, down, ofBits, eq, lt, add, nanBits}
-use lib.Ieee.Fits.{and-l, and-r}
+use lib.Ieee.{Float, nan, inf, fin, binary64, up, down, ofBits, toBits, eq, lt, add, fits, isNan, nanBits}
+use lib.Ieee.Fits.{and-l, and-r, eq→eqb}
 use borrow.Author.Tests.{ltb-false, le-ltb, eqb-true, eqb-false, eq-eqb, ne-eqb}
 use denote.Floats.{passes}
 use Rattle.litres.specs.Eighths.{eighths, isEighths, count, targetOk}
-use Rattle.litres.proofs.Laws.{lt-counts, add-counts, target-is-eighths, target-not-nan, eighths-is-eighths, count-eighths}
+use Rattle.litres.proofs.Laws.{finiteEighths, yes-arm, not-nan, lt-counts, add-counts, target-is-eighths, target-not-nan, eighths-is-eighths, count-eighths}
 use Rattle.water.specs.Water.{flowOk, added, sum, readingEighths, Summed, Compared, isZero, reached, running}
 use Rattle.water.specs.declared.Water.{Water}
 use Rattle.water.specs.declared.Flow.{Flow}
@@ -61,6 +61,31 @@ zero-test x = go (isEighths x) refl
     go true h =
         ap (eq x) zero-is ∙ eq-counts x (eighths 0) (passes (isEighths x) h) zero-whole ∙ ap (eqb (count x)) (count-eighths 0 (lit< tt))
     go false h = refl
+
+-- what `==` finds equal to 0.0 is a zero of either sign
+zero-finite : (x : Float) → eq x (ofBits binary64 0) ≡ true → T (finiteEighths x)
+unfolding eq ofBits
+zero-finite nan h = absurd (true≢false (sym h))
+zero-finite (inf s) h = absurd (true≢false (sym h))
+zero-finite (fin s m e) h =
+    let p : m * up e * 1 ≡ 0 * 1 * down e = eqb→eq (m * up e * 1) (0 * 1 * down e) (and-l (eqb (m * up e * 1) (0 * 1 * down e)) _ (passes _ h)) in
+    let z : m * up e ≡ 0 = sym (mul-one (m * up e)) ∙ p ∙ ap (λ (x : ℕ). x * down e) (zero-mul 1) ∙ zero-mul (down e) in
+    let q : 0 * 8 % down e ≤ 0 * 8 = mod-le (0 * 8) (down e) in
+    eq→eqb (ap (λ (x : ℕ). x * 8 % down e) z ∙ (let r : 0 * 8 % down e ≡ 0 = omega arith in r))
+
+module _ (x : Float) where
+  pub zero-number : eq x (ofBits binary64 0) ≡ true → T (not (isNan x))
+  zero-number h = not-nan x (zero-finite x h)
+
+  pub zero-signed : T (fits binary64 x) → eq x (ofBits binary64 0) ≡ true → ltb (toBits binary64 x) (2 ^ 63) ≡ isZero x
+  zero-signed f h = yes-arm x f (zero-finite x h) ∙ sym (and-true (isEighths x)) ∙ ap (λ (b : Bool). isEighths x && b) (sym h) ∙ zero-test x
+
+  pub zero-other : eq x (ofBits binary64 0) ≡ false → false ≡ isZero x
+  zero-other h = sym (go (isEighths x)) ∙ ap (λ (b : Bool). isEighths x && b) (sym h) ∙ zero-test x
+    where
+      go : (b : Bool) → (b && false) ≡ false
+      go true = refl
+      go false = refl
 
 running-test : (bits : ℕ) (w : Water) → targetOk bits ≡ true
     → (isEighths (w .target) && isEighths (w .total) && eq (w .target) (ofBits binary64 bits) && lt (w .total) (w .target)) ≡ running bits w

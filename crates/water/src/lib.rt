@@ -86,10 +86,15 @@ pub fn reached(w: Water) -> bool
     w.target <= w.total
 }
 
+// By the sign's bit: the test for eighths would take a remainder, which costs more than all the rest.
 fn zero(x: f64) -> bool
     ensures { λ r. ⌜ r ≡ isZero x ⌝ }
 {
-    litres::is_eighths(x) & (x == 0.0)
+    if x == 0.0 {
+        f64::to_bits(x) < 0x8000_0000_0000_0000
+    } else {
+        false
+    }
 }
 
 // Whether target and total are 0 and not minus zero.
