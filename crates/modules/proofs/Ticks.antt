@@ -4,14 +4,15 @@ use native.Mathlib.Omega.{arith}
 use native.Mathlib.Numerals.{add-one}
 use mathlib.Core.Path.{_≡_, sym, ap, ap₂, _∙_}
 use mathlib.Core.List.{List}
-use mathlib.Core.Bool.{Bool, true, false, cond, _&&_, false≢true}
+use mathlib.Core.Bool.{Bool, true, false, cond, not, _&&_}
 use lib.Dec.{eqb, ltb}
 use lib.Bits.{bitOr, bitAnd}
-use borrow.Author.Tests.{lt-ltb, le-ltb, lt-leb, le-leb, ne-eqb}
+use borrow.Author.Tests.{lt-ltb, le-ltb, lt-leb, le-leb, ne-eqb, not-true, not-false}
 use Rattle.bits.proofs.Laws.{shl-one}
 use Rattle.records.specs.declared.Record.{Record}
 use Rattle.records.specs.declared.Record.the-variants.{Step}
-use Rattle.plan.specs.Plan.{counts}
+use Rattle.rules.specs.LookUp.{found}
+use Rattle.plan.specs.Plan.{counts, stepIn, operationOf, operandOf}
 use Rattle.water.specs.Water.{flowOk, noWater, waterOf, added, reached, running, Summed, Compared}
 use Rattle.water.specs.declared.Water.{Water}
 use Rattle.water.specs.declared.Flow.{Flow}
@@ -126,20 +127,24 @@ module _ (rs : List Record) (f : Flow) (own : Own) {w : StepFields} (p : w ≡ s
   ran : ticked rs f own ≡ cond (own .procedure .running && w .present) (performed rs (w .operation) (w .operand) f own) own
   ran = ap (λ (u : StepFields). cond (own .procedure .running && u .present) (performed rs (u .operation) (u .operand) f own) own) (sym p)
 
-  pub ticked-by : {r : Own} → (own .procedure .running && w .present) ≡ true → r ≡ performed rs (w .operation) (w .operand) f own → r ≡ ticked rs f own
-  ticked-by h q = q ∙ sym (ran ∙ ap (λ (b : Bool). cond b (performed rs (w .operation) (w .operand) f own) own) h)
+  runs : not (own .procedure .running) ≡ false → (b : Bool) → w .present ≡ b → (own .procedure .running && w .present) ≡ b
+  runs n b h = ap₂ _&&_ (not-false (own .procedure .running) n) h
 
-  pub ticked-none : (own .procedure .running && w .present) ≡ false → own ≡ ticked rs f own
-  ticked-none h = sym (ran ∙ ap (λ (b : Bool). cond b (performed rs (w .operation) (w .operand) f own) own) h)
+  pub ticked-by : {r : Own} → not (own .procedure .running) ≡ false → w .present ≡ true → r ≡ performed rs (w .operation) (w .operand) f own → r ≡ ticked rs f own
+  ticked-by n h q = q ∙ sym (ran ∙ ap (λ (b : Bool). cond b (performed rs (w .operation) (w .operand) f own) own) (runs n true h))
 
-  pub may-perform : (own .procedure .running && w .present) ≡ true → counts (Step (own .procedure .event) (own .procedure .index) (w .operation) (w .operand)) ≡ true
+  pub ticked-none : not (own .procedure .running) ≡ false → w .present ≡ false → own ≡ ticked rs f own
+  ticked-none n h = sym (ran ∙ ap (λ (b : Bool). cond b (performed rs (w .operation) (w .operand) f own) own) (runs n false h))
+
+  pub may-perform : w .present ≡ true → counts (Step (own .procedure .event) (own .procedure .index) (w .operation) (w .operand)) ≡ true
   may-perform h =
       ap (λ (u : StepFields). counts (Step (own .procedure .event) (own .procedure .index) (u .operation) (u .operand))) p
-      ∙ step-counts rs (own .procedure .event) (own .procedure .index) (sym (ap (λ (u : StepFields). u .present) p) ∙ second (own .procedure .running) (w .present) h)
-    where
-      second : (a b : Bool) → (a && b) ≡ true → b ≡ true
-      second true b h = h
-      second false b h = absurd (false≢true h)
+      ∙ step-counts rs (own .procedure .event) (own .procedure .index) (sym (ap (λ (u : StepFields). u .present) p) ∙ h)
+
+-- no procedure, no step
+pub ticked-idle : (rs : List Record) (f : Flow) (own : Own) → not (own .procedure .running) ≡ true → own ≡ ticked rs f own
+ticked-idle rs f own n =
+    sym (ap (λ (b : Bool). cond (b && found (stepIn rs (own .procedure .event) (own .procedure .index))) (performed rs (operationOf rs (own .procedure .event) (own .procedure .index)) (operandOf rs (own .procedure .event) (own .procedure .index)) f own) own) (not-true (own .procedure .running) n))
 
 module _ (rs : List Record) (f : Flow) (own : Own) {b : Bool} (p : b ≡ flowOk f) where
   pub tick-taken : {next : Own} → b ≡ true → next ≡ ticked rs f own → taken next ≡ tickOf rs f own

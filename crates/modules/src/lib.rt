@@ -365,8 +365,11 @@ fn ticked(image: &[u8], places: Places, f: Flow, own: Own) -> Own
     ensures { λ r. ⌜ r ≡ Steps.ticked (recordsBy (now (image .entry)) places) f own ⌝ }
 {
     let p = own.procedure;
+    if !p.running {
+        return own;
+    }
     let w = step_fields(image, places, p.event, p.index);
-    if p.running & w.present {
+    if w.present {
         performed(image, places, w.operation, w.operand, f, own)
     } else {
         own
