@@ -9,12 +9,12 @@ use lib.ListN.{length, getD}
 use lib.Dec.{T}
 use lib.Ieee.{Float, binary64, isNan, toBits, ofBits, nanBits}
 use lib.Ieee.Bits.{ofBits-toBits, toBits-ofBits, toBits-lt, nanBits-is}
-use borrow.Author.Tests.{ltb-true}
+use borrow.Author.Tests.{ltb-true, not-true}
 use Rattle.roundtrip.specs.Fits.{Byte, Bytes}
 use Rattle.roundtrip.proofs.Shape.{word-written, word-small}
-use Rattle.words.specs.Word.{quadAt, wordAt, wordBytes, appendByte}
+use Rattle.words.specs.Word.{quadAt, quadBytes, wordAt, wordBytes, appendByte}
 use Rattle.words.proofs.Laws.{word-read}
-use Rattle.fields.specs.Fields.{bytesFrom, halfBytes, halfAt, quadBytes, flagByte, flagOf, isFlag, floatBytes, floatAt, isFloat, Number}
+use Rattle.fields.specs.Fields.{bytesFrom, halfBytes, halfAt, flagByte, flagOf, isFlag, floatBytes, floatAt, isFloat, Number}
 
 -- ---- bytes from an offset
 
@@ -37,10 +37,6 @@ and-left false b h = h
 pub and-right : (a b : Bool) → (a && b) ≡ true → b ≡ true
 and-right true b h = h
 and-right false b h = absurd (true≢false (sym h))
-
-not-true : (a : Bool) → not a ≡ true → a ≡ false
-not-true true h = absurd (true≢false (sym h))
-not-true false h = refl
 
 pub flag-written : (x : ℕ) → isFlag x ≡ true → flagByte (flagOf x) ≡ x
 flag-written zero h = refl

@@ -1,6 +1,6 @@
 -- Laws of the numbers that bytes are, past the end, and of bytes that are 0.
 use mathlib.Core.Path.{_≡_, refl, sym, ap, ap₂, _∙_}
-use mathlib.Core.List.{List, [], _∷_}
+use mathlib.Core.List.{List}
 use mathlib.Core.Bool.{Bool, true, false, _&&_}
 use Prim.Native.Nat.{ℕ, zero, suc, _+_, _≤_, _<_}
 use native.Mathlib.Omega.{arith}
@@ -9,7 +9,7 @@ use lib.Dec.{eqb}
 use lib.Bits.{bitOr, or-add-and, and-le-r}
 use lib.Seq.{drop-cons, drop-length}
 use borrow.Author.Tests.{ne-eqb}
-use Rattle.fields.specs.Fields.{halfAt, zeros}
+use Rattle.fields.specs.Fields.{halfAt, allZero}
 
 module _ (s : List ℕ) (o : ℕ) (h : length s ≤ o) where
   past : (k : ℕ) → getD s (o + k) 0 ≡ 0
@@ -37,18 +37,18 @@ and-true false = refl
 
 module _ (s : List ℕ) (i all : ℕ) where
   abbrev pub ZerosSoFar : Type 0
-  ZerosSoFar = (eqb all 0 && zeros (drop i s)) ≡ zeros s
+  ZerosSoFar = (eqb all 0 && allZero (drop i s)) ≡ allZero s
 
-  pub zeros-on : {x : ℕ} → i < length s → x ≡ getD s i 0 → ZerosSoFar → (eqb (bitOr all x) 0 && zeros (drop (i + 1) s)) ≡ zeros s
-  unfolding zeros
+  pub zeros-on : {x : ℕ} → i < length s → x ≡ getD s i 0 → ZerosSoFar → (eqb (bitOr all x) 0 && allZero (drop (i + 1) s)) ≡ allZero s
+  unfolding allZero
   zeros-on {x} h e w =
       let m : i + 1 ≡ suc i = omega arith in
-      ap₂ (λ (b : Bool) (k : ℕ). b && zeros (drop k s)) (both-zero all x) m
-      ∙ and-back (eqb all 0) (eqb x 0) (zeros (drop (suc i) s))
-      ∙ ap (λ (y : ℕ). eqb all 0 && (eqb y 0 && zeros (drop (suc i) s))) e
-      ∙ ap (λ (l : List ℕ). eqb all 0 && zeros l) (sym (drop-cons s i 0 h)) ∙ w
+      ap₂ (λ (b : Bool) (k : ℕ). b && allZero (drop k s)) (both-zero all x) m
+      ∙ and-back (eqb all 0) (eqb x 0) (allZero (drop (suc i) s))
+      ∙ ap (λ (y : ℕ). eqb all 0 && (eqb y 0 && allZero (drop (suc i) s))) e
+      ∙ ap (λ (l : List ℕ). eqb all 0 && allZero l) (sym (drop-cons s i 0 h)) ∙ w
 
-  pub zeros-done : length s ≡ i → ZerosSoFar → eqb all 0 ≡ zeros s
-  unfolding zeros
+  pub zeros-done : length s ≡ i → ZerosSoFar → eqb all 0 ≡ allZero s
+  unfolding allZero
   zeros-done e w =
-      sym (and-true (eqb all 0)) ∙ ap (λ (l : List ℕ). eqb all 0 && zeros l) (sym (ap (λ (k : ℕ). drop k s) (sym e) ∙ drop-length s)) ∙ w
+      sym (and-true (eqb all 0)) ∙ ap (λ (l : List ℕ). eqb all 0 && allZero l) (sym (ap (λ (k : ℕ). drop k s) (sym e) ∙ drop-length s)) ∙ w

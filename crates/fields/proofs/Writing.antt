@@ -7,9 +7,9 @@ use native.Mathlib.Omega.{arith}
 use lib.ListN.{length, length-append, set}
 use lib.Seq.{sets, length-sets}
 use lib.Ieee.{Float, binary64, toBits}
-use Rattle.words.specs.Word.{putAt, wordBytes, wordPut}
+use Rattle.words.specs.Word.{putAt, wordBytes}
 use Rattle.words.proofs.Laws.{put-sets}
-use Rattle.fields.specs.Fields.{halfBytes, quadBytes, floatBytes}
+use Rattle.fields.specs.Fields.{halfBytes, floatBytes}
 
 pub join : (l a b : List ℕ) (i j : ℕ) → j ≡ i + length a → sets (sets l i a) j b ≡ sets l i (a ++ b)
 join l [] b i j e = ap (λ (k : ℕ). sets l k b) (e ∙ add-zero i)
@@ -27,11 +27,6 @@ pub length-half : (x : ℕ) → length (halfBytes x) ≡ 2
 unfolding halfBytes
 length-half x = refl
 
-pub length-quad : (x : ℕ) → length (quadBytes x) ≡ 4
-unfolding quadBytes
-length-quad x = refl
-
 -- the eight bytes of an f64
-pub float-put : (l : List ℕ) (o : ℕ) (x : Float) {b : ℕ} {s : List ℕ} → b ≡ toBits binary64 x → s ≡ wordPut l o b → s ≡ putAt (floatBytes x) o l
-unfolding wordPut
+pub float-put : (l : List ℕ) (o : ℕ) (x : Float) {b : ℕ} {s : List ℕ} → b ≡ toBits binary64 x → s ≡ putAt (wordBytes b) o l → s ≡ putAt (floatBytes x) o l
 float-put l o x e w = w ∙ ap (λ (y : ℕ). putAt (wordBytes y) o l) e

@@ -14,9 +14,9 @@ bytesFrom s o zero = []
 bytesFrom s o (suc n) = getD s o 0 ∷ bytesFrom s (suc o) n
 
 -- whether every byte is 0
-unfoldable pub zeros : List ℕ → Bool
-zeros [] = true
-zeros (x ∷ s) = eqb x 0 && zeros s
+unfoldable pub allZero : List ℕ → Bool
+allZero [] = true
+allZero (x ∷ s) = eqb x 0 && allZero s
 
 -- a number of two bytes and the number that the two bytes at an offset are
 unfoldable pub halfBytes : ℕ → List ℕ
@@ -24,10 +24,6 @@ halfBytes x = x / 0x100 % 256 ∷ x % 256 ∷ []
 
 unfoldable pub halfAt : List ℕ → ℕ → ℕ
 halfAt s o = appendByte (getD s o 0) (getD s (o + 1) 0)
-
--- a number of four bytes; words/specs/Word.antt has the number that four bytes are
-unfoldable pub quadBytes : ℕ → List ℕ
-quadBytes x = x / 0x1000000 % 256 ∷ x / 0x10000 % 256 ∷ x / 0x100 % 256 ∷ x % 256 ∷ []
 
 -- a flag: "1 while ..., else 0"
 abbrev pub flagByte : Bool → ℕ

@@ -1,9 +1,9 @@
-// Numbers of two and four bytes, and f64, in the bytes of a state: specs/Fields.antt.
+// Numbers of two bytes, flags and f64 in the bytes of a state: specs/Fields.antt.
 ghost use mathlib.Core.Path.{_≡_};
 ghost use Prim.Native.Nat.{_<_};
 ghost use lib.Ieee.{binary64, toBits, ofBits, nanBits};
 ghost use Rattle.messages.specs.Message.{putAt};
-ghost use Rattle.fields.specs.Fields.{halfBytes, halfAt, quadBytes, flagByte, floatBytes, floatAt, isFloat, zeros};
+ghost use Rattle.fields.specs.Fields.{halfBytes, halfAt, flagByte, floatBytes, floatAt, isFloat, allZero};
 
 // ---- read
 
@@ -69,7 +69,7 @@ pub fn half_at(s: &[u8], o: usize) -> u16
 
 // Whether every byte is 0: all are read, which the compiler does many at a time.
 pub fn are_zeros(s: &[u8]) -> bool
-    ensures { λ r. ⌜ r ≡ zeros (now (s .entry)) ⌝ }
+    ensures { λ r. ⌜ r ≡ allZero (now (s .entry)) ⌝ }
 {
     let mut all: u8 = 0;
     let mut i: usize = 0;
@@ -94,19 +94,6 @@ pub fn put_half(s: &mut [u8], o: usize, x: u16)
     ensures { λ _. ⌜ now (s .exit) ≡ putAt (halfBytes x) o (now (s .entry)) ⌝ }
 {
     words::put_bytes(s, o, &[(x / 0x100 % 256) as u8, (x % 256) as u8]);
-}
-
-// Puts the four bytes of a number.
-pub fn put_quad(s: &mut [u8], o: usize, x: u32)
-    ensures { λ _. ⌜ now (s .exit) ≡ putAt (quadBytes x) o (now (s .entry)) ⌝ }
-{
-    let bytes = [
-        (x / 0x1000000 % 256) as u8,
-        (x / 0x10000 % 256) as u8,
-        (x / 0x100 % 256) as u8,
-        (x % 256) as u8,
-    ];
-    words::put_bytes(s, o, &bytes);
 }
 
 // Puts the eight bytes of an f64.

@@ -9,7 +9,7 @@ use native.Mathlib.Numerals.{towards-suc}
 use lib.ListN.{length, drop}
 use lib.Seq.{sets, sets-eq, length-sets}
 use borrow.Author.Tests.{ltb-true, ltb-false}
-use Rattle.words.specs.Word.{wordBytes, wordPut}
+use Rattle.words.specs.Word.{wordBytes}
 use Rattle.words.proofs.Laws.{put-room}
 use Rattle.messages.specs.Message.{messageBytes, fitsAt, putAt, short, written}
 use Rattle.messages.specs.Write.{Wrote}
@@ -41,6 +41,11 @@ put-short bytes b h =
     let l : length b < length bytes = ltb-true (length b) (length bytes) h in
     put-not bytes 0 b (omega arith)
 
+-- a negated test the other way round
+pub turned-round : (s t : Bool) → t ≡ not s → s ≡ not t
+turned-round true t e = ap not (sym e)
+turned-round false t e = ap not (sym e)
+
 -- from what the code of `put_message` is told: the case h that the message is
 module _ (g : Message) (at : ℕ) (b : List ℕ) {h : Message} (e : g ≡ h) where
   pub whole-put : {s : List ℕ} → at + length (messageBytes g) ≤ length b → s ≡ putAt (messageBytes h) at b → s ≡ sets b at (messageBytes g)
@@ -49,7 +54,7 @@ module _ (g : Message) (at : ℕ) (b : List ℕ) {h : Message} (e : g ≡ h) whe
       w ∙ put-sets (messageBytes h) at b r ∙ ap (λ (x : Message). sets b at (messageBytes x)) (sym e)
 
 pub permit-put : (g : Message) (at : ℕ) (b : List ℕ) {v m k : ℕ} {s t : List ℕ} → g ≡ Permit v m k → at + length (messageBytes g) ≤ length b
-    → s ≡ putAt (0x02 ∷ v ∷ m ∷ []) at b → t ≡ wordPut s (at + 3) k → t ≡ sets b at (messageBytes g)
+    → s ≡ putAt (0x02 ∷ v ∷ m ∷ []) at b → t ≡ putAt (wordBytes k) (at + 3) s → t ≡ sets b at (messageBytes g)
 unfolding messageBytes wordBytes
 permit-put g at b {v} {m} {k} {s} e room w f =
     let l : length (messageBytes g) ≡ 11 = length-as e in

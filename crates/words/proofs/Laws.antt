@@ -8,7 +8,7 @@ use native.Mathlib.Omega.{arith}
 use lib.ListN.{length, getD, set, drop, length-map, List·getD-eq-default}
 use lib.Seq.{sets, sets-eq, getD-drop, drop-cons, drop-length}
 use borrow.Author.Tests.{le-leb, lt-leb}
-use Rattle.words.specs.Word.{fitsAt, putAt, quadAt, wordAt, wordBytes, wordPut, appendByte}
+use Rattle.words.specs.Word.{fitsAt, putAt, quadAt, quadBytes, wordAt, wordBytes, appendByte}
 
 -- ---- bytes put
 
@@ -89,8 +89,8 @@ unfolding wordAt
 word-drop b s o = simp (getD-drop, add-assoc)
 
 -- the bytes of a number put, if there is room for them
-pub put-room : (s : List ℕ) (o x : ℕ) → o + 8 ≤ length s → wordPut s o x ≡ sets s o (wordBytes x)
-unfolding wordPut wordBytes
+pub put-room : (s : List ℕ) (o x : ℕ) → o + 8 ≤ length s → putAt (wordBytes x) o s ≡ sets s o (wordBytes x)
+unfolding wordBytes
 put-room s o x h = put-sets (wordBytes x) o s h
 
 -- one digit more
@@ -107,6 +107,10 @@ digits x h =
 pub word-read : (x : ℕ) (t : List ℕ) → x < 2 ^ 64 → wordAt (wordBytes x ++ t) 0 ≡ x
 unfolding wordAt wordBytes
 word-read x t h = digits x h
+
+pub length-quad : (x : ℕ) → length (quadBytes x) ≡ 4
+unfolding quadBytes
+length-quad x = refl
 
 pub length-word : (x : ℕ) → length (wordBytes x) ≡ 8
 unfolding wordBytes

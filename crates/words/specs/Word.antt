@@ -1,4 +1,4 @@
--- Bytes put into a list, and numbers of eight bytes. Document 01: "Multi-byte values are big-endian".
+-- Bytes put into a list, and numbers of four and of eight bytes. Document 01: "Multi-byte values are big-endian".
 use Prim.Native.Nat.{ℕ, _+_, _*_, _/_, _%_}
 use mathlib.Core.List.{List, [], _∷_, _++_}
 use mathlib.Core.Bool.{Bool, cond}
@@ -25,17 +25,17 @@ appendByte a b = a * 256 + b
 unfoldable pub quadAt : List ℕ → ℕ → ℕ
 quadAt s o = appendByte (appendByte (appendByte (getD s o 0) (getD s (o + 1) 0)) (getD s (o + 2) 0)) (getD s (o + 3) 0)
 
--- the number that the eight bytes there are
+-- a number's four bytes, the highest first
+unfoldable pub quadBytes : ℕ → List ℕ
+quadBytes x = x / 0x1000000 % 256 ∷ x / 0x10000 % 256 ∷ x / 0x100 % 256 ∷ x % 256 ∷ []
+
+-- the number that the eight bytes at an offset are
 unfoldable pub wordAt : List ℕ → ℕ → ℕ
 wordAt s o =
     appendByte (appendByte (appendByte (appendByte (appendByte (appendByte (appendByte (getD s o 0) (getD s (o + 1) 0)) (getD s (o + 2) 0)) (getD s (o + 3) 0)) (getD s (o + 4) 0)) (getD s (o + 5) 0)) (getD s (o + 6) 0)) (getD s (o + 7) 0)
 
--- its eight bytes, the highest first
+-- a number's eight bytes
 unfoldable pub wordBytes : ℕ → List ℕ
 wordBytes x =
     x / 0x100000000000000 % 256 ∷ x / 0x1000000000000 % 256 ∷ x / 0x10000000000 % 256 ∷ x / 0x100000000 % 256
     ∷ x / 0x1000000 % 256 ∷ x / 0x10000 % 256 ∷ x / 0x100 % 256 ∷ x % 256 ∷ []
-
--- the list with the eight bytes of x at an offset, if it has room for all
-unfoldable pub wordPut : List ℕ → ℕ → ℕ → List ℕ
-wordPut s o x = putAt (wordBytes x) o s

@@ -3,7 +3,7 @@ ghost use mathlib.Core.Path.{_≡_};
 ghost use Prim.Native.Nat.{_<_, _≤_, _+_};
 ghost use lib.ListN.{length, getD};
 ghost use lib.Seq.{sets};
-ghost use Rattle.words.specs.Word.{putAt, quadAt, wordAt, wordPut};
+ghost use Rattle.words.specs.Word.{putAt, quadAt, quadBytes, wordAt, wordBytes};
 
 // A byte as an index.
 pub fn wide(b: u8) -> usize
@@ -72,7 +72,7 @@ pub fn quad_at(s: &[u8], o: usize) -> u32
     quad_of(s, o) as u32
 }
 
-// Where all eight bytes are there, the compiler reads the two halves as one word.
+// Without a test for each byte, so that the compiler can read them as one word.
 fn word_in(s: &[u8], o: usize) -> u64
     requires { ⌜ o + 8 ≤ length (now s) ⌝ }
     ensures { λ r. ⌜ r ≡ wordAt (now (s .entry)) o ⌝ }
@@ -117,9 +117,22 @@ pub fn put_bytes(s: &mut [u8], o: usize, bytes: &[u8])
     }
 }
 
-// Puts the eight bytes of a number likewise.
+// Puts the four bytes of a number likewise.
+pub fn put_quad(s: &mut [u8], o: usize, x: u32)
+    ensures { λ _. ⌜ now (s .exit) ≡ putAt (quadBytes x) o (now (s .entry)) ⌝ }
+{
+    let bytes = [
+        (x / 0x1000000 % 256) as u8,
+        (x / 0x10000 % 256) as u8,
+        (x / 0x100 % 256) as u8,
+        (x % 256) as u8,
+    ];
+    put_bytes(s, o, &bytes);
+}
+
+// Puts the eight bytes of a number.
 pub fn put_word(s: &mut [u8], o: usize, x: u64)
-    ensures { λ r. ⌜ now (s .exit) ≡ wordPut (now (s .entry)) o x ⌝ }
+    ensures { λ r. ⌜ now (s .exit) ≡ putAt (wordBytes x) o (now (s .entry)) ⌝ }
 {
     let bytes = [
         (x / 0x100000000000000 % 256) as u8,

@@ -9,7 +9,7 @@ use native.Mathlib.Omega.{arith}
 use lib.ListN.{length, drop}
 use lib.Seq.{sets, sets-eq, length-sets}
 use borrow.Author.Tests.{lt-ltb, le-ltb}
-use Rattle.words.specs.Word.{putAt, wordBytes, wordPut}
+use Rattle.words.specs.Word.{putAt, wordBytes}
 use Rattle.words.proofs.Laws.{put-sets, put-room}
 use Rattle.records.specs.Kinds.{bodyLen, kindOf, sizeOf}
 use Rattle.records.specs.Bytes.{bytesOf}
@@ -42,23 +42,23 @@ module _ (r : Record) (b : List ℕ) {t : Record} (e : r ≡ t) where
       w ∙ put-sets (bytesOf t) 0 b (omega arith) ∙ ap (λ (x : Record). sets b 0 (bytesOf x)) (sym e)
 
 -- bytes and then a number's eight bytes
-word-put : (q b : List ℕ) (o x : ℕ) {s u : List ℕ} → length q ≡ o → o + 8 ≤ length b → s ≡ putAt q 0 b → u ≡ wordPut s o x → u ≡ sets (sets b 0 q) o (wordBytes x)
+word-put : (q b : List ℕ) (o x : ℕ) {s u : List ℕ} → length q ≡ o → o + 8 ≤ length b → s ≡ putAt q 0 b → u ≡ putAt (wordBytes x) o s → u ≡ sets (sets b 0 q) o (wordBytes x)
 word-put q b o x {s} l h w f =
     let z : s ≡ sets b 0 q = w ∙ put-sets q 0 b (omega arith) in
     let n : length s ≡ length b = ap length z ∙ length-sets b 0 q in
     f ∙ put-room s o x (omega arith) ∙ ap (λ (y : List ℕ). sets y o (wordBytes x)) z
 
 module _ (r : Record) (b : List ℕ) {s u : List ℕ} where
-  pub supervisor-put : {n st i x : ℕ} → r ≡ Supervisor n st i x → sizeOf r ≤ length b → s ≡ putAt (0x14 ∷ n ∷ st ∷ i ∷ []) 0 b → u ≡ wordPut s 4 x
+  pub supervisor-put : {n st i x : ℕ} → r ≡ Supervisor n st i x → sizeOf r ≤ length b → s ≡ putAt (0x14 ∷ n ∷ st ∷ i ∷ []) 0 b → u ≡ putAt (wordBytes x) 4 s
       → u ≡ sets b 0 (bytesOf r)
   unfolding bytesOf wordBytes
   supervisor-put {n} {st} {i} {x} e h w f = word-put (0x14 ∷ n ∷ st ∷ i ∷ []) b 4 x refl (room r b e h) w f ∙ ap (λ (y : Record). sets b 0 (bytesOf y)) (sym e)
 
-  pub disabling-put : {v st x : ℕ} → r ≡ Disabling v st x → sizeOf r ≤ length b → s ≡ putAt (0x16 ∷ v ∷ st ∷ []) 0 b → u ≡ wordPut s 3 x → u ≡ sets b 0 (bytesOf r)
+  pub disabling-put : {v st x : ℕ} → r ≡ Disabling v st x → sizeOf r ≤ length b → s ≡ putAt (0x16 ∷ v ∷ st ∷ []) 0 b → u ≡ putAt (wordBytes x) 3 s → u ≡ sets b 0 (bytesOf r)
   unfolding bytesOf wordBytes
   disabling-put {v} {st} {x} e h w f = word-put (0x16 ∷ v ∷ st ∷ []) b 3 x refl (room r b e h) w f ∙ ap (λ (y : Record). sets b 0 (bytesOf y)) (sym e)
 
-  pub step-put : {v i o x : ℕ} → r ≡ Step v i o x → sizeOf r ≤ length b → s ≡ putAt (0x17 ∷ v ∷ i ∷ o ∷ []) 0 b → u ≡ wordPut s 4 x → u ≡ sets b 0 (bytesOf r)
+  pub step-put : {v i o x : ℕ} → r ≡ Step v i o x → sizeOf r ≤ length b → s ≡ putAt (0x17 ∷ v ∷ i ∷ o ∷ []) 0 b → u ≡ putAt (wordBytes x) 4 s → u ≡ sets b 0 (bytesOf r)
   unfolding bytesOf wordBytes
   step-put {v} {i} {o} {x} e h w f = word-put (0x17 ∷ v ∷ i ∷ o ∷ []) b 4 x refl (room r b e h) w f ∙ ap (λ (y : Record). sets b 0 (bytesOf y)) (sym e)
 

@@ -1,4 +1,4 @@
-use Rattle.words.specs.Word.{wordBytes, wordPut}
+use Rattle.words.specs.Word.{wordBytes}
 use borrow.Author.Needs.{needs}
 use Rattle.words.proofs.put_word.Statement.{statement}
 use Rattle.words.proofs.put_word.Tie as tie
@@ -37,7 +37,7 @@ same-length : tie.Need-same-length
 same-length c = search needs
 
 returns : tie.Need-returns
-unfolding wordPut wordBytes
+unfolding wordBytes
 returns c = search needs
 
 pub put-word-spec : {M : Type 1} → statement M

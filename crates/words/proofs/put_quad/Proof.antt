@@ -1,7 +1,7 @@
-use Rattle.fields.specs.Fields.{quadBytes}
+use Rattle.words.specs.Word.{quadBytes}
 use borrow.Author.Needs.{needs}
-use Rattle.fields.proofs.put_quad.Statement.{statement}
-use Rattle.fields.proofs.put_quad.Tie as tie
+use Rattle.words.proofs.put_quad.Statement.{statement}
+use Rattle.words.proofs.put_quad.Tie as tie
 
 cast-t7 : tie.Need-cast-t7
 cast-t7 c = search needs
