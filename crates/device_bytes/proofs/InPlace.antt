@@ -4,9 +4,9 @@ use mathlib.Core.Path.{_≡_, refl, sym, ap, ap₂, _∙_, subst}
 use mathlib.Core.List.{List, [], _∷_, _++_, append-nil}
 use mathlib.Core.Bool.{Bool, true, false, cond, _&&_, true≢false}
 use Prim.Native.Nat.{ℕ, zero, suc, _+_, _*_, _≤_, _<_}
-use native.Mathlib.Nat.{zero-add, add-zero}
+use native.Mathlib.Nat.{zero-add}
 use native.Mathlib.Omega.{arith}
-use lib.ListN.{length, getD, set, drop, length-append, length-set}
+use lib.ListN.{length, set, drop, length-append, length-set}
 use lib.Dec.{T, eqb, ltb}
 use lib.Seq.{sets, sets-eq, length-sets, set-append-left, set-out, drop-length}
 use lib.Ieee.Bits.{is-true}
@@ -23,13 +23,12 @@ use Rattle.modules.specs.declared.Own.{Own}
 use Rattle.modules.specs.Fits.{ownFits, ownEmpty}
 use Rattle.plan.specs.Lists.{listFrom}
 use Rattle.device_states.specs.States.{ownAt, ownSlotFits, stateSlotFits, deviceFits, withOwn}
-use Rattle.device_states.specs.declared.Device.{Device}
 use Rattle.device_states.proofs.Slots.{from-length}
 use Rattle.own_bytes.specs.Own.{ownBytes, ownOf}
 use Rattle.own_bytes.proofs.Writing.{length-own}
 use Rattle.fields.specs.Fields.{bytesFrom}
-use Rattle.fields.proofs.Back.{and-left, and-right}
-use Rattle.device_bytes.specs.Device.{ownsBytes, deviceBytes, devicePut, slotOf, stateOf, deviceAt, isSlot, isDevice, unfitDevice, deviceOf, slotFits, slotPut}
+use Rattle.fields.proofs.Back.{and-left}
+use Rattle.device_bytes.specs.Device.{ownsBytes, deviceBytes, devicePut, slotOf, stateOf, deviceAt, isSlot, isDevice, deviceOf, slotFits, statesIn, ownIn, slotPut}
 use Rattle.device_bytes.proofs.Laws.{slot-at}
 use Rattle.device_bytes.proofs.Back.{device-written, device-unfit}
 
@@ -215,3 +214,17 @@ module _ (rs : List Record) (b : List ℕ) where
       go : (d : Bool) → isDevice b ≡ d → d ≡ true
       go true w = refl
       go false w = stands-not w ∙ sym e ∙ t
+
+-- what a call takes of bytes that stand for a device is that device's
+module _ (b : List ℕ) (d : isDevice b ≡ true) where
+  long : eqb (length b) 592 ≡ true
+  unfolding isDevice
+  long = and-left (eqb (length b) 592) (allBelow (isSlot b) 16) d
+
+  pub states-taken : {r : List ℕ} → r ≡ statesIn b → r ≡ deviceAt b .supervisors
+  unfolding statesIn
+  states-taken e = e ∙ simp long
+
+  pub own-taken : (m : ℕ) {r : Own} → r ≡ ownIn b m → r ≡ ownAt (deviceAt b) m
+  unfolding ownIn
+  own-taken m e = e ∙ simp long

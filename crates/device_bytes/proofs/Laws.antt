@@ -1,15 +1,17 @@
 -- The bytes of a device read and put, from what the code is told.
-use mathlib.Core.Path.{_≡_, sym, ap, ap₂, _∙_}
+use mathlib.Core.Path.{_≡_, refl, sym, ap, ap₂, _∙_, subst}
 use mathlib.Core.List.{List, [], _++_}
 use mathlib.Core.Bool.{Bool, true, false, cond, _&&_}
 use Prim.Native.Nat.{ℕ, suc, _+_, _*_, _-_, _≤_, _<_}
 use native.Mathlib.Nat.{zero-add}
 use native.Mathlib.Omega.{arith}
-use lib.ListN.{length, getD, set, take, drop, length-append, length-drop, drop-of-length-le, List·getD-eq-default}
-use lib.Dec.{ltb}
-use lib.Seq.{sets, sets-eq, length-sets, take-all, drop-cons, drop-length}
-use borrow.Author.Tests.{le-leb, lt-leb, le-ltb, lt-ltb}
+use lib.ListN.{length, getD, set, take, drop, replicate, length-append, length-drop, List·getD-eq-default}
+use lib.Dec.{T, ltb}
+use lib.Seq.{sets, sets-eq, length-sets, take-all, drop-cons, drop-length, getD-drop, getD-take}
+use lib.Ieee.Bits.{is-true}
+use borrow.Author.Tests.{eq-eqb, ne-eqb, le-leb, lt-leb, le-ltb, lt-ltb, ltb-true, ltb-false}
 use Rattle.bits.specs.Bit.{allBelow}
+use Rattle.bits.proofs.Laws.{all-at, all-of}
 use Rattle.records.specs.declared.Record.{Record}
 use Rattle.messages.specs.Message.{putAt}
 use Rattle.messages.proofs.Writing.{put-sets}
@@ -20,38 +22,30 @@ use Rattle.plan.specs.Lists.{listFrom}
 use Rattle.device_states.specs.declared.Device.{Device}
 use Rattle.device_states.specs.States.{ownAt}
 use Rattle.device_states.proofs.Slots.{all-on, one-fails, filled, fill-on, fill-done, from-length, from-at}
-use Rattle.fields.specs.Fields.{zeros}
+use Rattle.fields.specs.Fields.{allZero}
 use Rattle.fields.proofs.Writing.{join}
-use Rattle.own_bytes.specs.Own.{ownBytes, ownOf, isOwn}
+use Rattle.own_bytes.specs.Own.{ownBytes, ownRead, ownStands}
 use Rattle.own_bytes.proofs.Writing.{length-own}
-use Rattle.own_bytes.proofs.Reading.{is-window, own-window, zeros-stand, zeros-empty}
-use Rattle.device_bytes.specs.Device.{ownsBytes, deviceBytes, devicePut, slotOf, stateOf, isSlot, slotFits, deviceAt, slotPut}
+use Rattle.own_bytes.proofs.Reading.{stands-all, read-all, zero-at, zeros-stand, zeros-empty}
+use Rattle.device_bytes.specs.Device.{ownsBytes, deviceBytes, devicePut, slotOf, stateOf, isSlot, slotFits, deviceAt, statesIn, ownIn, slotPut}
 
 -- ---- read
 
--- the bytes of a slot, as the code lends them
-window : (i : ℕ) (s : List ℕ) → take (i * 35 + 35 - i * 35) (drop (i * 35) s) ≡ take 35 (drop (i * 35) s)
-window i s = let n : i * 35 + 35 - i * 35 ≡ 35 = omega arith in ap (λ (k : ℕ). take k (drop (i * 35) s)) n
-
--- the bytes from an offset
+-- the bytes from an offset, as the code lends them
 tail : (o : ℕ) (s : List ℕ) → take (length s - o) (drop o s) ≡ drop o s
 tail o s = take-all (length s - o) (drop o s) (omega (arith, length-drop o s))
 
 module _ (s : List ℕ) (i : ℕ) where
-  pub slot-is : {r : Bool} → r ≡ isOwn (take (i * 35 + 35 - i * 35) (drop (i * 35) s)) → r ≡ isSlot s i
+  enough : length s ≡ 592 → i < 16 → 35 ≤ length (drop (i * 35) s)
+  enough l h = omega (arith, l, length-drop (i * 35) s)
+
+  pub slot-is : {r : Bool} → length s ≡ 592 → i < 16 → r ≡ ownStands (take (length s - i * 35) (drop (i * 35) s)) → r ≡ isSlot s i
   unfolding isSlot
-  slot-is e = e ∙ ap isOwn (window i s) ∙ is-window (drop (i * 35) s)
+  slot-is l h e = e ∙ ap ownStands (tail (i * 35) s) ∙ stands-all (drop (i * 35) s) (enough l h)
 
-  pub slot-read : {r : Own} → r ≡ ownOf (take (i * 35 + 35 - i * 35) (drop (i * 35) s)) → r ≡ slotOf s i
+  pub slot-read : {r : Own} → length s ≡ 592 → i < 16 → r ≡ ownRead (take (length s - i * 35) (drop (i * 35) s)) → r ≡ slotOf s i
   unfolding slotOf
-  slot-read e = e ∙ ap ownOf (window i s) ∙ own-window (drop (i * 35) s)
-
-  -- a slot that the plan lacks
-  pub vacant : {z : Bool} → z ≡ zeros (take (i * 35 + 35 - i * 35) (drop (i * 35) s)) → z ≡ true → true ≡ (isSlot s i && ownEmpty (slotOf s i))
-  unfolding isSlot slotOf
-  vacant e t =
-      let h : zeros (take 35 (drop (i * 35) s)) ≡ true = ap zeros (sym (window i s)) ∙ sym e ∙ t in
-      sym (ap₂ _&&_ (zeros-stand (drop (i * 35) s) h) (zeros-empty (drop (i * 35) s) h))
+  slot-read l h e = e ∙ ap ownRead (tail (i * 35) s) ∙ read-all (drop (i * 35) s) (enough l h)
 
   module _ {x : Bool} (e : x ≡ isSlot s i) where
     pub vacant-read : {own : Own} {r : Bool} → x ≡ true → own ≡ slotOf s i → r ≡ ownEmpty own → r ≡ (isSlot s i && ownEmpty (slotOf s i))
@@ -75,6 +69,33 @@ module _ (rs : List Record) (n : ℕ) (s : List ℕ) (m : ℕ) {i : ℕ} (w : i 
     unfolding slotFits
     fits-not f = ap (λ (y : Bool). y && cond (ltb m n) (ownFits rs m (slotOf s m)) (ownEmpty (slotOf s m))) (sym f ∙ e ∙ ap (isSlot s) w)
 
+-- the slots from that of module m on, whose bytes are 0 and which the plan lacks
+pub zeros-by : (s : List ℕ) (m : ℕ) {i : ℕ} {r : Bool} → i ≡ m → r ≡ allZero (take (560 - i * 35) (drop (i * 35) s)) → r ≡ allZero (take (560 - m * 35) (drop (m * 35) s))
+zeros-by s m w e = e ∙ ap (λ (k : ℕ). allZero (take (560 - k * 35) (drop (k * 35) s))) w
+
+module _ (rs : List Record) (n : ℕ) (s : List ℕ) (m : ℕ) {z : Bool} (e : z ≡ allZero (take (560 - m * 35) (drop (m * 35) s))) (t : z ≡ true) (h : n ≤ m) where
+  byte-zero : (k : ℕ) → m ≤ k → k < 16 → (i : ℕ) → i < 35 → getD (drop (k * 35) s) i 0 ≡ 0
+  byte-zero k l b i j =
+      let at : m * 35 + ((k - m) * 35 + i) ≡ k * 35 + i = omega arith in
+      let within : (k - m) * 35 + i < 560 - m * 35 = omega arith in
+      getD-drop (k * 35) s i 0 ∙ ap (λ (x : ℕ). getD s x 0) (sym at) ∙ sym (getD-drop (m * 35) s ((k - m) * 35 + i) 0)
+      ∙ sym (getD-take (560 - m * 35) (drop (m * 35) s) ((k - m) * 35 + i) 0 within) ∙ zero-at (take (560 - m * 35) (drop (m * 35) s)) (sym e ∙ t) ((k - m) * 35 + i)
+
+  slot-zero : (k : ℕ) → m ≤ k → k < 16 → slotFits rs n s k ≡ true
+  unfolding slotFits isSlot slotOf
+  slot-zero k l b =
+      let zero : (i : ℕ) → i < 35 → getD (drop (k * 35) s) i 0 ≡ 0 = byte-zero k l b in
+      let lacks : ltb k n ≡ false = le-ltb k n (omega arith) in
+      simp lacks (ap₂ _&&_ (zeros-stand (drop (k * 35) s) zero) (zeros-empty (drop (k * 35) s) zero))
+
+  pub slots-zero : allBelow (slotFits rs n s) m ≡ true → true ≡ allBelow (slotFits rs n s) 16
+  slots-zero a =
+      sym (is-true (allBelow (slotFits rs n s) 16) (all-of (slotFits rs n s) 16 (λ k b. go (ltb k m) k b refl)))
+    where
+      go : (x : Bool) → (k : ℕ) → k < 16 → ltb k m ≡ x → T (slotFits rs n s k)
+      go true k b w = all-at (slotFits rs n s) m (subst T (sym a) tt) k (ltb-true k m w)
+      go false k b w = subst T (sym (slot-zero k (ltb-false k m w) b)) tt
+
 module _ (rs : List Record) (n : ℕ) (s : List ℕ) (m : ℕ) {b : Bool} (e : b ≡ slotFits rs n s m) where
   pub slot-on : b ≡ true → allBelow (slotFits rs n s) m ≡ true → allBelow (slotFits rs n s) (m + 1) ≡ true
   slot-on = all-on (slotFits rs n s) m e
@@ -94,17 +115,29 @@ module _ (s : List ℕ) where
   pub slot-at : (m : ℕ) → m < 16 → ownAt (deviceAt s) m ≡ slotOf s m
   slot-at m h = from-at (slotOf s) 0 16 m emptyOwn h ∙ ap (slotOf s) (zero-add m)
 
-  pub own-past : (m : ℕ) {r : Own} → 16 ≤ m → r ≡ emptyOwn → r ≡ ownAt (deviceAt s) m
-  own-past m h e = e ∙ sym (List·getD-eq-default (listFrom (slotOf s) 0 16) emptyOwn (omega (arith, h, from-length (slotOf s) 0 16)))
+  -- what a call takes
+  pub states-yes : {r : List ℕ} → length s ≡ 592 → r ≡ listFrom (stateOf s) 0 32 → r ≡ statesIn s
+  unfolding statesIn
+  states-yes h e = simp (eq-eqb (length s) 592 h) e
 
-  module _ (m : ℕ) {i : ℕ} (w : i ≡ m) (h : m < 16) {r : Own} where
-    pub own-here : r ≡ ownOf (take (length s - i * 35) (drop (i * 35) s)) → r ≡ ownAt (deviceAt s) m
-    unfolding slotOf
-    own-here e = e ∙ ap ownOf (tail (i * 35) s) ∙ ap (slotOf s) w ∙ sym (slot-at m h)
+  pub states-no : (length s ≡ 592 → ⊥) → replicate 32 0 ≡ statesIn s
+  unfolding statesIn
+  states-no h = simp (ne-eqb (length s) 592 h)
 
-    pub own-short : length s < i * 35 → r ≡ ownOf [] → r ≡ ownAt (deviceAt s) m
-    unfolding slotOf
-    own-short k e = e ∙ ap ownOf (sym (drop-of-length-le s {i = i * 35} (omega arith))) ∙ ap (slotOf s) w ∙ sym (slot-at m h)
+  module _ (m : ℕ) {r : Own} where
+    pub own-yes : {i : ℕ} → length s ≡ 592 → i ≡ m → m < 16 → r ≡ slotOf s i → r ≡ ownIn s m
+    unfolding ownIn
+    own-yes l w h e = simp (eq-eqb (length s) 592 l) (e ∙ ap (slotOf s) w ∙ sym (slot-at m h))
+
+    pub own-past : length s ≡ 592 → 16 ≤ m → r ≡ emptyOwn → r ≡ ownIn s m
+    unfolding ownIn
+    own-past l h e =
+        let past : ownAt (deviceAt s) m ≡ emptyOwn = List·getD-eq-default (listFrom (slotOf s) 0 16) emptyOwn (omega (arith, h, from-length (slotOf s) 0 16)) in
+        simp (eq-eqb (length s) 592 l) (e ∙ sym past)
+
+    pub own-other : (length s ≡ 592 → ⊥) → r ≡ emptyOwn → r ≡ ownIn s m
+    unfolding ownIn
+    own-other l e = simp (ne-eqb (length s) 592 l) e
 
 -- ---- put
 

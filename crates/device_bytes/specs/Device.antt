@@ -12,7 +12,8 @@ use Rattle.messages.specs.Message.{putAt, written}
 use Rattle.modules.specs.declared.Own.{Own}
 use Rattle.plan.specs.Lists.{listFrom}
 use Rattle.modules.specs.Fits.{ownFits, ownEmpty}
-use Rattle.device_states.specs.States.{deviceFits, withOwn}
+use Rattle.modules.specs.Turn.{emptyOwn}
+use Rattle.device_states.specs.States.{ownAt, deviceFits, withOwn}
 use Rattle.device_states.specs.declared.Device.{Device}
 use Rattle.own_bytes.specs.Own.{ownBytes, ownOf, isOwn, unfitOwn, OwnEncodable}
 
@@ -57,6 +58,13 @@ deviceOf b = cond (isDevice b) (deviceAt b) unfitDevice
 unfoldable pub slotFits : List Record → ℕ → List ℕ → ℕ → Bool
 slotFits rs n b m = isSlot b m && cond (ltb m n) (ownFits rs m (slotOf b m)) (ownEmpty (slotOf b m))
 
+-- what a call takes of the bytes: the supervisors' states, and a module's own part; bytes of another length have none
+unfoldable pub statesIn : List ℕ → List ℕ
+statesIn b = cond (eqb (length b) 592) (deviceAt b .supervisors) (replicate 32 0)
+
+unfoldable pub ownIn : List ℕ → ℕ → Own
+ownIn b m = cond (eqb (length b) 592) (ownAt (deviceAt b) m) emptyOwn
+
 -- the bytes with another own part of a module; past the last slot they stay
 unfoldable pub slotPut : Own → ℕ → List ℕ → List ℕ
 slotPut own m b = cond (ltb m 16) (putAt (ownBytes own) (m * 35) b) b
@@ -81,8 +89,10 @@ pub record DeviceParts : Type 0 where
   -- and bytes that stand for a device are those of that device
   pub written : (b : List ℕ) → Bytes b → isDevice b ≡ true → deviceBytes (deviceAt b) ≡ b
   pub size : (d : Device) → DeviceEncodable d → length (deviceBytes d) ≡ 592
-  -- a call changes one slot, and the supervisors' states behind them
-  pub put : (b : List ℕ) (m : ℕ) (own : Own) → Bytes b → isDevice b ≡ true → length (own .queue) ≡ 8 → devicePut (withOwn (deviceAt b) m own) b ≡ slotPut own m b
-  pub moved : (b : List ℕ) (m : ℕ) (own : Own) (states : List ℕ) → Bytes b → isDevice b ≡ true → length (own .queue) ≡ 8 → length states ≡ 32
+  -- a call puts one slot, and a turn that fires an event also the supervisors' states behind the slots
+  pub put : (b : List ℕ) (m : ℕ) (own : Own) → Bytes b → isDevice b ≡ true → length (own .queue) ≡ 8
+      → devicePut (withOwn (deviceAt b) m own) b ≡ slotPut own m b
+  pub moved : (b : List ℕ) (m : ℕ) (own : Own) (states : List ℕ)
+      → Bytes b → isDevice b ≡ true → length (own .queue) ≡ 8 → length states ≡ 32
       → devicePut (record { modules = set (deviceAt b .modules) m own; supervisors = states }) b ≡ putAt states 560 (slotPut own m b)
   pub unfit : (rs : List Record) → deviceFits rs unfitDevice ≡ false

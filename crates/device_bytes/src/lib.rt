@@ -1,16 +1,17 @@
 // The state of one device as bytes: specs/Device.antt. A call reads and puts what it needs of them, in place.
 ghost use mathlib.Core.Path.{_≡_};
 ghost use mathlib.Core.Bool.{_&&_};
-ghost use Prim.Native.Nat.{_+_, _*_, _≤_, _<_};
-ghost use lib.ListN.{length};
+ghost use Prim.Native.Nat.{_+_, _-_, _*_, _≤_, _<_};
+ghost use lib.ListN.{length, take, drop};
 ghost use lib.Seq.{sets};
 ghost use Rattle.bits.specs.Bit.{allBelow};
 ghost use Rattle.places.specs.Places.{recordsBy};
 ghost use Rattle.modules.specs.Fits.{ownEmpty};
 ghost use Rattle.plan.specs.Lists.{listFrom};
-ghost use Rattle.device_states.specs.States.{ownAt, deviceFits};
+ghost use Rattle.device_states.specs.States.{deviceFits};
+ghost use Rattle.fields.specs.Fields.{allZero};
 ghost use Rattle.own_bytes.specs.Own.{ownBytes};
-ghost use Rattle.device_bytes.specs.Device.{ownsBytes, devicePut, slotOf, stateOf, isSlot, slotFits, deviceAt, deviceOf, slotPut};
+ghost use Rattle.device_bytes.specs.Device.{ownsBytes, devicePut, slotOf, stateOf, isSlot, slotFits, deviceOf, statesIn, ownIn, slotPut};
 use device_states::Device;
 use modules::Own;
 use places::Places;
@@ -22,7 +23,7 @@ fn is_slot(s: &[u8], i: usize) -> bool
     ensures { λ r. ⌜ r ≡ isSlot (now (s .entry)) i ⌝ }
 {
     let o = i * 35;
-    own_bytes::is_own(&s[o..o + 35])
+    own_bytes::is_own(&s[o..])
 }
 
 fn slot_of(s: &[u8], i: usize) -> Own
@@ -30,18 +31,14 @@ fn slot_of(s: &[u8], i: usize) -> Own
     ensures { λ r. ⌜ r ≡ slotOf (now (s .entry)) i ⌝ }
 {
     let o = i * 35;
-    own_bytes::own_of(&s[o..o + 35])
+    own_bytes::own_of(&s[o..])
 }
 
-// Whether a slot is empty, as nearly all are that the plan lacks: then every byte is 0.
+// Whether a slot is empty.
 fn is_vacant(s: &[u8], i: usize) -> bool
     requires { ⌜ (length (now s) ≡ 592) × (i < 16) ⌝ }
     ensures { λ r. ⌜ r ≡ (isSlot (now (s .entry)) i && ownEmpty (slotOf (now (s .entry)) i)) ⌝ }
 {
-    let o = i * 35;
-    if fields::are_zeros(&s[o..o + 35]) {
-        return true;
-    }
     if is_slot(s, i) {
         let own = slot_of(s, i);
         fitting::is_empty(own)
@@ -67,12 +64,27 @@ fn slot_fits(image: &[u8], places: Places, n: u8, s: &[u8], m: u8) -> bool
     }
 }
 
+// Whether every byte of the slots from that of module m on is 0.
+fn zeros_from(s: &[u8], m: u8) -> bool
+    requires { ⌜ (length (now s) ≡ 592) × (m < 16) ⌝ }
+    ensures { λ r. ⌜ r ≡ allZero (take (560 - m * 35) (drop (m * 35) (now (s .entry)))) ⌝ }
+{
+    let o = words::wide(m) * 35;
+    fields::are_zeros(&s[o..560])
+}
+
+// Slots that the plan lacks are 0 in every state that fits, so that all of them are judged by one look at their bytes.
 fn slots_fit(image: &[u8], places: Places, n: u8, s: &[u8]) -> bool
     requires { ⌜ length (now s) ≡ 592 ⌝ }
     ensures { λ r. ⌜ r ≡ allBelow (slotFits (recordsBy (now (image .entry)) places) n (now (s .entry))) 16 ⌝ }
 {
     let mut m: u8 = 0;
     while m < 16 {
+        if n <= m {
+            if zeros_from(s, m) {
+                return true;
+            }
+        }
         if slot_fits(image, places, n, s, m) {
             m += 1;
         } else {
@@ -82,17 +94,28 @@ fn slots_fit(image: &[u8], places: Places, n: u8, s: &[u8]) -> bool
     true
 }
 
-// The states of the supervisors.
-pub fn states_of(s: &[u8]) -> [u8; 32]
+fn states_in(s: &[u8]) -> [u8; 32]
+    requires { ⌜ length (now s) ≡ 592 ⌝ }
     ensures { λ r. ⌜ r ≡ listFrom (stateOf (now (s .entry))) 0 32 ⌝ }
 {
     let mut next = [0u8; 32];
     let mut i: usize = 0;
     while i < 32 {
-        next[i] = words::byte_at(s, 560 + i);
+        next[i] = s[560 + i];
         i += 1;
     }
     next
+}
+
+// The states of the supervisors; bytes of another length have none.
+pub fn states_of(s: &[u8]) -> [u8; 32]
+    ensures { λ r. ⌜ r ≡ statesIn (now (s .entry)) ⌝ }
+{
+    if s.len() == 592 {
+        states_in(s)
+    } else {
+        [0; 32]
+    }
 }
 
 // Whether the bytes stand for a device that fits the plan.
@@ -104,26 +127,25 @@ pub fn fits(image: &[u8], places: Places, s: &[u8]) -> bool
     }
     let n = plan::modules_of(image, places);
     if slots_fit(image, places, n, s) {
-        let states = states_of(s);
+        let states = states_in(s);
         device_states::states_fit(image, places, states)
     } else {
         false
     }
 }
 
-// The own part of a module, and the empty one past the last slot.
+// The own part of a module; past the last slot, and of bytes of another length, the empty one.
 pub fn own_at(s: &[u8], m: u8) -> Own
-    ensures { λ r. ⌜ r ≡ ownAt (deviceAt (now (s .entry))) m ⌝ }
+    ensures { λ r. ⌜ r ≡ ownIn (now (s .entry)) m ⌝ }
 {
+    if s.len() != 592 {
+        return modules::empty();
+    }
     if 16 <= m {
         return modules::empty();
     }
-    let o = words::wide(m) * 35;
-    if o <= s.len() {
-        own_bytes::own_of(&s[o..])
-    } else {
-        own_bytes::own_of(&s[..0])
-    }
+    let i = words::wide(m);
+    slot_of(s, i)
 }
 
 // ---- put

@@ -43,8 +43,8 @@ use Rattle.device.specs.declared.DeviceCalled.{DeviceCalled}
 use Rattle.device.specs.declared.DeviceTurned.{DeviceTurned}
 use Rattle.device.specs.declared.Turning.the-variants.{Turned as Turns}
 use Rattle.device_bytes.specs.Device as bytes
-use Rattle.device_bytes.specs.Device.{deviceBytes, devicePut, isDevice, deviceAt, deviceOf, slotPut}
-use Rattle.device_bytes.proofs.InPlace.{device-moved, device-kept, fits-stands}
+use Rattle.device_bytes.specs.Device.{deviceBytes, devicePut, isDevice, deviceAt, deviceOf, statesIn, ownIn, slotPut}
+use Rattle.device_bytes.proofs.InPlace.{device-moved, device-kept, fits-stands, states-taken, own-taken}
 use Rattle.packing.specs.Answer.{Answered, packed, calledAnswer, turningAnswer, lentAfter, startAnswer}
 use Rattle.packing.proofs.Accepted.{after-yes, after-no}
 use Rattle.packing.specs.Flow.{flowOf}
@@ -130,15 +130,21 @@ module _ (s : List ℕ) (m : ℕ) (g : Bytes s) (d : isDevice s ≡ true) where
 -- ---- a call of a plan that is accepted
 
 module _ (rs : List Record) (s : List ℕ) (m : ℕ) {n : ℕ} (e : n ≡ deviceNumber rs (deviceOf s) m) (z : n ≡ 0) where
-  is-at : deviceAt s ≡ deviceOf s
-  is-at = stands-at s (number-stands rs s m e z)
+  stands : isDevice s ≡ true
+  stands = number-stands rs s m e z
 
-  pub turn-done : {states s1 : List ℕ} {own : Own} {t : Turned} {r : ℕ} → states ≡ deviceAt s .supervisors → own ≡ ownAt (deviceAt s) m
+  is-at : deviceAt s ≡ deviceOf s
+  is-at = stands-at s stands
+
+  pub states-read : {states : List ℕ} → states ≡ statesIn s → states ≡ deviceAt s .supervisors
+  states-read = states-taken s stands
+
+  pub turn-done : {states s1 : List ℕ} {own : Own} {t : Turned} {r : ℕ} → states ≡ statesIn s → own ≡ ownIn s m
       → t ≡ turnOf rs m (shownBy rs (stateOf states) (supervisorsOf rs)) own → s1 ≡ devicePut (afterTurn rs (deviceAt s) m t) s → r ≡ turningAnswer (Turns (t .turn))
       → Answered (turnedOn (turnIn rs (deviceOf s) m (deviceNumber rs (deviceOf s) m)) s) r s1 []
   turn-done {states} {s1} {own} {t} {r} u v w k a =
       let is : t ≡ turned rs (deviceOf s) m =
-      w ∙ ap₂ (λ (x : List ℕ) (y : Own). turnOf rs m (shownBy rs (stateOf x) (supervisorsOf rs)) y) u v ∙ ap (λ (y : Device). turnOf rs m (shownBy rs (stateOf (y .supervisors)) (supervisorsOf rs)) (ownAt y m)) is-at ∙ (unfold turned in refl) in
+      w ∙ ap₂ (λ (x : List ℕ) (y : Own). turnOf rs m (shownBy rs (stateOf x) (supervisorsOf rs)) y) (states-read u) (own-taken s stands m v) ∙ ap (λ (y : Device). turnOf rs m (shownBy rs (stateOf (y .supervisors)) (supervisorsOf rs)) (ownAt y m)) is-at ∙ (unfold turned in refl) in
       subst (λ (c : DeviceTurned). Answered (turnedOn c s) r s1 []) (turn-taken rs (deviceOf s) m n e z is (ap (λ (y : Device). afterTurn rs y m t) is-at))
       (record { answer = a; state = k ∙ (unfold lentAfter in refl); buffer = refl })
 
@@ -146,11 +152,11 @@ module _ (rs : List Record) (s : List ℕ) (m : ℕ) {n : ℕ} (e : n ≡ device
   reply-done {x} {y} {r} {s1} w a =
       subst (λ (c : DeviceCalled). Answered (calledOn c s) r s1 []) (reply-taken rs (deviceOf s) m n e z w (ap (λ (v : Device). replyIn v m 0 x) is-at)) a
 
-  pub respond-own : (k : ℕ) {own : Own} {x : Replied} → own ≡ ownAt (deviceAt s) m → x ≡ respondOf rs m k own → x ≡ respondOf rs m k (ownAt (deviceOf s) m)
-  respond-own k v w = w ∙ ap (respondOf rs m k) (v ∙ ap (λ (y : Device). ownAt y m) is-at)
+  pub respond-own : (k : ℕ) {own : Own} {x : Replied} → own ≡ ownIn s m → x ≡ respondOf rs m k own → x ≡ respondOf rs m k (ownAt (deviceOf s) m)
+  respond-own k v w = w ∙ ap (respondOf rs m k) (own-taken s stands m v ∙ ap (λ (y : Device). ownAt y m) is-at)
 
-  pub tick-own : (f : Flow) {own : Own} {x : Replied} → own ≡ ownAt (deviceAt s) m → x ≡ tickOf rs f own → x ≡ tickOf rs f (ownAt (deviceOf s) m)
-  tick-own f v w = w ∙ ap (tickOf rs f) (v ∙ ap (λ (y : Device). ownAt y m) is-at)
+  pub tick-own : (f : Flow) {own : Own} {x : Replied} → own ≡ ownIn s m → x ≡ tickOf rs f own → x ≡ tickOf rs f (ownAt (deviceOf s) m)
+  tick-own f v w = w ∙ ap (tickOf rs f) (own-taken s stands m v ∙ ap (λ (y : Device). ownAt y m) is-at)
 
 -- ---- the image as it was examined
 

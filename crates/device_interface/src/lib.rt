@@ -1,5 +1,5 @@
-// The calls of the one-device controller over lent bytes: specs/Calls.antt. A call changes the bytes of one slot, and the states behind the
-// slots; what it leaves is what the call of crate device leaves.
+// The calls of the one-device controller over lent bytes: specs/Calls.antt. A call changes the bytes of one slot, and a turn that fires an event
+// also the states behind the slots; what is left is what the call of crate device leaves.
 ghost use mathlib.Core.Path.{_≡_};
 ghost use mathlib.Core.Bool.{true};
 ghost use mathlib.Core.List.{[]};
@@ -78,7 +78,7 @@ pub fn turn(image: &[u8], state: &mut [u8], m: u8) -> u64
 
 // ---- a response and a tick
 
-// The answer to a module's reply, and its slot if the reply is that it was taken.
+// The answer to a module's reply; its slot is put if the reply is no refusal.
 fn keep(state: &mut [u8], m: u8, r: Replied) -> u64
     requires { ⌜ isDevice (now state) ≡ true ⌝ }
     ensures { λ a. ⌜ Answered (calledOn (replyIn (deviceAt (now (state .entry))) m 0 r) (now (state .entry))) a (now (state .exit)) [] ⌝ }

@@ -101,7 +101,7 @@ fn state_slot_fits(image: &[u8], places: Places, n: u8, st: u8, v: u8) -> bool
     }
 }
 
-fn states_pass(image: &[u8], places: Places, n: u8, states: [u8; 32]) -> bool
+fn states_fit_of(image: &[u8], places: Places, n: u8, states: [u8; 32]) -> bool
     ensures { λ r. ⌜ r ≡ allBelow (λ v. cond (ltb v n) (supervisorState (recordsBy (now (image .entry)) places) v (stateOf states v)) (eqb (stateOf states v) 0)) 32 ⌝ }
 {
     let mut v: u8 = 0;
@@ -122,7 +122,7 @@ pub fn states_fit(image: &[u8], places: Places, states: [u8; 32]) -> bool
     ensures { λ r. ⌜ r ≡ allBelow (stateSlotFits (recordsBy (now (image .entry)) places) states) 32 ⌝ }
 {
     let n = plan::supervisors_of(image, places);
-    states_pass(image, places, n, states)
+    states_fit_of(image, places, n, states)
 }
 
 // Whether the whole state fits the plan.

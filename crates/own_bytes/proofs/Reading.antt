@@ -1,20 +1,21 @@
 -- An own part is read from its 35 bytes alone, and bytes that are all 0 are an empty one.
 use mathlib.Core.Path.{_≡_, refl, sym, ap, ap₂, _∙_}
 use mathlib.Core.List.{List, [], _∷_}
-use mathlib.Core.Bool.{true}
+use mathlib.Core.Bool.{Bool, true, false}
 use Prim.Native.Nat.{ℕ, zero, suc, _+_, _≤_, _<_}
 use native.Mathlib.Omega.{arith}
-use lib.ListN.{getD, take}
+use lib.ListN.{length, getD, take}
 use lib.Dec.{eqb, lit<}
 use lib.Seq.{getD-take}
 use lib.Ieee.{ofBits, nanBits}
 use Rattle.litres.specs.Eighths.{isEighths, count}
 use Rattle.words.specs.Word.{quadAt, wordAt}
 use Rattle.modules.specs.Fits.{ownEmpty, idleFits, every}
-use Rattle.fields.specs.Fields.{bytesFrom, halfAt, zeros}
+use Rattle.modules.specs.declared.Own.{Own}
+use Rattle.fields.specs.Fields.{bytesFrom, halfAt, allZero}
 use Rattle.fields.proofs.Back.{and-left, and-right}
-use borrow.Author.Tests.{eqb-true}
-use Rattle.own_bytes.specs.Own.{procedureOf, ownOf, isOwn}
+use borrow.Author.Tests.{eqb-true, lt-ltb, le-ltb}
+use Rattle.own_bytes.specs.Own.{procedureOf, ownOf, isOwn, unfitOwn, ownRead, ownStands}
 
 -- ---- the same 35 bytes
 
@@ -49,27 +50,43 @@ module _ (b c : List ℕ) (same : (i : ℕ) → i < 35 → getD b i 0 ≡ getD c
 -- ---- a slice of just those bytes
 
 module _ (b : List ℕ) where
-  pub is-window : isOwn (take 35 b) ≡ isOwn b
-  is-window = is-same (take 35 b) b (λ i h. getD-take 35 b i 0 h)
+  pub is-short : length b < 35 → false ≡ ownStands b
+  unfolding ownStands
+  is-short h = simp (lt-ltb (length b) 35 h)
 
-  pub own-window : ownOf (take 35 b) ≡ ownOf b
-  own-window = own-same (take 35 b) b (λ i h. getD-take 35 b i 0 h)
+  pub is-window : {r : Bool} → 35 ≤ length b → r ≡ isOwn (take 35 b) → r ≡ ownStands b
+  unfolding ownStands
+  is-window h e = simp (le-ltb (length b) 35 h) (e ∙ is-same (take 35 b) b (λ i k. getD-take 35 b i 0 k))
+
+  pub own-short : {r : Own} → length b < 35 → r ≡ unfitOwn → r ≡ ownRead b
+  unfolding ownRead
+  own-short h e = simp (lt-ltb (length b) 35 h) e
+
+  pub own-window : {r : Own} → 35 ≤ length b → r ≡ ownOf (take 35 b) → r ≡ ownRead b
+  unfolding ownRead
+  own-window h e = simp (le-ltb (length b) 35 h) (e ∙ own-same (take 35 b) b (λ i k. getD-take 35 b i 0 k))
+
+  -- bytes that are enough
+  pub stands-all : 35 ≤ length b → ownStands b ≡ isOwn b
+  unfolding ownStands
+  stands-all h = simp (le-ltb (length b) 35 h)
+
+  pub read-all : 35 ≤ length b → ownRead b ≡ ownOf b
+  unfolding ownRead
+  read-all h = simp (le-ltb (length b) 35 h)
 
 -- ---- bytes that are 0
 
-zero-at : (s : List ℕ) → zeros s ≡ true → (i : ℕ) → getD s i 0 ≡ 0
-unfolding zeros
+pub zero-at : (s : List ℕ) → allZero s ≡ true → (i : ℕ) → getD s i 0 ≡ 0
+unfolding allZero
 zero-at [] h i = refl
-zero-at (x ∷ s) h zero = eqb-true x 0 (and-left (eqb x 0) (zeros s) h)
-zero-at (x ∷ s) h (suc i) = zero-at s (and-right (eqb x 0) (zeros s) h) i
+zero-at (x ∷ s) h zero = eqb-true x 0 (and-left (eqb x 0) (allZero s) h)
+zero-at (x ∷ s) h (suc i) = zero-at s (and-right (eqb x 0) (allZero s) h) i
 
 -- they stand for an own part, and for an empty one
-module _ (b : List ℕ) (h : zeros (take 35 b) ≡ true) where
-  nothing : (i : ℕ) → i < 35 → getD b i 0 ≡ getD [] i 0
-  nothing i k = sym (getD-take 35 b i 0 k) ∙ zero-at (take 35 b) h i
-
+module _ (b : List ℕ) (h : (i : ℕ) → i < 35 → getD b i 0 ≡ 0) where
   pub zeros-stand : isOwn b ≡ true
-  zeros-stand = is-same b [] nothing ∙ (unfold isOwn wordAt nanBits in refl)
+  zeros-stand = is-same b [] h ∙ (unfold isOwn wordAt nanBits in refl)
 
   pub zeros-empty : ownEmpty (ownOf b) ≡ true
-  zeros-empty = ap ownEmpty (own-same b [] nothing) ∙ (unfold ownEmpty ownOf procedureOf bytesFrom halfAt quadAt wordAt idleFits every isEighths count ofBits in refl)
+  zeros-empty = ap ownEmpty (own-same b [] h) ∙ (unfold ownEmpty ownOf procedureOf bytesFrom halfAt quadAt wordAt idleFits every isEighths count ofBits in refl)

@@ -5,12 +5,12 @@ use Prim.Native.Nat.{ℕ, _+_, _≤_}
 use native.Mathlib.Omega.{arith}
 use lib.ListN.{length, length-append}
 use lib.Seq.{sets}
-use Rattle.words.specs.Word.{putAt, wordBytes}
-use Rattle.words.proofs.Laws.{put-sets}
+use Rattle.words.specs.Word.{quadBytes, putAt, wordBytes}
+use Rattle.words.proofs.Laws.{length-quad, put-sets}
 use Rattle.modules.specs.declared.Own.{Own}
 use Rattle.modules.specs.declared.Procedure.{Procedure}
-use Rattle.fields.specs.Fields.{halfBytes, quadBytes, flagByte, floatBytes}
-use Rattle.fields.proofs.Writing.{join, next, length-quad}
+use Rattle.fields.specs.Fields.{halfBytes, flagByte, floatBytes}
+use Rattle.fields.proofs.Writing.{join, next}
 use Rattle.own_bytes.specs.Own.{procedureBytes, ownBytes}
 
 pub length-procedure : (p : Procedure) → length (procedureBytes p) ≡ 21

@@ -4,16 +4,17 @@
 use Prim.Native.Nat.{ℕ, _^_, _<_}
 use mathlib.Core.Path.{_≡_}
 use mathlib.Core.List.{List, _∷_, _++_}
-use mathlib.Core.Bool.{Bool, true, false, _&&_}
+use mathlib.Core.Bool.{Bool, true, false, cond, _&&_}
 use lib.ListN.{length, getD, replicate}
+use lib.Dec.{ltb}
 use Rattle.roundtrip.specs.Fits.{Byte, Bytes}
 use Rattle.records.specs.declared.Record.{Record}
 use Rattle.modules.specs.Procedure.{idle}
 use Rattle.modules.specs.Fits.{ownFits, ownEmpty}
 use Rattle.modules.specs.declared.Own.{Own}
 use Rattle.modules.specs.declared.Procedure.{Procedure}
-use Rattle.words.specs.Word.{quadAt}
-use Rattle.fields.specs.Fields.{bytesFrom, halfBytes, halfAt, quadBytes, flagByte, flagOf, isFlag, floatBytes, floatAt, isFloat, Number}
+use Rattle.words.specs.Word.{quadBytes, quadAt}
+use Rattle.fields.specs.Fields.{bytesFrom, halfBytes, halfAt, flagByte, flagOf, isFlag, floatBytes, floatAt, isFloat, Number}
 
 unfoldable pub procedureBytes : Procedure → List ℕ
 procedureBytes p =
@@ -44,6 +45,13 @@ isOwn b = isFlag (getD b 10 0) && isFloat b 15 && isFloat b 23
 -- an own part that fits no plan: its queue is longer than 8
 abbrev pub unfitOwn : Own
 unfitOwn = record { state = 0; queue = replicate 8 0; length = 255; procedure = idle; outputs = 0 }
+
+-- what is read of bytes: fewer than 35 stand for no own part, and give one that fits no plan
+unfoldable pub ownStands : List ℕ → Bool
+ownStands b = cond (ltb (length b) 35) false (isOwn b)
+
+unfoldable pub ownRead : List ℕ → Own
+ownRead b = cond (ltb (length b) 35) unfitOwn (ownOf b)
 
 -- ---- what is proved of them
 

@@ -5,7 +5,7 @@ ghost use lib.ListN.{length};
 ghost use lib.Seq.{sets};
 ghost use Rattle.messages.specs.Message.{putAt};
 ghost use Rattle.fields.specs.Fields.{bytesFrom, floatAt};
-ghost use Rattle.own_bytes.specs.Own.{procedureBytes, ownBytes, procedureOf, ownOf, isOwn, unfitOwn};
+ghost use Rattle.own_bytes.specs.Own.{procedureBytes, ownBytes, procedureOf, ownOf, isOwn, unfitOwn, ownRead, ownStands};
 use modules::Own;
 use modules::Procedure;
 use water::Water;
@@ -51,8 +51,7 @@ fn procedure_of(s: &[u8]) -> Procedure
     }
 }
 
-// The own part that the bytes are, by their places.
-pub fn own_of(s: &[u8]) -> Own
+fn own_in(s: &[u8]) -> Own
     ensures { λ r. ⌜ r ≡ ownOf (now (s .entry)) ⌝ }
 {
     let state = words::byte_at(s, 0);
@@ -69,11 +68,31 @@ pub fn own_of(s: &[u8]) -> Own
     }
 }
 
-// Whether they stand for one.
-pub fn is_own(s: &[u8]) -> bool
+// The own part that the bytes are, by their places; one that fits no plan, if they are too few. It is read from a slice of just its bytes, so that the
+// compiler need not ask for each whether it is there.
+pub fn own_of(s: &[u8]) -> Own
+    ensures { λ r. ⌜ r ≡ ownRead (now (s .entry)) ⌝ }
+{
+    if s.len() < 35 {
+        return unfit();
+    }
+    own_in(&s[0..35])
+}
+
+fn is_own_in(s: &[u8]) -> bool
     ensures { λ r. ⌜ r ≡ isOwn (now (s .entry)) ⌝ }
 {
     (words::byte_at(s, 10) < 2) & fields::is_float(s, 15) & fields::is_float(s, 23)
+}
+
+// Whether they stand for one.
+pub fn is_own(s: &[u8]) -> bool
+    ensures { λ r. ⌜ r ≡ ownStands (now (s .entry)) ⌝ }
+{
+    if s.len() < 35 {
+        return false;
+    }
+    is_own_in(&s[0..35])
 }
 
 // ---- an own part written
@@ -98,7 +117,7 @@ fn put_own_in(s: &mut [u8], o: usize, own: Own)
     words::put_bytes(&mut *s, o, &[own.state, own.length]);
     words::put_bytes(&mut *s, o + 2, &queue);
     put_procedure(&mut *s, o + 10, procedure);
-    fields::put_quad(&mut *s, o + 31, own.outputs);
+    words::put_quad(&mut *s, o + 31, own.outputs);
 }
 
 // Puts the bytes of an own part at an index, if there is room for all; else the slice stays.

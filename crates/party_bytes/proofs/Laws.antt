@@ -1,25 +1,51 @@
 -- The bytes of a party read and put, from what the code is told.
 use mathlib.Core.Path.{_≡_, refl, sym, ap, ap₂, _∙_}
 use mathlib.Core.List.{List, [], _∷_, _++_}
-use mathlib.Core.Bool.{Bool, true, false}
+use mathlib.Core.Bool.{Bool, true, false, _&&_, true≢false}
 use Prim.Native.Nat.{ℕ, _+_, _/_, _%_, _≤_, _<_}
 use native.Mathlib.Omega.{arith}
-use lib.ListN.{length, set, length-append}
+use lib.ListN.{length, getD, set, length-append}
+use lib.Dec.{eqb, ltb}
 use lib.Seq.{sets, length-sets}
-use Rattle.words.specs.Word.{wordBytes}
-use Rattle.words.proofs.Laws.{length-word}
+use borrow.Author.Tests.{eq-eqb, ne-eqb, eqb-true}
+use Rattle.words.specs.Word.{quadAt, quadBytes, wordAt, wordBytes}
+use Rattle.words.proofs.Laws.{length-quad, length-word}
 use Rattle.messages.specs.Message.{putAt}
 use Rattle.messages.proofs.Writing.{put-sets, put-not}
 use Rattle.permits.specs.declared.Module.{Module}
 use Rattle.permits.specs.declared.Supervisor.{Supervisor}
-use Rattle.fields.specs.Fields.{quadBytes, halfBytes, flagByte}
-use Rattle.fields.proofs.Writing.{join, next, length-quad}
-use Rattle.own_bytes.specs.Own.{ownBytes}
+use Rattle.modules.specs.declared.Own.{Own}
+use Rattle.fields.specs.Fields.{halfBytes, flagByte, isFlag}
+use Rattle.fields.proofs.Writing.{join, next}
+use Rattle.own_bytes.specs.Own.{ownBytes, isOwn, ownRead, ownStands}
+use Rattle.own_bytes.proofs.Reading.{stands-all, read-all}
 use Rattle.own_bytes.proofs.Writing.{length-own}
 use Rattle.party_bytes.specs.Module.{moduleBytes, moduleAt, isModule, unfitModule, moduleOf}
 use Rattle.party_bytes.specs.Supervisor.{isOut, holderByte, supervisorBytes, supervisorAt, isSupervisor, unfitSupervisor, supervisorOf}
 
 -- ---- read
+
+module _ (s : List ℕ) where
+  pub module-other : (length s ≡ 48 → ⊥) → false ≡ isModule s
+  unfolding isModule
+  module-other h = sym (ap (λ (t : Bool). t && isOwn s && isFlag (getD s 47 0)) (ne-eqb (length s) 48 h))
+
+  pub module-is : {x : Bool} {y : ℕ} → length s ≡ 48 → x ≡ ownStands s → y ≡ getD s 47 0 → (x && ltb y 2) ≡ isModule s
+  unfolding isModule
+  module-is h e w =
+      ap₂ (λ (t : Bool) (n : ℕ). t && isFlag n) (e ∙ stands-all s (omega (arith, h))) w ∙ sym (ap (λ (t : Bool). t && isOwn s && isFlag (getD s 47 0)) (eq-eqb (length s) 48 h))
+
+  pub module-long : {t : Bool} → t ≡ isModule s → t ≡ true → length s ≡ 48
+  module-long e h = go (eqb (length s) 48) refl
+    where
+      go : (t : Bool) → eqb (length s) 48 ≡ t → length s ≡ 48
+      go true w = eqb-true (length s) 48 w
+      go false w = absurd (true≢false (sym h ∙ e ∙ (unfold isModule in ap (λ (t : Bool). t && isOwn s && isFlag (getD s 47 0)) w)))
+
+  pub module-read : {own : Own} {held received flag : ℕ} → length s ≡ 48 → own ≡ ownRead s → held ≡ quadAt s 35 → received ≡ wordAt s 39 → flag ≡ getD s 47 0
+      → record { own = own; held = held; received = received; bid = eqb flag 1 } ≡ moduleAt s
+  unfolding moduleAt
+  module-read l e h k w = simp (e ∙ read-all s (omega (arith, l)), h, k, w)
 
 module _ (s : List ℕ) {t : Bool} where
   pub module-yes : {r : Module} → t ≡ isModule s → t ≡ true → r ≡ moduleAt s → r ≡ moduleOf s

@@ -6,12 +6,12 @@ use mathlib.Core.List.{List, [], _∷_, _++_}
 use mathlib.Core.Bool.{Bool, true, false, cond, _&&_}
 use lib.ListN.{length, getD}
 use lib.Dec.{eqb}
-use Rattle.words.specs.Word.{quadAt, wordAt, wordBytes}
+use Rattle.words.specs.Word.{quadAt, quadBytes, wordAt, wordBytes}
 use Rattle.records.specs.declared.Record.{Record}
 use Rattle.roundtrip.specs.Fits.{Bytes}
 use Rattle.permits.specs.Module.{moduleFits}
 use Rattle.permits.specs.declared.Module.{Module}
-use Rattle.fields.specs.Fields.{quadBytes, flagByte, flagOf, isFlag}
+use Rattle.fields.specs.Fields.{flagByte, flagOf, isFlag}
 use Rattle.own_bytes.specs.Own.{ownBytes, ownOf, isOwn, OwnEncodable, unfitOwn}
 
 unfoldable pub moduleBytes : Module → List ℕ

@@ -1,5 +1,6 @@
 // The states of a module and of a supervisor on their own devices as bytes: specs/Module.antt and specs/Supervisor.antt.
 ghost use mathlib.Core.Path.{_≡_};
+ghost use lib.ListN.{length};
 ghost use Rattle.messages.specs.Message.{putAt};
 ghost use Rattle.party_bytes.specs.Module.{moduleBytes, moduleAt, isModule, unfitModule, moduleOf};
 ghost use Rattle.party_bytes.specs.Supervisor.{isOut, holderByte, holderOf, supervisorBytes, supervisorAt, isSupervisor, unfitSupervisor, supervisorOf};
@@ -13,10 +14,14 @@ use permits::Supervisor;
 fn is_module(s: &[u8]) -> bool
     ensures { λ r. ⌜ r ≡ isModule (now (s .entry)) ⌝ }
 {
-    (s.len() == 48) & own_bytes::is_own(s) & (words::byte_at(s, 47) < 2)
+    if s.len() != 48 {
+        return false;
+    }
+    own_bytes::is_own(s) & (words::byte_at(s, 47) < 2)
 }
 
 fn module_at(s: &[u8]) -> Module
+    requires { ⌜ length (now s) ≡ 48 ⌝ }
     ensures { λ r. ⌜ r ≡ moduleAt (now (s .entry)) ⌝ }
 {
     let own = own_bytes::own_of(s);
@@ -61,7 +66,7 @@ pub fn put_module(s: &mut [u8], x: Module)
     if 48 <= s.len() {
         let own = x.own;
         own_bytes::put_own(&mut *s, 0, own);
-        fields::put_quad(&mut *s, 35, x.held);
+        words::put_quad(&mut *s, 35, x.held);
         words::put_word(&mut *s, 39, x.received);
         s[47] = fields::flag_of(x.bid);
     }

@@ -12,8 +12,8 @@ modules-of-requires c κs = search needs
 slots-fit-requires : tie.Need-slots-fit-requires
 slots-fit-requires c κs = search needs
 
-states-of-requires : tie.Need-states-of-requires
-states-of-requires c κs = search needs
+states-in-requires : tie.Need-states-in-requires
+states-in-requires c κs = search needs
 
 states-fit-requires : tie.Need-states-fit-requires
 states-fit-requires c κs = search needs
@@ -31,7 +31,7 @@ fits-spec =
     returns
     modules-of-requires
     slots-fit-requires
-    states-of-requires
+    states-in-requires
     states-fit-requires
     returns-2
     returns-3)

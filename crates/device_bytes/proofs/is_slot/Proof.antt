@@ -6,9 +6,6 @@ use Rattle.device_bytes.proofs.is_slot.Tie as tie
 mul-o : tie.Need-mul-o
 mul-o c = search needs
 
-add-is-own : tie.Need-add-is-own
-add-is-own c = search needs
-
 sub-is-own : tie.Need-sub-is-own
 sub-is-own c = search needs
 
@@ -26,4 +23,4 @@ returns c = search slot-is
 
 pub is-slot-spec : {M : Type 1} → statement M
 is-slot-spec =
-    tie.close (tie.spec mul-o add-is-own sub-is-own part-is-own-start part-is-own-end is-own-requires returns)
+    tie.close (tie.spec mul-o sub-is-own part-is-own-start part-is-own-end is-own-requires returns)

@@ -6,9 +6,6 @@ use Rattle.device_bytes.proofs.slot_of.Tie as tie
 mul-o : tie.Need-mul-o
 mul-o c = search needs
 
-add-own-of : tie.Need-add-own-of
-add-own-of c = search needs
-
 sub-own-of : tie.Need-sub-own-of
 sub-own-of c = search needs
 
@@ -26,4 +23,4 @@ returns c = search slot-read
 
 pub slot-of-spec : {M : Type 1} → statement M
 slot-of-spec =
-    tie.close (tie.spec mul-o add-own-of sub-own-of part-own-of-start part-own-of-end own-of-requires returns)
+    tie.close (tie.spec mul-o sub-own-of part-own-of-start part-own-of-end own-of-requires returns)

@@ -6,7 +6,7 @@ use Rattle.bits.specs.Bit.{allBelow}
 use Rattle.places.specs.Places.{recordsBy}
 use Rattle.device_states.proofs.Slots.{all-done}
 use Rattle.device_bytes.specs.Device.{slotFits}
-use Rattle.device_bytes.proofs.Laws.{slot-on, slot-fails}
+use Rattle.device_bytes.proofs.Laws.{slots-zero, slot-on, slot-fails}
 use Rattle.device_bytes.proofs.slots_fit.Statement.{statement}
 use Rattle.device_bytes.proofs.slots_fit.Tie as tie
 
@@ -20,6 +20,12 @@ loop-holds : tie.Need-loop-holds Inv-loop μ-loop
 unfolding allBelow
 loop-holds c = (search needs, refl)
 
+zeros-from-requires : tie.Need-zeros-from-requires Inv-loop μ-loop
+zeros-from-requires c κs = search needs
+
+returns : tie.Need-returns Inv-loop μ-loop
+returns c = search slots-zero
+
 slot-fits-requires : tie.Need-slot-fits-requires Inv-loop μ-loop
 slot-fits-requires c κs = search needs
 
@@ -32,11 +38,11 @@ loop-less c = search needs
 loop-again : tie.Need-loop-again Inv-loop μ-loop
 loop-again c = (search needs, search slot-on)
 
-returns : tie.Need-returns Inv-loop μ-loop
-returns c = search slot-fails
-
 returns-2 : tie.Need-returns-2 Inv-loop μ-loop
-returns-2 c = search all-done
+returns-2 c = search slot-fails
+
+returns-3 : tie.Need-returns-3 Inv-loop μ-loop
+returns-3 c = search all-done
 
 pub slots-fit-spec : {M : Type 1} → statement M
 slots-fit-spec =
@@ -45,9 +51,11 @@ slots-fit-spec =
     Inv-loop
     μ-loop
     loop-holds
+    zeros-from-requires
+    returns
     slot-fits-requires
     add-m
     loop-less
     loop-again
-    returns
-    returns-2)
+    returns-2
+    returns-3)

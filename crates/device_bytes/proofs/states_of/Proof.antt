@@ -1,55 +1,16 @@
+use Rattle.device_bytes.proofs.Laws.{states-yes, states-no}
 use borrow.Author.Needs.{needs}
-use Rattle.device_bytes.proofs.Laws.{states-on, states-done}
-use Rattle.device_bytes.specs.Device.{stateOf}
-use Rattle.device_states.proofs.Slots.{filled}
-use Rattle.plan.specs.Lists.{listFrom}
-use Prim.Native.Nat.{_-_, _≤_}
-use mathlib.Core.Path.{_≡_, refl}
 use Rattle.device_bytes.proofs.states_of.Statement.{statement}
 use Rattle.device_bytes.proofs.states_of.Tie as tie
 
-abbrev Inv-loop : tie.InvT-loop
-Inv-loop s next₀ i₀ next i = (i ≤ 32) × (next ≡ filled (stateOf s) 0 32 i)
+states-in-requires : tie.Need-states-in-requires
+states-in-requires c κs = search needs
 
-abbrev μ-loop : tie.MeasureT-loop
-μ-loop s next₀ i₀ next i = 32 - i
+returns : tie.Need-returns
+returns c = search states-yes
 
-loop-holds : tie.Need-loop-holds Inv-loop μ-loop
-unfolding listFrom
-loop-holds c = (search needs, refl)
-
-add-byte-at : tie.Need-add-byte-at Inv-loop μ-loop
-add-byte-at c = search needs
-
-byte-at-requires : tie.Need-byte-at-requires Inv-loop μ-loop
-byte-at-requires c κs = search needs
-
-array-write-next : tie.Need-array-write-next Inv-loop μ-loop
-array-write-next c = search needs
-
-add-i : tie.Need-add-i Inv-loop μ-loop
-add-i c = search needs
-
-loop-less : tie.Need-loop-less Inv-loop μ-loop
-loop-less c = search needs
-
-loop-again : tie.Need-loop-again Inv-loop μ-loop
-loop-again c = (search needs, search states-on)
-
-returns : tie.Need-returns Inv-loop μ-loop
-returns c = search states-done
+returns-2 : tie.Need-returns-2
+returns-2 c = search states-no
 
 pub states-of-spec : {M : Type 1} → statement M
-states-of-spec =
-    tie.close
-    (tie.spec
-    Inv-loop
-    μ-loop
-    loop-holds
-    add-byte-at
-    byte-at-requires
-    array-write-next
-    add-i
-    loop-less
-    loop-again
-    returns)
+states-of-spec = tie.close (tie.spec states-in-requires returns returns-2)

@@ -1,4 +1,4 @@
-use Rattle.device_interface.proofs.Laws.{number-stands, turn-numbered, turn-done}
+use Rattle.device_interface.proofs.Laws.{number-stands, turn-numbered, turn-done, states-read}
 use borrow.Author.Needs.{needs}
 use Rattle.device_interface.proofs.turn_in.Statement.{statement}
 use Rattle.device_interface.proofs.turn_in.Tie as tie
@@ -25,7 +25,7 @@ turn-by-requires : tie.Need-turn-by-requires
 turn-by-requires c κs = search needs
 
 keep-turn-requires : tie.Need-keep-turn-requires
-keep-turn-requires c κs = (search number-stands, search needs)
+keep-turn-requires c κs = (search number-stands, search states-read)
 
 turning-requires : tie.Need-turning-requires
 turning-requires c κs = search needs

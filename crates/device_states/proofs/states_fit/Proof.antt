@@ -6,11 +6,11 @@ use Rattle.device_states.proofs.states_fit.Tie as tie
 supervisors-of-requires : tie.Need-supervisors-of-requires
 supervisors-of-requires c κs = search needs
 
-states-pass-requires : tie.Need-states-pass-requires
-states-pass-requires c κs = search needs
+states-fit-of-requires : tie.Need-states-fit-of-requires
+states-fit-of-requires c κs = search needs
 
 returns : tie.Need-returns
 returns c = search states-all
 
 pub states-fit-spec : {M : Type 1} → statement M
-states-fit-spec = tie.close (tie.spec supervisors-of-requires states-pass-requires returns)
+states-fit-spec = tie.close (tie.spec supervisors-of-requires states-fit-of-requires returns)

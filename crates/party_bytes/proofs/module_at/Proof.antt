@@ -1,4 +1,4 @@
-use Rattle.party_bytes.specs.Module.{moduleAt}
+use Rattle.party_bytes.proofs.Laws.{module-read}
 use borrow.Author.Needs.{needs}
 use Rattle.party_bytes.proofs.module_at.Statement.{statement}
 use Rattle.party_bytes.proofs.module_at.Tie as tie
@@ -16,8 +16,7 @@ byte-at-requires : tie.Need-byte-at-requires
 byte-at-requires c κs = search needs
 
 returns : tie.Need-returns
-unfolding moduleAt
-returns c = cc
+returns c = search module-read
 
 pub module-at-spec : {M : Type 1} → statement M
 module-at-spec =

@@ -1,4 +1,4 @@
-use Rattle.party_bytes.proofs.Laws.{module-yes, module-no}
+use Rattle.party_bytes.proofs.Laws.{module-yes, module-no, module-long}
 use borrow.Author.Needs.{needs}
 use Rattle.party_bytes.proofs.read_module.Statement.{statement}
 use Rattle.party_bytes.proofs.read_module.Tie as tie
@@ -7,7 +7,7 @@ is-module-requires : tie.Need-is-module-requires
 is-module-requires c κs = search needs
 
 module-at-requires : tie.Need-module-at-requires
-module-at-requires c κs = search needs
+module-at-requires c κs = search module-long
 
 unfit-module-requires : tie.Need-unfit-module-requires
 unfit-module-requires c κs = search needs

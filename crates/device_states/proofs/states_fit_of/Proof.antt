@@ -5,8 +5,8 @@ use borrow.Author.Needs.{needs}
 use Rattle.bits.specs.Bit.{allBelow}
 use Rattle.places.specs.Places.{recordsBy}
 use Rattle.device_states.proofs.Slots.{slotPasses, statePasses, state-on, state-fails, all-done}
-use Rattle.device_states.proofs.states_pass.Statement.{statement}
-use Rattle.device_states.proofs.states_pass.Tie as tie
+use Rattle.device_states.proofs.states_fit_of.Statement.{statement}
+use Rattle.device_states.proofs.states_fit_of.Tie as tie
 
 abbrev Inv-loop : tie.InvT-loop
 Inv-loop image places n states v₀ v = (v ≤ 32) × (allBelow (slotPasses (statePasses (recordsBy image places) n) 0 states) v ≡ true)
@@ -44,7 +44,7 @@ returns c =
 returns-2 : tie.Need-returns-2 Inv-loop μ-loop
 returns-2 c = search all-done
 
-pub states-pass-spec : {M : Type 1} → statement M
-states-pass-spec =
+pub states-fit-of-spec : {M : Type 1} → statement M
+states-fit-of-spec =
     tie.close
     (tie.spec Inv-loop μ-loop loop-holds wide-requires array-read-st state-slot-fits-requires add-v loop-less loop-again returns returns-2)
