@@ -51,6 +51,9 @@ implies true b h = h refl
 implies false b h = refl
 
 module _ (rs : List Record) (L : Laws (planOf rs)) where
+  pub few-modules : modulesOf rs ≤ 16
+  few-modules = unfold planOf in (L .few-modules)
+
   pub few : supervisorsOf rs ≤ 32
   few = unfold planOf in (L .few-supervisors)
 

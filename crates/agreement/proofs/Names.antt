@@ -163,7 +163,7 @@ module _ (rs : List Record) (few : supervisorsOf rs ≤ 32) (watched : (v e : �
   map-append f (a ∷ l) r = ap (λ (t : List Message). f a ∷ t) (map-append f l r)
 
   releases-to : (m : ℕ) (t : Turn) (n : ℕ) → M.releases rs m t n ≡ map messageOf (R.releases (planOf rs) m t n)
-  unfolding M.releases R.releases
+  unfolding M.releasesIn R.releases
   releases-to m t zero = refl
   releases-to m t (suc n) =
       ap₂ _++_ (releases-to m t n) (ap₂ (λ (b : Bool) (e : ℕ). cond b (Release m n e ∷ []) []) (neighbour-bit m n) (event-same n t) ∙ go (R.neighbour (planOf rs) m n))

@@ -29,7 +29,7 @@ use Rattle.agreement.specs.PlanOf.{planOf}
 use Rattle.agreement.specs.System as A
 use Rattle.device_states.proofs.Slots.{from-at, from-length}
 use Rattle.agreement.proofs.Device.{Same, OwnSlot, StateSlot, fits-of}
-use Rattle.agreement.proofs.Fit.{SameModule, SameSupervisor, holderOf, few}
+use Rattle.agreement.proofs.Fit.{few-modules, SameModule, SameSupervisor, holderOf, few}
 use Rattle.agreement.proofs.Simulation.{Sim}
 
 empty-is : ownEmpty emptyOwn ≡ true
@@ -70,9 +70,6 @@ module _ (image : List ℕ) (plan : IsPlan image) (L : Laws (planOf (recordsOf i
   unfolding States.startState
   state-at v l = from-at (λ n. cond (ltb n (supervisorsOf rs)) (supervisorInitial rs n) 0) 0 32 v 0 l ∙ ap (λ (n : ℕ). cond (ltb n (supervisorsOf rs)) (supervisorInitial rs n) 0) (let e : 0 + v ≡ v = omega arith in e)
 
-  few-modules : modulesOf rs ≤ 16
-  few-modules = unfold planOf in (L .few-modules)
-
   own-fits : (m : ℕ) → m < 16 → OwnSlot rs (States.startDevice rs) m ≡ true
   own-fits m l = ap (λ (o : Own). cond (ltb m (modulesOf rs)) (ownFits rs m o) (ownEmpty o)) (own-at m l) ∙ go (ltb m (modulesOf rs)) refl
     where
@@ -90,7 +87,7 @@ module _ (image : List ℕ) (plan : IsPlan image) (L : Laws (planOf (recordsOf i
   start-device : Same rs (States.startDevice rs) (P.startDevice (planOf rs))
   unfolding P.startDevice planOf States.startSlot States.startState
   start-device = record {
-    owns = λ m l. own-at m (let k : modulesOf rs ≤ 16 = few-modules in omega arith) ∙ ap (λ (b : Bool). cond b (startOwn rs m) emptyOwn) (lt-ltb m (modulesOf rs) l);
+    owns = λ m l. own-at m (let k : modulesOf rs ≤ 16 = few-modules rs L in omega arith) ∙ ap (λ (b : Bool). cond b (startOwn rs m) emptyOwn) (lt-ltb m (modulesOf rs) l);
     states = λ v l. state-at v (let k : supervisorsOf rs ≤ 32 = few rs L in omega arith) ∙ ap (λ (b : Bool). cond b (supervisorInitial rs v) 0) (lt-ltb v (supervisorsOf rs) l);
     slots = from-length (λ n. cond (ltb n (modulesOf rs)) (startOwn rs n) emptyOwn) 0 16;
     fits = fits-of rs (States.startDevice rs) own-fits state-fits;

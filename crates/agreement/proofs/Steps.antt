@@ -9,7 +9,7 @@ use lib.ListN.{length, drop, length-append}
 use lib.Seq.{take-at}
 use lib.Dec.{ltb}
 use borrow.Author.Tests.{lt-ltb, le-ltb}
-use Rattle.bits.specs.Bit.{bit, least, placeAfter, putBit}
+use Rattle.bits.specs.Bit.{bit, least, moduleAfter, putBit}
 use Rattle.words.proofs.Laws.{length-word}
 use Rattle.records.specs.declared.Record.{Record}
 use Rattle.rules.specs.LookUp.{modulesOf, supervisorsOf}
@@ -44,7 +44,7 @@ fours-append [] r h k = k
 fours-append (g ∷ l) r h k = (h .0, fours-append l r (h .1) k)
 
 releases-fours : (rs : List Record) (m : ℕ) (t : Turn) (n : ℕ) → Fours (M.releases rs m t n)
-unfolding M.releases
+unfolding M.releasesIn
 releases-fours rs m t zero = tt
 releases-fours rs m t (suc n) = fours-append (M.releases rs m t n) _ (releases-fours rs m t n) (one (bit (neighbours rs m) n))
   where
@@ -53,7 +53,7 @@ releases-fours rs m t (suc n) = fours-append (M.releases rs m t n) _ (releases-f
     one false = tt
 
 pub releases-most : (rs : List Record) (m : ℕ) (t : Turn) (n : ℕ) → length (M.releases rs m t n) ≤ n
-unfolding M.releases
+unfolding M.releasesIn
 releases-most rs m t zero = omega arith
 releases-most rs m t (suc n) = omega (arith, releases-most rs m t n, length-append (M.releases rs m t n) (cond (bit (neighbours rs m) n) (Release m n (M.eventFor rs n t) ∷ []) []), one (bit (neighbours rs m) n))
   where
@@ -161,15 +161,15 @@ afterServing y none = y
 afterServing y (some m) = R.afterSending y m
 
 module _ (rs : List Record) (v : ℕ) (x : Supervisor) (y : R.SupervisorState) (s : SameSupervisor x y) where
-  next-is : (o : Option ℕ) → S.nextNoted x o ≡ Option·map (placeAfter (y .lastServed)) o
-  unfolding S.nextNoted placeAfter
+  next-is : (o : Option ℕ) → S.nextNoted x o ≡ Option·map (moduleAfter (y .lastServed)) o
+  unfolding S.nextNoted moduleAfter
   next-is none = refl
   next-is (some k) = ap (λ (l : ℕ). some ((l + suc k) % 16)) (s .last)
 
-  first-is : S.nextNoted x (least (λ k. bit (x .noted) (placeAfter (x .last) k)) 16) ≡ R.firstNoted y
+  first-is : S.nextNoted x (least (λ k. bit (x .noted) (moduleAfter (x .last) k)) 16) ≡ R.firstNoted y
   first-is =
-      next-is (least (λ k. bit (x .noted) (placeAfter (x .last) k)) 16)
-      ∙ ap (Option·map (placeAfter (y .lastServed))) (ap₂ (λ (n l : ℕ). least (λ k. bit n (placeAfter l k)) 16) (s .noted) (s .last))
+      next-is (least (λ k. bit (x .noted) (moduleAfter (x .last) k)) 16)
+      ∙ ap (Option·map (moduleAfter (y .lastServed))) (ap₂ (λ (n l : ℕ). least (λ k. bit n (moduleAfter l k)) 16) (s .noted) (s .last))
       ∙ (unfold R.firstNoted in refl)
 
   pub served-is : S.served x ≡ R.served y

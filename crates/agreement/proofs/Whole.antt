@@ -4,7 +4,7 @@ use mathlib.Core.Logic.{_⊎_, inl, inr}
 use mathlib.Core.Bool.{Bool, true, false, cond}
 use mathlib.Core.List.{List, [], _∷_, _++_, map}
 use mathlib.Core.Option.{some}
-use Prim.Native.Nat.{ℕ, _≤_, _<_}
+use Prim.Native.Nat.{ℕ, _<_}
 use lib.Dec.{ltb}
 use borrow.Author.Tests.{ltb-true}
 use Rattle.records.specs.declared.Record.{Record}
@@ -32,7 +32,7 @@ use Rattle.agreement.specs.PlanOf.{planOf}
 use Rattle.agreement.specs.System as A
 use Rattle.agreement.specs.Compared as C
 use Rattle.agreement.proofs.Device.{Same, reply-same, turn-same, after-same, turn-call, reply-call}
-use Rattle.agreement.proofs.Fit.{few, watched}
+use Rattle.agreement.proofs.Fit.{few-modules, few, watched}
 use Rattle.agreement.proofs.Simulation.{Sim, actOf, seenOf, fedOf, act-done, map-append}
 
 -- the module that a one-device act names
@@ -86,9 +86,6 @@ module _ (image : List ℕ) (plan : IsPlan image) (L : Laws (planOf (recordsOf i
   abbrev rs : List Record
   rs = recordsOf image
 
-  few-modules : modulesOf rs ≤ 16
-  few-modules = unfold planOf in (L .few-modules)
-
   kept : (v x e y : ℕ) → supervisorMove rs v x e ≡ some y → supervisorState rs v y ≡ true
   kept v x e y h = unfold planOf in (L .supervisor-moves v x e y h)
 
@@ -100,8 +97,8 @@ module _ (image : List ℕ) (plan : IsPlan image) (L : Laws (planOf (recordsOf i
   reply-fed : (d : Device) (O : R.OneDevice) (m : ℕ) (r : Own → Replied) → Same rs d O → m < modulesOf rs → ownFits rs m (r (O .owns m) .own) ≡ true
       → Same rs (Dev.replyBy (verdictOf image) rs d m (r (States.ownAt d m)) .device) (record { owns = update (O .owns) m (r (O .owns m) .own); states = O .states })
   reply-fed d O m r s l f =
-      rw (reply-call rs few-modules (few rs L) (watched rs L) kept (verdictOf image) d m (r (States.ownAt d m)) plan (s .fits) l, s .owns m l)
-      (reply-same rs few-modules (few rs L) (watched rs L) kept d O m (r (O .owns m) .own) s l f)
+      rw (reply-call rs (few-modules rs L) (few rs L) (watched rs L) kept (verdictOf image) d m (r (States.ownAt d m)) plan (s .fits) l, s .owns m l)
+      (reply-same rs (few-modules rs L) (few rs L) (watched rs L) kept d O m (r (O .owns m) .own) s l f)
 
   own-of : (d : Device) (O : R.OneDevice) (m : ℕ) (o : Own) (st : ℕ → ℕ) → m < modulesOf rs → Same rs d (record { owns = update (O .owns) m o; states = st }) → States.ownAt d m ≡ o
   own-of d O m o st l s = s .owns m l ∙ update-same (O .owns) m o
@@ -111,7 +108,7 @@ module _ (image : List ℕ) (plan : IsPlan image) (L : Laws (planOf (recordsOf i
       ≡ C.callSeen m (calledBy (r (O .owns m) .reply)) (r (O .owns m) .own)
   reply-seen d O m r s l f =
       ap₂ (C.callSeen m)
-      (rw (reply-call rs few-modules (few rs L) (watched rs L) kept (verdictOf image) d m (r (States.ownAt d m)) plan (s .fits) l, s .owns m l))
+      (rw (reply-call rs (few-modules rs L) (few rs L) (watched rs L) kept (verdictOf image) d m (r (States.ownAt d m)) plan (s .fits) l, s .owns m l))
       (own-of _ O m (r (O .owns m) .own) (O .states) l (reply-fed d O m r s l f))
 
   -- a turn of a module of the plan
@@ -120,15 +117,15 @@ module _ (image : List ℕ) (plan : IsPlan image) (L : Laws (planOf (recordsOf i
     after = record { owns = update (O .owns) m (R.deviceTurn (planOf rs) O m .own); states = λ v. R.stateAfter (planOf rs) v (O .states v) (R.deviceTurn (planOf rs) O m .turn) }
 
     turned-is : Dev.turned rs d m ≡ R.deviceTurn (planOf rs) O m
-    turned-is = turn-same rs few-modules (few rs L) (watched rs L) kept d O m s l
+    turned-is = turn-same rs (few-modules rs L) (few rs L) (watched rs L) kept d O m s l
 
     call-is : Dev.turnBy (verdictOf image) rs d m ≡ record { answer = Turned (R.deviceTurn (planOf rs) O m .turn); device = Dev.afterTurn rs d m (R.deviceTurn (planOf rs) O m) }
     call-is =
-        turn-call rs few-modules (few rs L) (watched rs L) kept (verdictOf image) d m plan (s .fits) l
+        turn-call rs (few-modules rs L) (few rs L) (watched rs L) kept (verdictOf image) d m plan (s .fits) l
         ∙ ap (λ t. record { answer = Turned (t .turn); device = Dev.afterTurn rs d m t }) turned-is
 
     turn-after : Same rs (Dev.afterTurn rs d m (R.deviceTurn (planOf rs) O m)) after
-    turn-after = after-same rs few-modules (few rs L) (watched rs L) kept d O m (R.deviceTurn (planOf rs) O m) s l f
+    turn-after = after-same rs (few-modules rs L) (few rs L) (watched rs L) kept d O m (R.deviceTurn (planOf rs) O m) s l f
 
     turn-fed : Same rs (Dev.turnBy (verdictOf image) rs d m .device) after
     turn-fed = subst (λ c. Same rs (c .device) after) (sym call-is) turn-after

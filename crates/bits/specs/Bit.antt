@@ -1,4 +1,4 @@
--- Masks of events. Document 01, "Plan records": "Bit e of a mask stands for event e."
+-- Masks of events and of modules. Document 01, "Plan records": "Bit e of a mask stands for event e."
 use Prim.Native.Nat.{ℕ, zero, suc, _+_, _-_, _/_, _%_, _^_}
 use mathlib.Core.Bool.{Bool, true, false, cond, not, _&&_, _||_}
 use mathlib.Core.Option.{Option, none, some}
@@ -35,9 +35,9 @@ unfoldable pub least : (ℕ → Bool) → ℕ → Option ℕ
 least p zero = none
 least p (suc n) = orElse (least p n) (p n) n
 
--- the places of 16 modules cyclically after one of them, from k = 0 on
-unfoldable pub placeAfter : ℕ → ℕ → ℕ
-placeAfter last k = (last + suc k) % 16
+-- "cyclically after the last served": the k-th of the 16 modules after it, counted from 0
+unfoldable pub moduleAfter : ℕ → ℕ → ℕ
+moduleAfter last k = (last + suc k) % 16
 
 -- an answer of the code that is a number or none
 abbrev pub optionOf : Maybe → Option ℕ

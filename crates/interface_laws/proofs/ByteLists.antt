@@ -6,8 +6,8 @@ use native.Mathlib.Omega.{arith}
 use lib.ListN.{replicate}
 use lib.Dec.{lit<}
 use Rattle.roundtrip.specs.Fits.{Byte, Bytes}
-use Rattle.words.specs.Word.{wordBytes}
-use Rattle.fields.specs.Fields.{halfBytes, quadBytes, flagByte}
+use Rattle.words.specs.Word.{quadBytes, wordBytes}
+use Rattle.fields.specs.Fields.{halfBytes, flagByte}
 use Rattle.plan.specs.Lists.{listFrom}
 
 pub bytes-none : Bytes []

@@ -43,8 +43,8 @@ use Rattle.own_bytes.specs.Own.{ownBytes}
 use Rattle.own_bytes.proofs.Parts.{own-parts}
 use Rattle.party_bytes.specs.Module.{moduleBytes, ModuleEncodable}
 use Rattle.device_bytes.specs.Device.{ownsBytes, deviceBytes, OwnsEncodable, DeviceEncodable}
-use Rattle.fields.specs.Fields.{quadBytes, flagByte}
-use Rattle.words.specs.Word.{wordBytes}
+use Rattle.fields.specs.Fields.{flagByte}
+use Rattle.words.specs.Word.{quadBytes, wordBytes}
 use Rattle.packing.specs.Answer.{Answer, packed, calledAnswer, turnAnswer, turningAnswer, steppedAnswer}
 use Rattle.packing.proofs.Parts.{unpacked}
 use Rattle.interface_laws.specs.SameCalls.{moduleAnswer}

@@ -170,7 +170,7 @@ module _ (image : List ℕ) (m : ℕ) (x : Module) (h : ModuleEncodable x) where
 
 -- the module that gets the permit
 pub served-small : (y : Supervisor) (m : ℕ) → S.served y ≡ some m → m < 16
-unfolding S.nextNoted S.placeAfter S.servedOn
+unfolding S.nextNoted S.moduleAfter S.servedOn
 served-small y m e = holds-at (y .holder) e
   where
     place : (o : Option ℕ) → S.nextNoted y o ≡ some m → m < 16
@@ -178,7 +178,7 @@ served-small y m e = holds-at (y .holder) e
     place (some k) q = let z : (y .last + suc k) % 16 ≡ m = cc in omega arith
 
     holds-at : (a : Holder) → S.servedOn y a ≡ some m → m < 16
-    holds-at Home q = place (least (λ k. bit (y .noted) (S.placeAfter (y .last) k)) 16) q
+    holds-at Home q = place (least (λ k. bit (y .noted) (S.moduleAfter (y .last) k)) 16) q
     holds-at (Out n) q = let z : _≡_ {A = ℕ} 0 1 = cc in absurd (omega arith)
 
 module _ (rs : List Record) (plan : Sound rs) where

@@ -12,8 +12,8 @@ use borrow.Author.Tests.{eqb-false, le-ltb, ltb-true}
 use Rattle.reader.specs.Walk.{recordsOf}
 use Rattle.rules.specs.LookUp.{modulesOf, supervisorsOf}
 use Rattle.litres.specs.Eighths.{eighths}
-use Rattle.words.specs.Word.{wordBytes}
-use Rattle.fields.specs.Fields.{halfBytes, quadBytes}
+use Rattle.words.specs.Word.{quadBytes, wordBytes}
+use Rattle.fields.specs.Fields.{halfBytes}
 use Rattle.own_bytes.specs.Own.{procedureBytes, ownBytes}
 use Rattle.messages.specs.Message.{putAt}
 use Rattle.modules.specs.Numbers.{calledNumber}

@@ -203,7 +203,7 @@ module _ (rs : List Record) (plan : Sound rs) (m : ℕ) where
   event-byte v Nothing h = lit< tt
 
   releases-bytes : (t : Turn) → TurnSmall t → Byte m → (n : ℕ) → n ≤ 32 → Bytes (bytesOfMessages (M.releases rs m t n))
-  unfolding M.releases
+  unfolding M.releasesIn
   releases-bytes t h b zero l = unfold bytesOfMessages in bytes-none
   releases-bytes t h b (suc n) l =
       subst Bytes (sym (bytes-append (M.releases rs m t n) last))

@@ -3,12 +3,12 @@ use mathlib.Core.List.{List, [], _∷_, _++_}
 use Prim.Native.Nat.{ℕ}
 use lib.Ieee.{binary64, toBits}
 use Rattle.roundtrip.specs.Fits.{Bytes}
-use Rattle.words.specs.Word.{wordBytes}
+use Rattle.words.specs.Word.{quadBytes, wordBytes}
 use Rattle.modules.specs.declared.Own.{Own}
 use Rattle.permits.specs.declared.Module.{Module}
 use Rattle.permits.specs.declared.Supervisor.{Supervisor}
 use Rattle.device_states.specs.declared.Device.{Device}
-use Rattle.fields.specs.Fields.{halfBytes, quadBytes, flagByte, floatBytes}
+use Rattle.fields.specs.Fields.{halfBytes, flagByte, floatBytes}
 use Rattle.own_bytes.specs.Own.{procedureBytes, ownBytes, OwnEncodable}
 use Rattle.party_bytes.specs.Module.{moduleBytes, ModuleEncodable}
 use Rattle.party_bytes.specs.Supervisor.{isOut, holderByte, supervisorBytes, SupervisorEncodable}

@@ -97,7 +97,7 @@ recordNumber Missing l = 5
 
 abbrev pub messageNumber : Parsed → List ℕ → ℕ
 messageNumber (Whole g) l = cond (short (messageBytes g) l) 15 0
-messageNumber Misshapen l = 10
+messageNumber Misshapen l = parsedNumber Misshapen
 
 -- the number of an answer is the number of the call that it is made of
 pub record SameNumbers : Type 0 where

@@ -7,7 +7,7 @@ use native.Mathlib.Omega.{arith}
 use lib.Count.{ones}
 use lib.Dec.{lit≤}
 use lib.ListN.{length}
-use borrow.Author.Tests.{lt-ltb, le-ltb, not-true, not-false}
+use borrow.Author.Tests.{le-ltb, not-true, not-false}
 use Rattle.bits.proofs.Mask.{mask-small}
 use Rattle.records.specs.declared.Record.{Record}
 use Rattle.rules.specs.LookUp.{modulesOf}
@@ -25,7 +25,7 @@ use Rattle.modules.specs.Turn.{turnOf}
 use Rattle.messages.specs.Message.{messageBytes, short, written}
 use Rattle.messages.specs.Write.{Wrote}
 use Rattle.messages.specs.declared.Message.the-variants.{Bid}
-use Rattle.messages.proofs.Writing.{start-fits, put-start, put-short}
+use Rattle.messages.proofs.Writing.{turned-round, start-fits, put-start, put-short}
 use Rattle.permits.specs.Module.{fitsIn, releases, takesTurn, bidsTo, choice, turnTaken, afterTurn, sentBy, answerBy, stateBy, StepCall, stepRefused, stepIn, stepBy, moduleStep}
 use Rattle.permits.specs.Step.{bytesOfMessages, Gave}
 use Rattle.permits.specs.declared.Module.{Module}
@@ -37,15 +37,11 @@ use Rattle.module_steps.specs.Choice.{choiceOf}
 use Rattle.module_steps.specs.declared.Chosen.{Chosen}
 use Rattle.module_steps.specs.declared.Chosen.the-variants.{Turn as ChosenTurn, Bid as ChosenBid, Wait}
 use Rattle.releasing.specs.Released.{releaseBytes, Released}
-use Rattle.releasing.proofs.Releasing.{to-neighbours, sent-count}
+use Rattle.releasing.proofs.Releasing.{sent-count}
 use Rattle.holding.proofs.Judged.{lacking, unfit, fit}
 
 refuses : (x : Module) (b : List ℕ) (n o : ℕ) {r : ModuleStepped} → r ≡ (record { answer = StepRefused n o; state = x }) → Gave (stepRefused x b n o) (r .answer) (r .state) b
 refuses x b n o e = record { answer = ap (λ (z : ModuleStepped). z .answer) e; state = ap (λ (z : ModuleStepped). z .state) e; buffer = refl }
-
-turned-round : (s t : Bool) → t ≡ not s → s ≡ not t
-turned-round true t e = ap not (sym e)
-turned-round false t e = ap not (sym e)
 
 -- ---- a turn: f is whether its releases were written
 
@@ -58,8 +54,7 @@ module _ (rs : List Record) (m adjacent : ℕ) (x : Module) (b : List ℕ) {t : 
   released = bytesOfMessages (releases rs m (turnTaken rs m x .turn) 32)
 
   bytes-are : releaseBytes rs m adjacent (t .turn) ≡ released
-  bytes-are =
-      ap₂ (λ (n : ℕ) (d : Turn). releaseBytes rs m n d) q did ∙ ap bytesOfMessages (to-neighbours rs m (turnTaken rs m x .turn) 32)
+  bytes-are = ap₂ (λ (n : ℕ) (d : Turn). releaseBytes rs m n d) q did
 
   room : short released b ≡ not f
   room = turned-round (short released b) f (w .answer ∙ ap (λ (l : List ℕ). not (short l b)) bytes-are)
@@ -68,9 +63,7 @@ module _ (rs : List Record) (m adjacent : ℕ) (x : Module) (b : List ℕ) {t : 
   wrote = w .buffer ∙ ap (λ (l : List ℕ). cond f (written l b) b) bytes-are
 
   count : length released ≡ 4 * ones (neighbours rs m)
-  count =
-      ap length (sym (ap bytesOfMessages (to-neighbours rs m (turnTaken rs m x .turn) 32)))
-      ∙ sent-count rs m (neighbours rs m) (turnTaken rs m x .turn) (mask-small _ 32 32 (lit≤ tt))
+  count = sent-count rs m (neighbours rs m) (turnTaken rs m x .turn) (mask-small _ 32 32 (lit≤ tt))
 
   pub turn-short : {r : ModuleStepped} → f ≡ false → r ≡ (record { answer = StepRefused 15 0; state = x }) → Gave (stepIn rs m x b takesTurn) (r .answer) (r .state) after
   unfolding stepIn sentBy

@@ -34,11 +34,11 @@ fn step_refused(x: Module, n: u8, at: usize) -> ModuleStepped
     }
 }
 
-// Whether the module is to go on: for another reason, or else by a wish, which is looked for only then.
-fn wants(image: &[u8], places: Places, m: u8, sure: bool, own: Own) -> bool
-    ensures { λ r. ⌜ r ≡ (sure || wish (recordsBy (now (image .entry)) places) m own) ⌝ }
+// Whether `already` holds or the module has a wish, which is looked for only if it does not.
+fn or_wish(image: &[u8], places: Places, m: u8, already: bool, own: Own) -> bool
+    ensures { λ r. ⌜ r ≡ (already || wish (recordsBy (now (image .entry)) places) m own) ⌝ }
 {
-    if sure {
+    if already {
         return true;
     }
     turns::wish(image, places, m, own)
@@ -55,7 +55,7 @@ fn choose(image: &[u8], places: Places, m: u8, adjacent: u32, x: Module) -> Chos
         if x.bid {
             return Chosen::Wait;
         }
-        if !wants(image, places, m, held != 0, own) {
+        if !or_wish(image, places, m, held != 0, own) {
             return Chosen::Wait;
         }
         let Maybe::Just(v) = holding::missing(adjacent, held) else {
@@ -63,7 +63,7 @@ fn choose(image: &[u8], places: Places, m: u8, adjacent: u32, x: Module) -> Chos
         };
         Chosen::Bid(v)
     } else {
-        if wants(image, places, m, adjacent != 0, own) {
+        if or_wish(image, places, m, adjacent != 0, own) {
             Chosen::Turn
         } else {
             Chosen::Wait

@@ -11,7 +11,7 @@ use borrow.Author.Tests.{ne-eqb, lt-ltb, le-ltb, ltb-true, ltb-false}
 use Rattle.bits.specs.Bit.{bit, putBit, least}
 use Rattle.bits.proofs.Laws.{bit-low, bit-up, bit-or, bit-and, bit-above, bit-low-ones}
 use Rattle.bits.proofs.Least.{least-same, least-more}
-use Rattle.permits.specs.Supervisor.{placeAfter}
+use Rattle.permits.specs.Supervisor.{moduleAfter}
 use Rattle.noting.specs.Notes.{putNote}
 
 -- a note put below k leaves a mask of k bits
@@ -72,8 +72,8 @@ module _ (n : ℕ) (p : n < 2 ^ 16) where
   abbrev round : ℕ → ℕ
   round last = bitAnd (bitOr n (n * 2 ^ 16 % 2 ^ 64) / 2 ^ (last + 1)) (2 ^ 16 - 1)
 
-  rotated-bit : (last : ℕ) → last < 16 → (k : ℕ) → k < 16 → bit (round last) k ≡ bit n (placeAfter last k)
-  unfolding placeAfter
+  rotated-bit : (last : ℕ) → last < 16 → (k : ℕ) → k < 16 → bit (round last) k ≡ bit n (moduleAfter last k)
+  unfolding moduleAfter
   rotated-bit last h k l =
       let s : n * 2 ^ 16 % 2 ^ 64 ≡ n * 2 ^ 16 = shl-exact 16 16 64 p (lit≤ tt) in
       bit-and (bitOr n (n * 2 ^ 16 % 2 ^ 64) / 2 ^ (last + 1)) (2 ^ 16 - 1) k
@@ -81,7 +81,7 @@ module _ (n : ℕ) (p : n < 2 ^ 16) where
       ∙ and-true (bit (bitOr n (n * 2 ^ 16)) (last + 1 + k)) ∙ twice-bit (last + 1 + k) (omega arith)
       ∙ ap (λ (x : ℕ). bit n (x % 16)) (let q : last + 1 + k ≡ last + suc k = omega arith in q)
 
-  pub rotated-by : (last : ℕ) → last < 16 → least (bit (round last)) 64 ≡ least (λ k. bit n (placeAfter last k)) 16
+  pub rotated-by : (last : ℕ) → last < 16 → least (bit (round last)) 64 ≡ least (λ k. bit n (moduleAfter last k)) 16
   rotated-by last h =
       least-more (bit (round last)) 16 48 (λ j l. bit-above 16 (round last) j (lt-of-le-of-lt (and-le-r (bitOr n (n * 2 ^ 16 % 2 ^ 64) / 2 ^ (last + 1)) (2 ^ 16 - 1)) (lit< tt)) l)
-      ∙ least-same (bit (round last)) (λ k. bit n (placeAfter last k)) 16 (rotated-bit last h)
+      ∙ least-same (bit (round last)) (λ k. bit n (moduleAfter last k)) 16 (rotated-bit last h)

@@ -9,7 +9,7 @@ use Rattle.bits.specs.Bit.{bit, least, optionOf}
 use Rattle.bits.specs.declared.Maybe.{Maybe}
 use Rattle.bits.specs.declared.Maybe.the-variants.{Just, Nothing}
 use Rattle.bits.proofs.Least.{least-some, least-same}
-use Rattle.permits.specs.Supervisor.{placeAfter, nextNoted, servedOn, served}
+use Rattle.permits.specs.Supervisor.{moduleAfter, nextNoted, servedOn, served}
 use Rattle.permits.specs.declared.Supervisor.{Supervisor}
 use Rattle.permits.specs.declared.Holder.{Holder}
 use Rattle.permits.specs.declared.Holder.the-variants.{Home, Out}
@@ -20,16 +20,16 @@ lowest-below x {k = k} e f = least-some (bit x) 64 k (sym (ap optionOf (sym f) �
 
 module _ (y : Supervisor) where
   -- the places after the last served go round
-  round-place : (k : ℕ) → placeAfter (y .last % 16) k ≡ placeAfter (y .last) k
-  unfolding placeAfter
+  round-place : (k : ℕ) → moduleAfter (y .last % 16) k ≡ moduleAfter (y .last) k
+  unfolding moduleAfter
   round-place k = omega arith
 
-  module _ (x : ℕ) (t : least (bit x) 64 ≡ least (λ k. bit (y .noted) (placeAfter (y .last % 16) k)) 16) where
-    first : least (bit x) 64 ≡ least (λ k. bit (y .noted) (placeAfter (y .last) k)) 16
-    first = t ∙ least-same (λ k. bit (y .noted) (placeAfter (y .last % 16) k)) (λ k. bit (y .noted) (placeAfter (y .last) k)) 16 (λ k l. ap (bit (y .noted)) (round-place k))
+  module _ (x : ℕ) (t : least (bit x) 64 ≡ least (λ k. bit (y .noted) (moduleAfter (y .last % 16) k)) 16) where
+    first : least (bit x) 64 ≡ least (λ k. bit (y .noted) (moduleAfter (y .last) k)) 16
+    first = t ∙ least-same (λ k. bit (y .noted) (moduleAfter (y .last % 16) k)) (λ k. bit (y .noted) (moduleAfter (y .last) k)) 16 (λ k l. ap (bit (y .noted)) (round-place k))
 
     pub served-some : {o : Maybe} {k : ℕ} → y .holder ≡ Home → optionOf o ≡ least (bit x) 64 → o ≡ Just k → some ((y .last % 16 + 1 + k) % 16) ≡ served y
-    unfolding servedOn nextNoted placeAfter
+    unfolding servedOn nextNoted moduleAfter
     served-some {k = k} h e f =
         ap some (let q : (y .last % 16 + 1 + k) % 16 ≡ (y .last + suc k) % 16 = omega arith in q)
         ∙ ap (nextNoted y) (ap optionOf (sym f) ∙ e ∙ first) ∙ ap (servedOn y) (sym h)
@@ -44,7 +44,7 @@ module _ (y : Supervisor) where
 
   -- it is one of 16
   pub served-small : {o : Maybe} {m : ℕ} → optionOf o ≡ served y → o ≡ Just m → m < 16
-  unfolding servedOn nextNoted placeAfter
+  unfolding servedOn nextNoted moduleAfter
   served-small {m = m} e f = go (y .holder) (sym e ∙ ap optionOf f)
     where
       next : (o : Option ℕ) → nextNoted y o ≡ some m → m < 16
@@ -52,5 +52,5 @@ module _ (y : Supervisor) where
       next (some k) q = subst (λ (x : ℕ). x < 16) (let z : (y .last + suc k) % 16 ≡ m = cc in z) (mod-lt (y .last + suc k) (lit< tt))
 
       go : (h : Holder) → servedOn y h ≡ some m → m < 16
-      go Home q = next (least (λ k. bit (y .noted) (placeAfter (y .last) k)) 16) q
+      go Home q = next (least (λ k. bit (y .noted) (moduleAfter (y .last) k)) 16) q
       go (Out n) q = let z : _≡_ {A = ℕ} 0 1 = cc in absurd (omega arith)

@@ -5,7 +5,7 @@ ghost use Prim.Native.Nat.{_<_};
 ghost use Rattle.places.specs.Places.{recordsBy};
 ghost use Rattle.bits.specs.Bit.{bit, allBelow, least, optionOf};
 ghost use Rattle.permits.specs.Names.{neighbours?};
-ghost use Rattle.permits.specs.Supervisor.{holderFits, supervisorFits, placeAfter, served};
+ghost use Rattle.permits.specs.Supervisor.{holderFits, supervisorFits, moduleAfter, served};
 ghost use Rattle.noting.specs.Notes.{putNote};
 use bits::Maybe;
 use permits::Holder;
@@ -69,7 +69,7 @@ pub fn fits(image: &[u8], places: Places, v: u8, y: Supervisor) -> bool
 // The noted modules by their places after the last served: bit k is the note of the k-th.
 fn rotated(noted: u16, last: u8) -> u64
     requires { ⌜ last < 16 ⌝ }
-    ensures { λ r. ⌜ least (bit r) 64 ≡ least (λ k. bit noted (placeAfter last k)) 16 ⌝ }
+    ensures { λ r. ⌜ least (bit r) 64 ≡ least (λ k. bit noted (moduleAfter last k)) 16 ⌝ }
 {
     let mask = noted as u64;
     let twice = mask | (mask << 16);

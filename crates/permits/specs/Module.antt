@@ -91,10 +91,13 @@ eventFor rs v (Event e) = cond (inAlphabet rs v e) e noEvent
 eventFor rs v (Stray e) = noEvent
 eventFor rs v Nothing = noEvent
 
--- "releases all in ascending order": those of the neighbours below n
-unfoldable pub releases : List Record → ℕ → Turn → ℕ → List Message
-releases rs m t zero = []
-releases rs m t (suc n) = releases rs m t n ++ cond (bit (neighbours rs m) n) (Release m n (eventFor rs n t) ∷ []) []
+-- "releases all in ascending order": those to the supervisors of a mask below n, and to the neighbours below n
+unfoldable pub releasesIn : List Record → ℕ → ℕ → Turn → ℕ → List Message
+releasesIn rs m mask t zero = []
+releasesIn rs m mask t (suc n) = releasesIn rs m mask t n ++ cond (bit mask n) (Release m n (eventFor rs n t) ∷ []) []
+
+abbrev pub releases : List Record → ℕ → Turn → ℕ → List Message
+releases rs m t n = releasesIn rs m (neighbours rs m) t n
 
 abbrev pub afterBid : Module → Module
 afterBid x = record { own = x .own; held = x .held; received = x .received; bid = true }

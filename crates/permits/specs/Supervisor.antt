@@ -28,7 +28,7 @@ use Rattle.permits.specs.declared.Served.the-variants.{Sends, Waits, Ref
 use Rattle.permits.specs.Names.{neighbours?, named}
 use Rattle.permits.specs.Step.{bytesOfMessages, Call}
 -- the modules' cyclic order, passed on
-unfoldable pub use Rattle.bits.specs.Bit.{placeAfter}
+unfoldable pub use Rattle.bits.specs.Bit.{moduleAfter}
 
 -- "a supervisor's noted modules and holder are its neighbours, its last-served place is 0 to 15"
 unfoldable pub holderFits : List Record → ℕ → Holder → Bool
@@ -42,12 +42,12 @@ supervisorFits rs v y =
 -- "the first noted module cyclically after the last served"
 unfoldable pub nextNoted : Supervisor → Option ℕ → Option ℕ
 nextNoted y none = none
-nextNoted y (some k) = some (placeAfter (y .last) k)
+nextNoted y (some k) = some (moduleAfter (y .last) k)
 
 -- "A supervisor step with the permit home sends it .. Otherwise it waits."
 unfoldable pub servedOn : Supervisor → Holder → Option ℕ
 servedOn y (Out m) = none
-servedOn y Home = nextNoted y (least (λ k. bit (y .noted) (placeAfter (y .last) k)) 16)
+servedOn y Home = nextNoted y (least (λ k. bit (y .noted) (moduleAfter (y .last) k)) 16)
 
 abbrev pub served : Supervisor → Option ℕ
 served y = servedOn y (y .holder)

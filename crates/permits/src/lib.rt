@@ -114,7 +114,8 @@ pub fn are_neighbours(image: &[u8], places: Places, m: u8, v: u8) -> bool
         & is_neighbour(image, places, m, v)
 }
 
-fn event_named(image: &[u8], places: Places, m: u8, v: u8, e: u8) -> bool
+// Whether an event is the module's and in the supervisor's alphabet.
+pub fn event_named(image: &[u8], places: Places, m: u8, v: u8, e: u8) -> bool
     ensures { λ r. ⌜ r ≡ eventNamed (recordsBy (now (image .entry)) places) m v e ⌝ }
 {
     plan::own_event(image, places, m, e) & plan::in_alphabet(image, places, v, e)

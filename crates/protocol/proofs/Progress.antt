@@ -9,7 +9,7 @@ use mathlib.Core.List.{List, [], _∷_}
 use mathlib.Core.Option.{Option, none, some}
 use lib.Dec.{eqb}
 use borrow.Author.Tests.{eqb-true, lt-ltb}
-use Rattle.bits.specs.Bit.{bit, placeAfter}
+use Rattle.bits.specs.Bit.{bit, moduleAfter}
 use Rattle.bits.proofs.Laws.{bit-none}
 use Rattle.protocol.specs.Generic.{Picked, pick}
 use Rattle.protocol.specs.Plan.{Plan, Laws}
@@ -72,18 +72,18 @@ unfolding step
 supervisor-step-is P D s o h e = rw (lt-ltb s (P .supervisors) h, e)
 
 -- ---- the cyclic search finds a noted module
-cyclic : (last m : ℕ) → m < 16 → placeAfter last ((m + 15 * suc last) % 16) ≡ m
-unfolding placeAfter
+cyclic : (last m : ℕ) → m < 16 → moduleAfter last ((m + 15 * suc last) % 16) ≡ m
+unfolding moduleAfter
 cyclic last m h = omega arith
 
 served-some : (y : SupervisorState) (m : ℕ) → m < 16 → bit (y .noted) m ≡ true → y .holder ≡ none → (a : ℕ) × (served y ≡ some a)
 unfolding served servedOn firstNoted
 served-some y m h n e =
-    let t : ℕ → Bool = λ k. bit (y .noted) (placeAfter (y .lastServed) k) in
+    let t : ℕ → Bool = λ k. bit (y .noted) (moduleAfter (y .lastServed) k) in
     let k : ℕ = (m + 15 * suc (y .lastServed)) % 16 in
-    let q : bit (y .noted) (placeAfter (y .lastServed) k) ≡ true = rw (cyclic (y .lastServed) m h) n in
+    let q : bit (y .noted) (moduleAfter (y .lastServed) k) ≡ true = rw (cyclic (y .lastServed) m h) n in
     let f = least-find t 16 k (omega arith) q in
-    (placeAfter (y .lastServed) (f .0), rw (e, f .1))
+    (moduleAfter (y .lastServed) (f .0), rw (e, f .1))
 
 -- ---- with nothing under way, follow the waits: each holder waits for a supervisor of a higher number, if it waits
 module _ (P : Plan) (A : Laws P) (D : System) (O : OneDevice) (I : Inv P D O) (empty : D .underWay ≡ []) where

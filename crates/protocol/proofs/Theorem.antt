@@ -9,7 +9,7 @@ use mathlib.Core.Option.{Option, none, some, Option·getD, Option·map}
 use lib.Dec.{ltb}
 use lib.Pow.{pow-pos}
 use borrow.Author.Tests.{ltb-true}
-use Rattle.bits.specs.Bit.{bit, least, placeAfter}
+use Rattle.bits.specs.Bit.{bit, least, moduleAfter}
 use Rattle.bits.proofs.Laws.{bit-none}
 use Rattle.water.specs.declared.Flow.{Flow}
 use Rattle.modules.specs.declared.Own.{Own}
@@ -128,13 +128,13 @@ pub served-noted : (y : SupervisorState) (m : ℕ) → served y ≡ some m → (
 unfolding served
 served-noted y m e = at-home (y .holder) refl e
   where
-    found : (o : Option ℕ) → least (λ k. bit (y .noted) (placeAfter (y .lastServed) k)) 16 ≡ o → Option·map (placeAfter (y .lastServed)) o ≡ some m → bit (y .noted) m ≡ true
+    found : (o : Option ℕ) → least (λ k. bit (y .noted) (moduleAfter (y .lastServed) k)) 16 ≡ o → Option·map (moduleAfter (y .lastServed)) o ≡ some m → bit (y .noted) m ≡ true
     found none q f = let z : _≡_ {A = ℕ} 0 1 = cc in absurd (omega arith)
-    found (some k) q f = let z : placeAfter (y .lastServed) k ≡ m = cc in rw (← z) (least-some (λ k. bit (y .noted) (placeAfter (y .lastServed) k)) 16 k q .passes)
+    found (some k) q f = let z : moduleAfter (y .lastServed) k ≡ m = cc in rw (← z) (least-some (λ k. bit (y .noted) (moduleAfter (y .lastServed) k)) 16 k q .passes)
 
     at-home : (o : Option ℕ) → y .holder ≡ o → servedOn o (firstNoted y) ≡ some m → (y .holder ≡ none) × (bit (y .noted) m ≡ true)
     at-home (some k) q f = unfold servedOn in (let z : _≡_ {A = ℕ} 0 1 = cc in absurd (omega arith))
-    at-home none q f = unfold servedOn firstNoted in (q, found (least (λ k. bit (y .noted) (placeAfter (y .lastServed) k)) 16) refl f)
+    at-home none q f = unfold servedOn firstNoted in (q, found (least (λ k. bit (y .noted) (moduleAfter (y .lastServed) k)) 16) refl f)
 
 -- ---- each act
 module _ (P : Plan) (A : Laws P) (D : System) (O : OneDevice) (I : Inv P D O) where

@@ -5,7 +5,7 @@ use mathlib.Core.List.{List, [], _∷_, _++_}
 use mathlib.Core.Option.{Option, none, some, Option·getD, Option·map}
 use lib.Dec.{eqb}
 use lib.Bits.{bitOr}
-use Rattle.bits.specs.Bit.{bit, putBit, least, placeAfter, isSome}
+use Rattle.bits.specs.Bit.{bit, putBit, least, moduleAfter, isSome}
 use Rattle.water.specs.declared.Flow.{Flow}
 use Rattle.modules.specs.declared.Own.{Own}
 use Rattle.modules.specs.declared.Turn.{Turn}
@@ -137,7 +137,7 @@ pub record SupervisorState : Type 0 where
 -- "A supervisor step with the permit home sends it, with its shown mask, to the first noted module cyclically after the last served (15 at
 -- the start) and removes that note. Otherwise it waits."
 unfoldable pub firstNoted : SupervisorState → Option ℕ
-firstNoted y = Option·map (placeAfter (y .lastServed)) (least (λ k. bit (y .noted) (placeAfter (y .lastServed) k)) 16)
+firstNoted y = Option·map (moduleAfter (y .lastServed)) (least (λ k. bit (y .noted) (moduleAfter (y .lastServed) k)) 16)
 
 unfoldable pub servedOn : Option ℕ → Option ℕ → Option ℕ
 servedOn (some m) first = none

@@ -24,14 +24,13 @@ use Rattle.modules.specs.declared.Turn.the-variants.{Event, Stray, Nothing}
 use Rattle.modules.proofs.Turn.{the-type}
 use Rattle.messages.specs.Message.{noEvent, messageBytes, written, fitsAt, putAt}
 use Rattle.messages.specs.Write.{Wrote}
-use Rattle.messages.specs.declared.Message.{Message}
 use Rattle.messages.specs.declared.Message.the-variants.{Release}
 use Rattle.messages.proofs.Writing.{fits}
-use Rattle.permits.specs.Module.{eventFor, releases}
+use Rattle.permits.specs.Module.{eventFor, releasesIn}
 use Rattle.permits.specs.Step.{bytesOfMessages}
 use Rattle.permits.proofs.Stepping.{bytes-append}
 use Rattle.holding.proofs.Held.{ones-top}
-use Rattle.releasing.specs.Released.{releasesTo, Released}
+use Rattle.releasing.specs.Released.{Released}
 
 -- ---- the event that a release carries
 
@@ -70,24 +69,18 @@ written-more p q b h =
     (ap₂ (λ (x y : List ℕ). x ++ q ++ y) (take-append-seam p (drop (length p) b)) (drop-append-add p (drop (length p) b) (length q) ∙ drop-drop (length q) (length p) b)
     ∙ ap (λ (n : ℕ). p ++ q ++ drop n b) (sym (length-append p q)))
 
--- with the mask of the neighbours they are the releases of the turn
-pub to-neighbours : (rs : List Record) (m : ℕ) (t : Turn) (n : ℕ) → releasesTo rs m (neighbours rs m) t n ≡ releases rs m t n
-unfolding releasesTo releases
-to-neighbours rs m t zero = refl
-to-neighbours rs m t (suc n) = ap (λ (l : List Message). l ++ cond (bit (neighbours rs m) n) (Release m n (eventFor rs n t) ∷ []) []) (to-neighbours rs m t n)
-
 module _ (rs : List Record) (m adjacent : ℕ) (t : Turn) where
   -- the releases to those below v, and the one to v
   abbrev pub sent : ℕ → List ℕ
-  sent v = bytesOfMessages (releasesTo rs m adjacent t v)
+  sent v = bytesOfMessages (releasesIn rs m adjacent t v)
 
   abbrev one : ℕ → List ℕ
   one v = messageBytes (Release m v (eventFor rs v t))
 
   sent-next : (v : ℕ) → sent (suc v) ≡ sent v ++ cond (bit adjacent v) (one v) []
-  unfolding releasesTo bytesOfMessages
+  unfolding releasesIn bytesOfMessages
   sent-next v =
-      bytes-append (releasesTo rs m adjacent t v) (cond (bit adjacent v) (Release m v (eventFor rs v t) ∷ []) [])
+      bytes-append (releasesIn rs m adjacent t v) (cond (bit adjacent v) (Release m v (eventFor rs v t) ∷ []) [])
       ∙ ap (λ (l : List ℕ). sent v ++ l) (go (bit adjacent v))
     where
       go : (b : Bool) → bytesOfMessages (cond b (Release m v (eventFor rs v t) ∷ []) []) ≡ cond b (one v) []
@@ -96,7 +89,7 @@ module _ (rs : List Record) (m adjacent : ℕ) (t : Turn) where
 
   -- each is of 4 bytes
   sent-length : (v : ℕ) → length (sent v) ≡ 4 * onesIn v adjacent
-  sent-length zero = unfold releasesTo bytesOfMessages onesIn in refl
+  sent-length zero = unfold releasesIn bytesOfMessages onesIn in refl
   sent-length (suc v) =
       ap length (sent-next v) ∙ length-append (sent v) (cond b (one v) []) ∙ ap₂ _+_ (sent-length v) (go b)
       ∙ (let e : 4 * onesIn v adjacent + 4 * cond b 1 0 ≡ 4 * (onesIn v adjacent + cond b 1 0) = omega arith in e)
@@ -131,7 +124,7 @@ module _ (rs : List Record) (m adjacent : ℕ) (t : Turn) where
     pub bytes : b ≡ written (sent v) b₀
 
   pub begins : (b : List ℕ) → length (sent 32) ≤ length b → Going b b 0 0
-  begins b h = record { below = lit≤ tt; room = h; place = unfold releasesTo bytesOfMessages in refl; bytes = unfold releasesTo bytesOfMessages in refl }
+  begins b h = record { below = lit≤ tt; room = h; place = unfold releasesIn bytesOfMessages in refl; bytes = unfold releasesIn bytesOfMessages in refl }
 
   module _ (b₀ b : List ℕ) (at v : ℕ) (g : Going b₀ b at v) where
     pub long-by : length b ≡ length b₀

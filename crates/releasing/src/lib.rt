@@ -1,4 +1,4 @@
-// The releases of a turn: permits/specs/Module.antt.
+// The releases of a turn: specs/Released.antt.
 ghost use mathlib.Core.Path.{_≡_};
 ghost use Prim.Native.Nat.{_*_, _≤_};
 ghost use lib.Count.{ones};
@@ -60,7 +60,7 @@ fn release_all(image: &[u8], places: Places, m: u8, adjacent: u32, t: Turn, buff
     }
 }
 
-// The bytes of the releases to these neighbours, 4 of each.
+// The bytes of the releases to the supervisors of a mask, 4 of each.
 pub fn length_of(adjacent: u32) -> usize
     ensures { λ r. ⌜ r ≡ 4 * ones adjacent ⌝ }
 {

@@ -87,7 +87,7 @@ module _ (rs : List Record) (m : ℕ) (t : Turn) where
   one-read v e false rest = refl
 
   releases-read : (n : ℕ) → ReadBack (M.releases rs m t n)
-  unfolding M.releases
+  unfolding M.releasesIn
   releases-read zero = λ rest. unfold bytesOfMessages in refl
   releases-read (suc n) = both-read (M.releases rs m t n) _ (releases-read n) (one-read n (M.eventFor rs n t) (bit (neighbours rs m) n))
 

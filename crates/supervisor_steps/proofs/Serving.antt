@@ -23,7 +23,7 @@ use Rattle.plan.specs.Plan.{shown}
 use Rattle.messages.specs.Message.{messageBytes, short}
 use Rattle.messages.specs.Write.{Wrote}
 use Rattle.messages.specs.declared.Message.the-variants.{Permit}
-use Rattle.messages.proofs.Writing.{start-fits, put-start, put-short}
+use Rattle.messages.proofs.Writing.{turned-round, start-fits, put-start, put-short}
 use Rattle.permits.specs.Step.{bytesOfMessages, Gave}
 use Rattle.permits.specs.Supervisor.{supervisorFits, served, afterSend, sentTo, answerBy, stateAfter, stepRefused, stepIn, stepBy, supervisorStep}
 use Rattle.permits.specs.declared.Supervisor.{Supervisor}
@@ -43,10 +43,6 @@ after-send y m l e = ap (λ (n : ℕ). record { state = y .state; noted = n; hol
 
 refuses : (y : Supervisor) (b : List ℕ) (n o : ℕ) {r : SupervisorStepped} → r ≡ (record { answer = StepRefused n o; state = y }) → Gave (stepRefused y b n o) (r .answer) (r .state) b
 refuses y b n o e = record { answer = ap (λ (z : SupervisorStepped). z .answer) e; state = ap (λ (z : SupervisorStepped). z .state) e; buffer = refl }
-
-turned-round : (s t : Bool) → t ≡ not s → s ≡ not t
-turned-round true t e = ap not (sym e)
-turned-round false t e = ap not (sym e)
 
 module _ (rs : List Record) (v : ℕ) (y : Supervisor) (b : List ℕ) where
   -- t is what the writer of messages answered

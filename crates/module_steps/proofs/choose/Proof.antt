@@ -9,8 +9,8 @@ lacks-requires c κs = search needs
 returns : tie.Need-returns
 returns c = search stand-by
 
-wants-requires : tie.Need-wants-requires
-wants-requires c κs = search needs
+or-wish-requires : tie.Need-or-wish-requires
+or-wish-requires c κs = search needs
 
 returns-2 : tie.Need-returns-2
 returns-2 c = search idle-by
@@ -27,8 +27,8 @@ enum-told c = search needs
 returns-3 : tie.Need-returns-3
 returns-3 c = search none-by
 
-wants-requires-2 : tie.Need-wants-requires-2
-wants-requires-2 c κs = search needs
+or-wish-requires-2 : tie.Need-or-wish-requires-2
+or-wish-requires-2 c κs = search needs
 
 returns-4 : tie.Need-returns-4
 returns-4 c = search bid-by
@@ -45,13 +45,13 @@ choose-spec =
     (tie.spec
     lacks-requires
     returns
-    wants-requires
+    or-wish-requires
     returns-2
     missing-requires
     enum-known-v
     enum-told
     returns-3
-    wants-requires-2
+    or-wish-requires-2
     returns-4
     returns-5
     returns-6)

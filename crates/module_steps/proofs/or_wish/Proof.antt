@@ -1,7 +1,7 @@
 use Rattle.module_steps.proofs.Choosing.{sure-by, wish-by}
 use borrow.Author.Needs.{needs}
-use Rattle.module_steps.proofs.wants.Statement.{statement}
-use Rattle.module_steps.proofs.wants.Tie as tie
+use Rattle.module_steps.proofs.or_wish.Statement.{statement}
+use Rattle.module_steps.proofs.or_wish.Tie as tie
 
 returns : tie.Need-returns
 returns c = search sure-by
@@ -12,5 +12,5 @@ wish-requires c κs = search needs
 returns-2 : tie.Need-returns-2
 returns-2 c = search wish-by
 
-pub wants-spec : {M : Type 1} → statement M
-wants-spec = tie.close (tie.spec returns wish-requires returns-2)
+pub or-wish-spec : {M : Type 1} → statement M
+or-wish-spec = tie.close (tie.spec returns wish-requires returns-2)
