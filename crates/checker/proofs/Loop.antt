@@ -39,7 +39,8 @@ use Rattle.checker.specs.declared.Examined.the-variants.{Accepted, Refus
 use Rattle.checker.specs.Examined.{examinedBy, examinedOf}
 use Rattle.checker.specs.Stretch.{checkBy, Reached, Stretch, Passed, notedPast, contextBy, eventsBy, modulesBy, supervisorsBy, headed}
 use Rattle.checker.specs.Stretch.{atEvents, atModules, atModuleMoves, atSupervisors, atDisablings, atSteps, standsAt, fieldsAt, endKept}
-use Rattle.checker.proofs.Stretch.{both, stands-there, reads-whole, reads-head, noted-past}
+use Rattle.judge.proofs.Represents.{both}
+use Rattle.checker.proofs.Stretch.{stands-there, reads-whole, reads-head, noted-past}
 
 agree : (n : ℕ) (rs : List Record) (w : Walk) → Valid rs → checkBy n (contextOf rs) w ≡ checkWalk n rs w
 unfolding checkBy checkWalk contextOf Valid

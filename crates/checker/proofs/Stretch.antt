@@ -31,6 +31,7 @@ use Rattle.context.specs.declared.Counts.{Counts}
 use Rattle.context.specs.declared.Events.{Events}
 use Rattle.context.specs.declared.Context.{Context}
 use Rattle.context.specs.Context.{withEntry, withBit, countsAfter, eventsAfter, modulesAfter, supervisorsAfter, withRecord, ownerAt, stepsAt}
+use Rattle.judge.proofs.Represents.{both}
 use Rattle.judge.specs.Judge.{indexBy, orderBy, namesBy, rulesBy, allBy, judgeBy}
 use Rattle.checker.specs.declared.Fields.{Fields}
 use Rattle.checker.specs.Stretch.{checkBy, Stretch, Passed, notedPast, atEvents, atModules, atModuleMoves, atSupervisors, atDisablings, atSteps}
@@ -43,10 +44,6 @@ and-true false = refl
 and-false : (a : Bool) → (a && false) ≡ false
 and-false true = refl
 and-false false = refl
-
-pub both : (a b : Bool) → (a && b) ≡ true → (a ≡ true) × (b ≡ true)
-both true b e = (refl, e)
-both false b e = absurd (false≢true e)
 
 -- ---- what stands at an offset
 

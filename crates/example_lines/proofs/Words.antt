@@ -13,7 +13,8 @@ use borrow.Author.Tests.{le-leb, lt-leb, eq-eqb, ne-eqb, lt-ltb, le-ltb, ltb-tru
 use Rattle.bytes.specs.Bytes.{indexOf, indexAfter, slice}
 use Rattle.lines.specs.Number.{spaceIn}
 use Rattle.example_lines.specs.Words.{lineEnd, spaceOf, spacesIn, wordFrom, digitOf, longer, numberFrom}
-use Rattle.example_lines.specs.Digits.{hexDigit, hexDigits}
+use Rattle.lines.specs.Hex.{hexDigit}
+use Rattle.example_lines.specs.Digits.{hexDigits}
 
 -- ---- the end of a line
 
@@ -168,21 +169,13 @@ module _ (base : ℕ) (s : List ℕ) (i n : ℕ) {x : ℕ} (f : numberFrom base 
 
 -- ---- digits printed
 
-pub hex-low : (d : ℕ) {r : ℕ} → d < 10 → r ≡ 48 + d → r ≡ hexDigit d
-unfolding hexDigit
-hex-low d h e = simp (lt-ltb d 10 h) e
-
-pub hex-high : (d : ℕ) {r : ℕ} → 10 ≤ d → r ≡ 65 + (d - 10) → r ≡ hexDigit d
-unfolding hexDigit
-hex-high d h e = simp (le-ltb d 10 h) e
-
 -- what is written stands behind what is still to come
 module _ (ds : List ℕ) (i rest : ℕ) {x : List ℕ} (f : hexDigits i rest ++ drop i ds ≡ x) where
   pub hex-done : i ≤ 0 → ds ≡ x
   unfolding hexDigits
   hex-done h = let e : i ≡ 0 = omega arith in rw e at f
 
-  pub hex-again : {g : ℕ} → 0 < i → i ≤ 16 → length ds ≡ 16 → g ≡ hexDigit (rest % 16) → hexDigits (i - 1) (rest / 16) ++ drop (i - 1) (set ds (i - 1) g) ≡ x
+  pub hex-again : {g : ℕ} → 0 < i → i ≤ 16 → length ds ≡ 16 → g ≡ hexDigit (rest % 16 % 16) → hexDigits (i - 1) (rest / 16) ++ drop (i - 1) (set ds (i - 1) g) ≡ x
   unfolding hexDigits
   hex-again {g} z l n e = go (i - 1) (omega arith)
     where
@@ -197,7 +190,8 @@ module _ (ds : List ℕ) (i rest : ℕ) {x : List ℕ} (f : hexDigits i rest ++ 
           let o : j < length ds = omega arith in
           let w : j < length (set ds j g) = simp length-set o in
           let t : drop j (set ds j g) ≡ g ∷ drop (suc j) ds = drop-cons (set ds j g) j 0 w ∙ rw (getD-set-same ds j g 0 o, drop-set-lt (suc j) ds j g (omega arith)) in
-          rw (t, e) (more j k)
+          let d : rest % 16 % 16 ≡ rest % 16 = omega arith in
+          rw (t, e, d) (more j k)
 
 pub long-again : (ds : List ℕ) (i g : ℕ) → length ds ≡ 16 → length (set ds i g) ≡ 16
 long-again ds i g n = length-set ds i g ∙ n

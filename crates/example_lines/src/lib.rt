@@ -6,7 +6,7 @@ ghost use lib.ListN.{length, take, drop};
 ghost use lib.Seq.{paste};
 ghost use Rattle.example_lines.specs.Words as Words;
 ghost use Rattle.example_lines.specs.Words.{lineEnd, spaceOf, spacesIn, wordFrom, letterIn, digitOf, numberFrom, numberIn, bitsIn};
-ghost use Rattle.example_lines.specs.Digits.{hexDigit, hexDigits};
+ghost use Rattle.example_lines.specs.Digits.{hexDigits};
 ghost use Rattle.example_lines.specs.Image.{grown, copyOf, closed, withDigit, withByte, imageFrom, imageIn, piece, partOf, Put, Stands, Kept};
 
 // ---- words and numbers
@@ -133,17 +133,6 @@ pub fn bits_in(s: &[u8], k: usize) -> u64
     number_of(&s[at..], 16)
 }
 
-fn hex_digit(d: u64) -> u8
-    requires { ⌜ d < 16 ⌝ }
-    ensures { λ r. ⌜ r ≡ hexDigit d ⌝ }
-{
-    if d < 10 {
-        b'0' + d as u8
-    } else {
-        b'A' + (d - 10) as u8
-    }
-}
-
 // The sixteen hexadecimal digits of a number.
 pub fn hex_digits(x: u64) -> [u8; 16]
     ensures { λ r. ⌜ r ≡ hexDigits 16 x ⌝ }
@@ -153,7 +142,7 @@ pub fn hex_digits(x: u64) -> [u8; 16]
     let mut i: usize = 16;
     while i > 0 {
         i -= 1;
-        digits[i] = hex_digit(rest % 16);
+        digits[i] = lines::hex_digit((rest % 16) as u8);
         rest /= 16;
     }
     digits

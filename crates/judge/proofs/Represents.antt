@@ -31,7 +31,7 @@ use Rattle.judge.proofs.Remembers.{counts-told, steps-length, event-tol
 
 -- ---- what holds of records of which none is faulty
 
-both : (a b : Bool) → (a && b) ≡ true → (a ≡ true) × (b ≡ true)
+pub both : (a b : Bool) → (a && b) ≡ true → (a ≡ true) × (b ≡ true)
 both true b e = (refl, e)
 both false b e = absurd (false≢true e)
 

@@ -1,2 +1,3 @@
 pub mod Number
 pub mod Partial
+pub mod Hex

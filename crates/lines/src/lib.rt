@@ -1,7 +1,9 @@
-// What the lines of both scripts are read by: a line that comes byte by byte, its numbers and its spaces.
+// What the lines of both scripts are read by: a line that comes byte by byte, its numbers and its spaces; and a hexadecimal digit to print.
 ghost use mathlib.Core.Path.{_≡_};
+ghost use Prim.Native.Nat.{_%_};
 ghost use Rattle.lines.specs.Number.{numberFrom, upTo, numberUpTo, numberOf, spaceIn};
 ghost use Rattle.lines.specs.Partial.{begun, withByte, hasByte};
+ghost use Rattle.lines.specs.Hex.{hexDigit};
 use bits::Maybe;
 
 // The first twelve bytes of a line that is still coming, and how many of them there are.
@@ -111,4 +113,12 @@ pub fn space_in(s: &[u8]) -> usize
         i += 1;
     }
     i
+}
+
+// The last hexadecimal digit of a number.
+pub fn hex_digit(n: u8) -> u8
+    ensures { λ r. ⌜ r ≡ hexDigit (n % 16) ⌝ }
+{
+    let d = n % 16;
+    if d < 10 { b'0' + d } else { b'A' + (d - 10) }
 }

@@ -9,7 +9,8 @@ use Rattle.script.specs.declared.Text.{Text}
 use Rattle.script.specs.Ascii.{ascii}
 use Rattle.script.specs.Text.{textOf, pushed, appended}
 use Rattle.script.specs.Answers.{spacedAll}
-use Rattle.script.specs.SimulationLines.{hexDigit, hexes}
+use Rattle.lines.specs.Hex.{hexDigit}
+use Rattle.script.specs.SimulationLines.{hexes}
 use Rattle.script.proofs.Texts.{appended-append}
 
 -- the loop over bytes

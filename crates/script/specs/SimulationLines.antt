@@ -1,9 +1,6 @@
 -- The lines that the simulation prints, each with its line feed: what a step, a delivery or a tick got, and a message sent, by its bytes.
-use Prim.Native.Nat.{ℕ, _+_, _-_, _/_, _%_}
-use Prim.Native.Char.{code}
+use Prim.Native.Nat.{ℕ, _/_, _%_}
 use mathlib.Core.List.{List, [], _∷_, _++_}
-use mathlib.Core.Bool.{cond}
-use lib.Dec.{ltb}
 use Rattle.device_states.specs.declared.Device.{Device}
 use Rattle.modules.specs.declared.Turn.the-variants.{Event, Stray, Nothing}
 use Rattle.modules.specs.declared.Called.{Called}
@@ -12,11 +9,9 @@ use Rattle.permits.specs.declared.Stepped.{Stepped}
 use Rattle.permits.specs.declared.Stepped.the-variants.{Turned, Bids, Waits, Refused as StepRefused}
 use Rattle.permits.specs.declared.Served.{Served}
 use Rattle.permits.specs.declared.Served.the-variants.{Sends, Waits as ServedWaits, Refused as ServedRefused}
+use Rattle.lines.specs.Hex.{hexDigit}
 use Rattle.script.specs.Ascii.{ascii}
 use Rattle.script.specs.Answers.{spaced, refusedLine, statesRow}
-
-unfoldable pub hexDigit : ℕ → ℕ
-hexDigit d = cond (ltb d 10) (code "0" + d) (code "A" + (d - 10))
 
 -- each byte by two digits
 unfoldable pub hexes : List ℕ → List ℕ

@@ -7,7 +7,7 @@ ghost use Rattle.script.specs.Ascii.{ascii, decimal};
 ghost use Rattle.script.specs.Line.{turnBy, responseBy, pairOf, lineOf, parsedOf};
 ghost use Rattle.script.specs.Text.{textOf, pushed, appended, cut};
 ghost use Rattle.script.specs.Answers.{spaced, spacedAll, statesOf, headerLine, planRefusedLine, refusedLine, turnLine, responseLine, statesRow, statesLine};
-ghost use Rattle.script.specs.SimulationLines.{hexDigit, hexes, sentLine, deliveredLine, steppedLine, servedLine, tickLine, nothingLine, deviceLine};
+ghost use Rattle.script.specs.SimulationLines.{hexes, sentLine, deliveredLine, steppedLine, servedLine, tickLine, nothingLine, deviceLine};
 use bits::Maybe;
 use device::Turning;
 use device_states::Device;
@@ -289,14 +289,6 @@ pub fn states_line(d: Device, modules: u8, supervisors: u8) -> Text
 
 // ---- the lines of the simulation
 
-// A digit of a byte in hexadecimal.
-fn hex_digit(n: u8) -> u8
-    ensures { λ r. ⌜ r ≡ hexDigit (n % 16) ⌝ }
-{
-    let d = n % 16;
-    if d < 10 { b'0' + d } else { b'A' + (d - 10) }
-}
-
 // The text with bytes in hexadecimal behind it.
 fn push_hexes(t: Text, s: &[u8]) -> Text
     ensures { λ r. ⌜ r ≡ appended t (hexes (now (s .entry))) ⌝ }
@@ -305,7 +297,7 @@ fn push_hexes(t: Text, s: &[u8]) -> Text
     let mut i: usize = 0;
     while i < s.len() {
         let b = s[i];
-        next = push(push(next, hex_digit(b / 16)), hex_digit(b));
+        next = push(push(next, lines::hex_digit(b / 16)), lines::hex_digit(b));
         i += 1;
     }
     next

@@ -20,6 +20,9 @@ loop-holds c = (search needs, refl, append-nil _)
 sub-i : tie.Need-sub-i Inv-loop μ-loop
 sub-i c = search needs
 
+cast-hex-digit : tie.Need-cast-hex-digit Inv-loop μ-loop
+cast-hex-digit c = search needs
+
 hex-digit-requires : tie.Need-hex-digit-requires Inv-loop μ-loop
 hex-digit-requires c κs = search needs
 
@@ -43,6 +46,7 @@ hex-digits-spec =
     μ-loop
     loop-holds
     sub-i
+    cast-hex-digit
     hex-digit-requires
     array-write-digits
     loop-less

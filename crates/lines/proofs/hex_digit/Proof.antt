@@ -1,8 +1,8 @@
 use borrow.Author.Needs.{needs}
 use borrow.Author.Tests.{lt-ltb, le-ltb}
-use Rattle.script.specs.SimulationLines.{hexDigit}
-use Rattle.script.proofs.hex_digit.Statement.{statement}
-use Rattle.script.proofs.hex_digit.Tie as tie
+use Rattle.lines.specs.Hex.{hexDigit}
+use Rattle.lines.proofs.hex_digit.Statement.{statement}
+use Rattle.lines.proofs.hex_digit.Tie as tie
 
 add-result : tie.Need-add-result
 add-result c = search needs
