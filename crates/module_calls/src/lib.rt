@@ -13,7 +13,7 @@ use water::Flow;
 
 // ---- a response and a tick
 
-// Whether the state fits the plan. Where no permit is held and no bid is out, the neighbours make no difference and are not looked for.
+// Whether the state fits the plan. Where no permit is held and no bid is outstanding, the neighbours make no difference and are not looked for.
 fn fits(image: &[u8], places: Places, m: u8, x: Module) -> bool
     ensures { λ r. ⌜ r ≡ moduleFits (recordsBy (now (image .entry)) places) m x ⌝ }
 {

@@ -14,10 +14,7 @@ use Rattle.bits.specs.declared.Maybe.the-variants.{Just, Nothing}
 use Rattle.bits.proofs.Least.{least-some}
 use Rattle.bits.proofs.Mask.{mask-bit}
 use Rattle.records.specs.declared.Record.{Record}
-use Rattle.reader.specs.Walk.{recordsOf}
 use Rattle.rules.specs.LookUp.{modulesOf, supervisorsOf}
-use Rattle.rules.specs.Check.{verdictOf}
-use Rattle.rules.specs.declared.Verdict.{Verdict}
 use Rattle.rules.specs.declared.Verdict.the-variants.{Accepted as IsAccepted}
 use Rattle.places.specs.declared.Places.{Places}
 use Rattle.places.specs.Places.{recordsBy}

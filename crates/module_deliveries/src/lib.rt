@@ -68,7 +68,7 @@ fn take(m: u8, adjacent: u32, x: Module, g: Message) -> ModuleCalled
     }
 }
 
-// Whether the plan has what a message names. Of a permit for this module the neighbours tell, who are known.
+// Whether the plan has what a message names. A permit for this module is judged by the mask of its neighbours, which the caller has.
 fn is_named(image: &[u8], places: Places, m: u8, adjacent: u32, g: Message) -> bool
     requires { ⌜ (adjacent ≡ neighbours (recordsBy (now image) places) m) × (m < modulesOf (recordsBy (now image) places)) ⌝ }
     ensures { λ r. ⌜ r ≡ named (recordsBy (now (image .entry)) places) g ⌝ }

@@ -13,9 +13,6 @@ use Rattle.modules.specs.Numbers.{calledNumber}
 use Rattle.modules.specs.declared.Turn.{Turn}
 use Rattle.modules.specs.declared.Called.{Called}
 use Rattle.modules.specs.declared.Called.the-variants.{Done, Refused}
-use Rattle.device.specs.Numbers.{turningNumber}
-use Rattle.device.specs.declared.Turning.{Turning}
-use Rattle.device.specs.declared.Turning.the-variants.{Turned, Refused as TurnRefused}
 use Rattle.permits.specs.Numbers.{steppedNumber, servedNumber}
 use Rattle.permits.specs.declared.Stepped.{Stepped}
 use Rattle.permits.specs.declared.Stepped.the-variants.{Turned as Turns, Bids, Waits, Refused as StepRefused}
@@ -38,13 +35,6 @@ module _ (c : Called) where
 
   pub called-refused : {n o : ℕ} → c ≡ Refused n o → eqb n 0 ≡ eqb (calledNumber c) 0
   called-refused e = sym (ap (λ (x : Called). eqb (calledNumber x) 0) e)
-
-module _ (c : Turning) where
-  pub turning-done : {t : Turn} → c ≡ Turned t → true ≡ eqb (turningNumber c) 0
-  turning-done e = sym (ap (λ (x : Turning). eqb (turningNumber x) 0) e)
-
-  pub turning-refused : {n o : ℕ} → c ≡ TurnRefused n o → eqb n 0 ≡ eqb (turningNumber c) 0
-  turning-refused e = sym (ap (λ (x : Turning). eqb (turningNumber x) 0) e)
 
 module _ (c : Stepped) where
   pub step-turned : {t : Turn} {n : ℕ} → c ≡ Turns t n → true ≡ eqb (steppedNumber c) 0

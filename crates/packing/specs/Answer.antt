@@ -37,7 +37,7 @@ unfoldable pub verdictAnswer : Verdict → ℕ
 verdictAnswer Accepted = done 0 0 0
 verdictAnswer (CheckRefused n o) = refused n o
 
--- "0: taken; no further answer"
+-- "0: taken; the value is 0"
 unfoldable pub calledAnswer : Called → ℕ
 calledAnswer Done = done 0 0 0
 calledAnswer (Refused n o) = refused n o

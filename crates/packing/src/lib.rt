@@ -3,7 +3,6 @@ ghost use mathlib.Core.Path.{_≡_};
 ghost use Prim.Native.Nat.{_<_};
 ghost use lib.Dec.{eqb};
 ghost use Rattle.modules.specs.Numbers.{calledNumber};
-ghost use Rattle.device.specs.Numbers.{turningNumber};
 ghost use Rattle.permits.specs.Numbers.{steppedNumber, servedNumber};
 ghost use Rattle.packing.specs.Flow.{flowOf};
 ghost use Rattle.packing.specs.Answer.{packed, verdictAnswer, calledAnswer, turnAnswer, turningAnswer, steppedAnswer, servedAnswer};
@@ -97,15 +96,6 @@ pub fn is_done(c: Called) -> bool
     match c {
         Called::Done => true,
         Called::Refused(n, _) => n == 0,
-    }
-}
-
-pub fn is_turned(t: Turning) -> bool
-    ensures { λ r. ⌜ r ≡ eqb (turningNumber t) 0 ⌝ }
-{
-    match t {
-        Turning::Turned(_) => true,
-        Turning::Refused(n, _) => n == 0,
     }
 }
 

@@ -96,7 +96,7 @@ pub enum Read {
 }
 
 // The same without the fields.
-pub enum Shape {
+enum Shape {
     // the kind, and the offsets of the body and of what follows it
     Whole(u8, usize, usize),
     Unknown,

@@ -82,14 +82,14 @@ holder-near rs v y m f h = go (y .holder) (and-r (a && b) (holderFits rs v (y .h
 pub release-asked : (rs : List Record) {m w e : ℕ} {g : Message} {b : Bool} → g ≡ Release m w e → b ≡ named rs (Release m w e) → b ≡ named rs g
 release-asked rs h f = f ∙ ap (named rs) (sym h)
 
-pub release-named : (rs : List Record) (v : ℕ) (y : Supervisor) {m w e : ℕ} {g : Message} {b o a : Bool} → supervisorFits rs v y ≡ true → g ≡ Release m w e → b ≡ heldBy (y .holder) m
-    → (eqb w v && b) ≡ true → o ≡ ownEvent rs m e → a ≡ inAlphabet rs w e → (eqb e 255 || (o && a)) ≡ named rs g
+pub release-named : (rs : List Record) (v : ℕ) (y : Supervisor) {m w e : ℕ} {g : Message} {b a : Bool} → supervisorFits rs v y ≡ true → g ≡ Release m w e → b ≡ heldBy (y .holder) m
+    → (eqb w v && b) ≡ true → a ≡ eventNamed rs m w e → (eqb e 255 || a) ≡ named rs g
 unfolding named
-release-named rs v y {m} {w} {e} {b = b} f h k q i j =
+release-named rs v y {m} {w} {e} {b = b} f h k q i =
     let t : T (eqb w v && b) = holds _ q in
     let here : w ≡ v = eqb-true w v (is-true _ (and-l (eqb w v) b t)) in
     let near : neighbours? rs m w ≡ true = ap (neighbours? rs m) here ∙ holder-near rs v y m f (sym k ∙ is-true _ (and-r (eqb w v) b t)) in
-    ap₂ (λ (c d : Bool). eqb e 255 || (c && d)) i j ∙ sym (ap (λ (c : Bool). c && (eqb e noEvent || eventNamed rs m w e)) near) ∙ ap (named rs) (sym h)
+    ap (λ (c : Bool). eqb e 255 || c) i ∙ sym (ap (λ (c : Bool). c && (eqb e noEvent || eventNamed rs m w e)) near) ∙ ap (named rs) (sym h)
 
 -- ---- a bid noted
 

@@ -157,8 +157,7 @@ fn is_named(image: &[u8], places: Places, v: u8, y: Supervisor, g: Message) -> b
     };
     let holder = y.holder;
     if (supervisor == v) & held_by(holder, owner) {
-        let owned = plan::own_event(image, places, owner, event);
-        return (event == 255) | (owned & plan::in_alphabet(image, places, supervisor, event));
+        return (event == 255) | permits::event_named(image, places, owner, supervisor, event);
     }
     permits::named(image, places, g)
 }

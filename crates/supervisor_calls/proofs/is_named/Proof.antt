@@ -15,11 +15,8 @@ returns c = search needs
 held-by-requires : tie.Need-held-by-requires
 held-by-requires c κs = search needs
 
-own-event-requires : tie.Need-own-event-requires
-own-event-requires c κs = search needs
-
-in-alphabet-requires : tie.Need-in-alphabet-requires
-in-alphabet-requires c κs = search needs
+event-named-requires : tie.Need-event-named-requires
+event-named-requires c κs = search needs
 
 returns-2 : tie.Need-returns-2
 returns-2 c = search release-named
@@ -38,8 +35,7 @@ is-named-spec =
     named-requires
     returns
     held-by-requires
-    own-event-requires
-    in-alphabet-requires
+    event-named-requires
     returns-2
     named-requires-2
     returns-3)
