@@ -56,8 +56,8 @@ extern "C" {
  * One device, 592 bytes: sixteen own parts of 35 bytes, then the states of 32 supervisors. Slots that the plan lacks are 0.
  *
  * Bytes of another length, a flag other than 0 and 1, a holder of a permit at home and f64 bits of a NaN stand for no state: the call
- * that gets them is refused with 9, unless the image is refused, or the call is on a module or supervisor that the plan lacks, which is 11
- * (10 of a misshapen message).
+ * that gets them is refused with 9, unless the image is refused or, on many devices, the call is on a module or supervisor that the plan
+ * lacks, which is 11 (10 of a misshapen message). On one device 9 comes before 11.
  */
 
 /* An answer is one number. Bits 0..7 are the refusal's number, 0 if the call is accepted. Of a refused call bits 32..63 are the byte
