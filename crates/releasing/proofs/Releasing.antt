@@ -18,7 +18,7 @@ use denote.Enum.Declared.{tagOf}
 use Rattle.bits.specs.Bit.{bit}
 use Rattle.bits.proofs.Laws.{bit-above, ones-in}
 use Rattle.records.specs.declared.Record.{Record}
-use Rattle.plan.specs.Plan.{inAlphabet, neighbours}
+use Rattle.plan.specs.Plan.{inAlphabet}
 use Rattle.modules.specs.declared.Turn.{Turn}
 use Rattle.modules.specs.declared.Turn.the-variants.{Event, Stray, Nothing}
 use Rattle.modules.proofs.Turn.{the-type}
