@@ -1,5 +1,5 @@
 -- Masks made bit by bit from below, and what their bits mean.
-use mathlib.Core.Path.{_≡_, sym, ap, ap₂, _∙_, subst}
+use mathlib.Core.Path.{_≡_, refl, sym, ap, ap₂, _∙_, subst}
 use mathlib.Core.List.{List}
 use mathlib.Core.Option.{Option}
 use mathlib.Core.Bool.{Bool, true, false, cond, not, _&&_}
@@ -16,8 +16,8 @@ use Rattle.bits.proofs.Mask.{mask-small, common-is}
 use Rattle.records.specs.declared.Record.{Record}
 use Rattle.reader.specs.declared.Found.{Found}
 use Rattle.places.specs.declared.Places.{Places}
-use Rattle.places.specs.Places.{countOf, recordsBy}
-use Rattle.places.proofs.Finding.{event-missing}
+use Rattle.places.specs.Places.{countOf, numbered, recordsBy}
+use Rattle.places.proofs.Finding.{number-missing}
 use Rattle.rules.specs.LookUp.{field3, fieldOf, eventsOf, supervisorsOf, ownerOf, controllable, alphabetOf}
 use Rattle.plan.specs.Plan.{moduleMove, hasCommand, commands, ownEvent, neighbour, neighbours}
 
@@ -70,10 +70,10 @@ module _ (rs : List Record) (m st e : ℕ) {c : Bool} (f : c ≡ controllable rs
 -- none past the count of events
 pub commands-end : (s : List ℕ) (p : Places) (m st e : ℕ) {n w x : ℕ} → n ≡ countOf s p 0x11 → w ≡ e → n ≤ w → e ≤ 64 → x ≡ maskOf (hasCommand (recordsBy s p) m st) e
     → x ≡ commands (recordsBy s p) m st
-unfolding fieldOf
+unfolding fieldOf numbered
 commands-end s p m st e c q l h f =
     rest-bits (hasCommand (recordsBy s p) m st) 64 e f h
-    (λ j k. ap (λ (y : Found). eqb (fieldOf field3 y) 1 && isSome (moduleMove (recordsBy s p) m st j)) (event-missing s p j (let r : countOf s p 0x11 ≤ j = omega arith in r)))
+    (λ j k. ap (λ (y : Found). eqb (fieldOf field3 y) 1 && isSome (moduleMove (recordsBy s p) m st j)) (number-missing s p 0x11 j refl (let r : countOf s p 0x11 ≤ j = omega arith in r)))
 
 -- ---- a module's events
 

@@ -338,7 +338,8 @@ module _ (s : List ℕ) (p : Places) (x : ℕ) where
         let o : positionOf s p (keyBy 0x10 x 0 0) ≡ 0 = first-place in
         ap It v ∙ sym (it s p (keyBy 0x10 x 0 0) (omega arith) head-same ∙ ap (λ (i : ℕ). It (recordBy s p 0x10 i)) o)
 
--- no event is found past the count of events
-pub event-missing : (s : List ℕ) (p : Places) (e : ℕ) → countOf s p 0x11 ≤ e → findIn (keyBy 0x11 e 0 0) (recordsBy s p) ≡ Missing
-unfolding positionOf numbered
-event-missing s p e h = missing s p (keyBy 0x11 e 0 0) (λ m. absurd (omega arith))
+-- no event, module or supervisor is found past the count of its kind
+pub number-missing : (s : List ℕ) (p : Places) (k x : ℕ) → numbered k ≡ true → countOf s p k ≤ x → findIn (keyBy k x 0 0) (recordsBy s p) ≡ Missing
+number-missing s p k x n h =
+    let w : x ≡ positionOf s p (keyBy k x 0 0) = numbered-by s p (keyBy k x 0 0) n refl in
+    missing s p (keyBy k x 0 0) (λ m. absurd (omega arith))
