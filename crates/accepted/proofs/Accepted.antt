@@ -14,10 +14,10 @@ use Rattle.records.specs.Range.{inRange}
 use Rattle.records.specs.declared.Record.{Record}
 use Rattle.records.specs.declared.Record.the-variants.{Event, Module, Supervisor, Step, End}
 use Rattle.records.specs.declared.RecordKey.{RecordKey}
-use Rattle.reader.specs.Find.{findIn}
+use Rattle.reader.specs.Find.{findIn, found}
 use Rattle.reader.specs.Walk.{recordsOf}
 use Rattle.reader.specs.declared.Found.{Found}
-use Rattle.rules.specs.LookUp.{field1, field2, field3, wordField, found, fieldOf, modulesOf, supervisorsOf, eventsOf}
+use Rattle.rules.specs.LookUp.{field1, field2, field3, wordField, fieldOf, modulesOf, supervisorsOf, eventsOf}
 use Rattle.rules.specs.Rules.{inOrder, allDeclared}
 use Rattle.rules.specs.Check.{IsPlan}
 use Rattle.rules.specs.Valid.{Valid}

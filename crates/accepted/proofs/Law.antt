@@ -13,9 +13,9 @@ use Rattle.records.specs.Range.{inRange, operandInRange}
 use Rattle.records.specs.declared.Record.{Record}
 use Rattle.records.specs.declared.Record.the-variants.{Head, Event, Module, ModuleMove, Supervisor, SupervisorMove, Disabling, Step, End}
 use Rattle.records.specs.declared.RecordKey.{RecordKey}
-use Rattle.reader.specs.Find.{findIn}
+use Rattle.reader.specs.Find.{findIn, found}
 use Rattle.reader.specs.declared.Found.{Found}
-use Rattle.rules.specs.LookUp.{field1, field2, field3, wordField, found, fieldOf, eventsOf, eventIn, eventDeclared, supervisorDeclared, ownerOf, controllable, alphabetOf}
+use Rattle.rules.specs.LookUp.{field1, field2, field3, wordField, fieldOf, eventsOf, eventIn, eventDeclared, supervisorDeclared, ownerOf, controllable, alphabetOf}
 use Rattle.rules.specs.Rules.{namesDeclared, keepsRules}
 use Rattle.rules.specs.Valid.{Passes}
 use Rattle.rules.proofs.Valid.{both}

@@ -11,10 +11,10 @@ use denote.Floats.{passes as holds}
 use Rattle.records.specs.Key.{keyOf, sameKey}
 use Rattle.records.specs.declared.Record.{Record}
 use Rattle.records.specs.declared.RecordKey.{RecordKey}
-use Rattle.reader.specs.Find.{findIn}
+use Rattle.reader.specs.Find.{findIn, found}
 use Rattle.reader.specs.declared.Found.{Found}
 use Rattle.reader.specs.declared.Found.the-variants.{It, Missing}
-use Rattle.rules.specs.LookUp.{found, fieldOf}
+use Rattle.rules.specs.LookUp.{fieldOf}
 use Rattle.rules.proofs.Valid.{both}
 use Rattle.accepted.specs.Plan.{_∈_, Unique}
 

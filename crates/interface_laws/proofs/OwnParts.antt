@@ -20,7 +20,8 @@ use Rattle.bits.specs.Bit.{least}
 use Rattle.litres.specs.Eighths.{eighths, isEighths, targetOk}
 use Rattle.litres.proofs.Laws.{eighths-fits, eighths-is-eighths}
 use Rattle.records.specs.declared.Record.{Record}
-use Rattle.rules.specs.LookUp.{found, modulesOf, eventsOf}
+use Rattle.reader.specs.Find.{found}
+use Rattle.rules.specs.LookUp.{modulesOf, eventsOf}
 use Rattle.rules.proofs.Valid.{both}
 use Rattle.plan.specs.Plan.{moduleMove, ownUncontrollable, stepIn, operationOf, operandOf}
 use Rattle.accepted.specs.Plan.{Sound}

@@ -15,8 +15,8 @@ use Rattle.records.specs.declared.Record.the-variants.{Head, Event, Module, Mod
 use Rattle.records.specs.declared.RecordKey.{RecordKey}
 use Rattle.reader.specs.declared.Found.{Found}
 use Rattle.reader.specs.declared.Found.the-variants.{It, Missing}
-use Rattle.reader.specs.Find.{findIn}
-use Rattle.rules.specs.LookUp.{field1, field2, field3, wordField, found, fieldOf, modulesOf, supervisorsOf, eventsOf, eventIn, moduleIn, supervisorIn, ownerOf, controllable, alphabetOf}
+use Rattle.reader.specs.Find.{findIn, found}
+use Rattle.rules.specs.LookUp.{field1, field2, field3, wordField, fieldOf, modulesOf, supervisorsOf, eventsOf, eventIn, moduleIn, supervisorIn, ownerOf, controllable, alphabetOf}
 use Rattle.context.specs.declared.Counts.{Counts}
 use Rattle.context.specs.declared.Events.{Events}
 use Rattle.context.specs.declared.Modules.{Modules}

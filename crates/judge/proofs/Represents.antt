@@ -16,8 +16,8 @@ use Rattle.records.specs.Key.{headKey, keyOf, sameKey, precedes}
 use Rattle.records.specs.declared.Record.{Record}
 use Rattle.records.specs.declared.Record.the-variants.{Head, Event, Module, ModuleMove, Supervisor, SupervisorMove, Disabling, Step, End}
 use Rattle.reader.specs.declared.Found.the-variants.{It}
-use Rattle.reader.specs.Find.{findIn}
-use Rattle.rules.specs.LookUp.{field1, field2, field3, found, fieldOf, modulesOf, supervisorsOf, eventsOf, eventIn, moduleIn, supervisorIn, eventDeclared, moduleDeclared, supervisorDeclared, moduleState, supervisorState, ownerOf, controllable, alphabetOf, stepsOf}
+use Rattle.reader.specs.Find.{findIn, found}
+use Rattle.rules.specs.LookUp.{field1, field2, field3, fieldOf, modulesOf, supervisorsOf, eventsOf, eventIn, moduleIn, supervisorIn, eventDeclared, moduleDeclared, supervisorDeclared, moduleState, supervisorState, ownerOf, controllable, alphabetOf, stepsOf}
 use Rattle.rules.specs.Rules.{indexRuns, inOrder, namesDeclared, keepsRules, allDeclared}
 use Rattle.rules.specs.Check.{faultOf}
 use Rattle.rules.specs.Valid.{Valid, Passes}

@@ -16,10 +16,10 @@ use Rattle.records.specs.Range.{inRange, operandInRange}
 use Rattle.records.specs.declared.Record.{Record}
 use Rattle.records.specs.declared.Record.the-variants.{Step}
 use Rattle.records.specs.declared.RecordKey.{RecordKey}
-use Rattle.reader.specs.Find.{findIn}
+use Rattle.reader.specs.Find.{findIn, found}
 use Rattle.reader.specs.declared.Found.{Found}
 use Rattle.reader.specs.declared.Found.the-variants.{It, Missing}
-use Rattle.rules.specs.LookUp.{field3, wordField, found, fieldOf}
+use Rattle.rules.specs.LookUp.{field3, wordField, fieldOf}
 use Rattle.rules.proofs.Valid.{both}
 use Rattle.plan.specs.Plan.{counts, counting, stepIn, operationOf, operandOf}
 use Rattle.modules.specs.declared.StepFields.{StepFields}

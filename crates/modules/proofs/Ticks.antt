@@ -11,7 +11,7 @@ use borrow.Author.Tests.{lt-ltb, le-ltb, lt-leb, le-leb, ne-eqb, not-true, not-f
 use Rattle.bits.proofs.Laws.{shl-one}
 use Rattle.records.specs.declared.Record.{Record}
 use Rattle.records.specs.declared.Record.the-variants.{Step}
-use Rattle.rules.specs.LookUp.{found}
+use Rattle.reader.specs.Find.{found}
 use Rattle.plan.specs.Plan.{counts, stepIn, operationOf, operandOf}
 use Rattle.water.specs.Water.{flowOk, noWater, waterOf, added, reached, running, Summed, Compared}
 use Rattle.water.specs.declared.Water.{Water}

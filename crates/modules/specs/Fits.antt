@@ -5,7 +5,8 @@ use mathlib.Core.Bool.{Bool, true, cond, not, _&&_}
 use lib.ListN.{drop}
 use lib.Dec.{eqb, leb, ltb}
 use Rattle.records.specs.declared.Record.{Record}
-use Rattle.rules.specs.LookUp.{found, moduleState}
+use Rattle.reader.specs.Find.{found}
+use Rattle.rules.specs.LookUp.{moduleState}
 use Rattle.plan.specs.Plan.{stepIn, operationOf, operandOf, ownEvent, ownUncontrollable}
 use Rattle.water.specs.Water.{waterZero, running}
 use Rattle.modules.specs.declared.Own.{Own}

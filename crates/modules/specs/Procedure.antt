@@ -5,7 +5,7 @@ use mathlib.Core.Bool.{true, false, cond, _&&_}
 use lib.Bits.{bitOr, bitAnd}
 use lib.Dec.{eqb, ltb}
 use Rattle.records.specs.declared.Record.{Record}
-use Rattle.rules.specs.LookUp.{found}
+use Rattle.reader.specs.Find.{found}
 use Rattle.plan.specs.Plan.{stepIn, operationOf, operandOf, ownUncontrollable}
 use Rattle.water.specs.Water.{flowOk, noWater, waterOf, added, reached, running}
 use Rattle.water.specs.declared.Water.{Water}

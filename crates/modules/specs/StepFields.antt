@@ -2,7 +2,7 @@
 use Prim.Native.Nat.{ℕ}
 use mathlib.Core.List.{List}
 use Rattle.records.specs.declared.Record.{Record}
-use Rattle.rules.specs.LookUp.{found}
+use Rattle.reader.specs.Find.{found}
 use Rattle.plan.specs.Plan.{stepIn, operationOf, operandOf}
 use Rattle.modules.specs.declared.StepFields.{StepFields}
 

@@ -1,14 +1,14 @@
 -- What records declare. Each look-up goes by kind and key over the records before the one that is judged, the latest first.
 use Prim.Native.Nat.{ℕ, zero, suc}
 use mathlib.Core.List.{List, [], _∷_}
-use mathlib.Core.Bool.{Bool, true, false, cond, _&&_}
+use mathlib.Core.Bool.{Bool, cond, _&&_}
 use lib.Dec.{eqb, ltb}
 use Rattle.records.specs.Key.{keyBy, headKey, keyOf}
 use Rattle.records.specs.declared.Record.{Record}
 use Rattle.records.specs.declared.Record.the-variants.{Head, Event, Module, ModuleMove, Supervisor, SupervisorMove, Disabling, Step, End}
 use Rattle.reader.specs.declared.Found.{Found}
 use Rattle.reader.specs.declared.Found.the-variants.{It, Missing}
-use Rattle.reader.specs.Find.{findIn}
+use Rattle.reader.specs.Find.{findIn, found}
 
 -- the first three one-byte fields of a record, and 0 where it has none
 unfoldable pub field1 : Record → ℕ
@@ -55,11 +55,6 @@ wordField (SupervisorMove v f e t) = 0
 wordField (Disabling v st m) = m
 wordField (Step e i o x) = x
 wordField End = 0
-
--- a look-up found a record
-unfoldable pub found : Found → Bool
-found (It r) = true
-found Missing = false
 
 -- a field of the record that a look-up found, and 0 if it found none
 unfoldable pub fieldOf : (Record → ℕ) → Found → ℕ

@@ -14,10 +14,10 @@ use Rattle.records.specs.Key.{keyBy, keyOf}
 use Rattle.records.specs.declared.Record.{Record}
 use Rattle.records.specs.declared.Record.the-variants.{Head, Event, Module, ModuleMove, Supervisor, SupervisorMove, Disabling, Step, End}
 use Rattle.records.specs.declared.RecordKey.{RecordKey}
-use Rattle.reader.specs.Find.{findIn}
+use Rattle.reader.specs.Find.{findIn, found}
 use Rattle.reader.specs.declared.Found.{Found}
 use Rattle.reader.specs.declared.Found.the-variants.{It, Missing}
-use Rattle.rules.specs.LookUp.{field2, field3, wordField, found, fieldOf, moduleIn, supervisorIn, alphabetOf}
+use Rattle.rules.specs.LookUp.{field2, field3, wordField, fieldOf, moduleIn, supervisorIn, alphabetOf}
 use Rattle.plan.specs.Plan.{field4, target, moduleMove, supervisorMove, shown, counts, counting, stepIn, operationOf, operandOf}
 use Rattle.accepted.specs.Plan.{_∈_, ModuleLaw, ModuleMoveLaw, SupervisorLaw, SupervisorMoveLaw, DisablingLaw, StepLaw, Sound}
 use Rattle.accepted.proofs.Look.{some-found}

@@ -13,10 +13,10 @@ use Rattle.bits.proofs.Laws.{bit-none, bit-above}
 use Rattle.records.specs.Key.{keyBy, keyOf}
 use Rattle.records.specs.declared.Record.{Record}
 use Rattle.records.specs.declared.Record.the-variants.{Event, Module, Supervisor}
-use Rattle.reader.specs.Find.{findIn}
+use Rattle.reader.specs.Find.{findIn, found}
 use Rattle.reader.specs.declared.Found.{Found}
 use Rattle.reader.specs.declared.Found.the-variants.{It, Missing}
-use Rattle.rules.specs.LookUp.{field2, field3, wordField, found, fieldOf, modulesOf, supervisorsOf, eventsOf, supervisorIn, moduleState, supervisorState, ownerOf, controllable, alphabetOf}
+use Rattle.rules.specs.LookUp.{field2, field3, wordField, fieldOf, modulesOf, supervisorsOf, eventsOf, supervisorIn, moduleState, supervisorState, ownerOf, controllable, alphabetOf}
 use Rattle.plan.specs.Plan.{supervisorMove, moduleInitial, supervisorInitial, shown, inAlphabet}
 use Rattle.accepted.specs.Plan.{_∈_, DisabledLaw, Sound}
 use Rattle.turn_laws.specs.Laws.{Words, stateFitsAt}

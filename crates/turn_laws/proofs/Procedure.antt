@@ -11,7 +11,8 @@ use denote.Floats.{passes as holds}
 use Rattle.records.specs.Range.{operandInRange}
 use Rattle.litres.specs.Eighths.{targetOk}
 use Rattle.records.specs.declared.Record.{Record}
-use Rattle.rules.specs.LookUp.{found, moduleState, ownerOf}
+use Rattle.reader.specs.Find.{found}
+use Rattle.rules.specs.LookUp.{moduleState, ownerOf}
 use Rattle.plan.specs.Plan.{ownEvent, stepIn, operationOf, operandOf}
 use Rattle.accepted.specs.Plan.{StepLaw, Sound}
 use Rattle.rules.proofs.Valid.{both}

@@ -8,7 +8,8 @@ use lib.Ieee.Fits.{and-i, eq→eqb}
 use borrow.Author.Tests.{eqb-true}
 use denote.Floats.{passes as holds}
 use Rattle.records.specs.declared.Record.{Record}
-use Rattle.rules.specs.LookUp.{found, eventsOf, ownerOf, controllable}
+use Rattle.reader.specs.Find.{found}
+use Rattle.rules.specs.LookUp.{eventsOf, ownerOf, controllable}
 use Rattle.plan.specs.Plan.{ownEvent, ownUncontrollable, stepIn}
 use Rattle.accepted.specs.Plan.{Sound}
 use Rattle.water.specs.Water.{flowOk, added, reached, waterZero, running}

@@ -10,9 +10,9 @@ use lib.Dec.{ltb}
 use Rattle.bits.specs.Bit.{bit}
 use Rattle.records.specs.Key.{keyBy}
 use Rattle.records.specs.declared.Record.{Record}
-use Rattle.reader.specs.Find.{findIn}
+use Rattle.reader.specs.Find.{findIn, found}
 use Rattle.roundtrip.specs.Fits.{Fits}
-use Rattle.rules.specs.LookUp.{found, modulesOf, supervisorsOf, eventsOf, supervisorState, ownerOf, controllable}
+use Rattle.rules.specs.LookUp.{modulesOf, supervisorsOf, eventsOf, supervisorState, ownerOf, controllable}
 use Rattle.plan.specs.Plan.{moduleMove, supervisorMove, moduleInitial, supervisorInitial, shown, inAlphabet, stepIn, operationOf, operandOf}
 use Rattle.accepted.specs.Plan.{_∈_, ModuleMoveLaw, SupervisorMoveLaw, StepLaw}
 use Rattle.litres.specs.Eighths.{count}
