@@ -2,20 +2,19 @@
 use mathlib.Core.Path.{_≡_, refl, sym, ap, ap₂, _∙_, subst}
 use mathlib.Core.List.{List}
 use mathlib.Core.Bool.{Bool, true, false, cond, not, _&&_, _||_, true≢false}
-use Prim.Native.Nat.{ℕ, zero, suc, _+_, _-_, _*_, _/_, _%_, _^_, _≤_, _<_}
-use native.Mathlib.Nat.{mod-lt, zero-lt-suc, add-assoc, lt-of-le-of-lt, div-lt-iff-lt-mul}
+use Prim.Native.Nat.{ℕ, zero, suc, _+_, _-_, _/_, _%_, _^_, _≤_, _<_}
+use native.Mathlib.Nat.{mod-lt, zero-lt-suc, add-assoc, lt-of-le-of-lt}
 use native.Mathlib.Numerals.{add-one}
 use native.Mathlib.Omega.{arith}
 use lib.Bits.{bitAnd, and-le-l}
 use lib.Count.{ones, onesIn}
 use lib.Dec.{T, eqb, ltb}
-use lib.Pow.{pow-pos}
 use lib.Ieee.Fits.{and-l}
 use borrow.Author.Tests.{eq-eqb, ne-eqb, ltb-true, ltb-false}
 use denote.Floats.{passes as holds, is-true}
 use Rattle.bits.specs.Bit.{bit, allBelow, least, someBelow, isSome, optionOf}
 use Rattle.bits.specs.declared.Maybe.{Maybe}
-use Rattle.bits.proofs.Laws.{bit-low, bit-up, bit-and, bit-not, bit-above, ones-in, all-at, all-of, same-test}
+use Rattle.bits.proofs.Laws.{bit-low, bit-up, bit-and, bit-not, bit-above, shr-none, ones-in, all-at, all-of, same-test}
 use Rattle.bits.proofs.Least.{least-same, least-more, some-least}
 use Rattle.records.specs.declared.Record.{Record}
 use Rattle.plan.specs.Plan.{neighbours}
@@ -123,12 +122,9 @@ pub held-rest : (adjacent held v : ℕ) → v ≤ 32 → held / 2 ^ v ≡ 0 → 
 unfolding heldIn
 held-rest adjacent held v l z s = sym (is-true _ (all-of (fitsAt adjacent held) 32 each))
   where
-    small : held < 2 ^ v
-    small = let w : held / 2 ^ v < 1 = omega arith in let u : held < 1 * 2 ^ v = div-lt-iff-lt-mul (pow-pos v) .0 w in omega arith
-
     go : (k : ℕ) (b : Bool) → ltb k v ≡ b → T (fitsAt adjacent held k)
     go k true q = all-at (fitsAt adjacent held) v (holds _ s) k (ltb-true k v q)
-    go k false q = holds _ (ap (λ (b : Bool). not b || (bit adjacent k && allBelow (keptAt adjacent held) k)) (bit-above v held k small (ltb-false k v q)))
+    go k false q = holds _ (ap (λ (b : Bool). not b || (bit adjacent k && allBelow (keptAt adjacent held) k)) (bit-above v held k (shr-none held v z) (ltb-false k v q)))
 
     each : (k : ℕ) → k < 32 → T (fitsAt adjacent held k)
     each k h = go k (ltb k v) refl

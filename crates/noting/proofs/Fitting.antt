@@ -2,16 +2,14 @@
 use mathlib.Core.Path.{_≡_, refl, sym, ap, ap₂, _∙_}
 use mathlib.Core.List.{List}
 use mathlib.Core.Bool.{Bool, true, false, not, _&&_, _||_}
-use Prim.Native.Nat.{ℕ, _+_, _*_, _/_, _^_, _≤_, _<_}
-use native.Mathlib.Nat.{div-lt-iff-lt-mul}
+use Prim.Native.Nat.{ℕ, _+_, _/_, _^_, _≤_, _<_}
 use native.Mathlib.Numerals.{add-one}
 use native.Mathlib.Omega.{arith}
 use lib.Dec.{T, ltb}
-use lib.Pow.{pow-pos}
 use borrow.Author.Tests.{not-true, not-false, ltb-true, ltb-false}
 use denote.Floats.{passes as holds, is-true}
 use Rattle.bits.specs.Bit.{bit, allBelow}
-use Rattle.bits.proofs.Laws.{all-at, all-of, bit-above, same-test}
+use Rattle.bits.proofs.Laws.{all-at, all-of, bit-above, shr-none, same-test}
 use Rattle.records.specs.declared.Record.{Record}
 use Rattle.permits.specs.Names.{neighbours?}
 use Rattle.permits.specs.Supervisor.{holderFits}
@@ -50,12 +48,9 @@ noted-in rs v noted m l h s = sym (ap (allBelow (noteFits rs v noted)) (let q : 
 pub noted-rest : (rs : List Record) (v noted m : ℕ) → noted / 2 ^ m ≡ 0 → fitBelow rs v noted m → true ≡ allBelow (noteFits rs v noted) 16
 noted-rest rs v noted m z s = sym (is-true _ (all-of (noteFits rs v noted) 16 (λ k h. go k (ltb k m) refl)))
   where
-    small : noted < 2 ^ m
-    small = let w : noted / 2 ^ m < 1 = omega arith in let u : noted < 1 * 2 ^ m = div-lt-iff-lt-mul (pow-pos m) .0 w in omega arith
-
     go : (k : ℕ) (b : Bool) → ltb k m ≡ b → T (noteFits rs v noted k)
     go k true q = all-at (noteFits rs v noted) m (holds _ s) k (ltb-true k m q)
-    go k false q = holds _ (ap (λ (b : Bool). not b || neighbours? rs k v) (bit-above m noted k small (ltb-false k m q)))
+    go k false q = holds _ (ap (λ (b : Bool). not b || neighbours? rs k v) (bit-above m noted k (shr-none noted m z) (ltb-false k m q)))
 
 pub holder-arm : (rs : List Record) (v : ℕ) (h : Holder) {x : Holder} {t : Bool} → h ≡ x → t ≡ holderFits rs v x → t ≡ holderFits rs v h
 holder-arm rs v h e f = f ∙ ap (holderFits rs v) (sym e)
