@@ -1,35 +1,43 @@
--- Halving, where those that pass the test come first, leads to the first that does not pass.
+-- Where those that pass a test come first, halving leads no further than to the first that does not pass, and going on from there leads to it.
 use Prim.Native.Nat.{ℕ, zero, suc, _+_, _-_, _/_, _≤_, _<_}
 use native.Mathlib.Omega.{arith}
-use mathlib.Core.Path.{_≡_, refl, sym, _∙_}
+use mathlib.Core.Path.{_≡_, refl, sym, _∙_, subst}
 use mathlib.Core.Bool.{Bool, true, false, cond, false≢true}
 use lib.Dec.{ltb}
 use borrow.Author.Tests.{ltb-true, ltb-false}
-use Rattle.places.specs.Places.{halved}
+use Rattle.places.specs.Places.{halved, onward}
 
-module _ (t : ℕ → Bool) (j top : ℕ) (before : (i : ℕ) → i < j → t i ≡ true) (after : (i : ℕ) → j ≤ i → i < top → t i ≡ false) where
-  -- the half that the test of m leads to
-  half : (m x y : ℕ) → m < top → (m < j → x ≡ j) → (j ≤ m → y ≡ j) → cond (t m) x y ≡ j
-  half m x y h f g = go (ltb m j) (t m) refl refl
-    where
-      go : (b p : Bool) → ltb m j ≡ b → t m ≡ p → cond p x y ≡ j
-      go true true e q = f (ltb-true m j e)
-      go true false e q = absurd (false≢true (sym q ∙ before m (ltb-true m j e)))
-      go false true e q = absurd (false≢true (sym (after m (ltb-false m j e) h) ∙ q))
-      go false false e q = g (ltb-false m j e)
-
+module _ (t : ℕ → Bool) (j top : ℕ) (after : (i : ℕ) → j ≤ i → i < top → t i ≡ false) where
   -- n is at least the distance of lo and hi
-  pub halving-leads : (n lo hi : ℕ) → hi - lo ≤ n → lo ≤ j → j ≤ hi → hi ≤ top → halved t n lo hi ≡ j
+  pub halving-within : (n lo hi : ℕ) → lo ≤ j → hi ≤ top → halved t n lo hi ≤ j
   unfolding halved
-  halving-leads zero lo hi d a b c = omega arith
-  halving-leads (suc n) lo hi d a b c = go (ltb lo hi) refl (halving-leads n)
+  halving-within zero lo hi a c = a
+  halving-within (suc n) lo hi a c = go (ltb lo hi) (t mid) refl refl (halving-within n)
     where
       mid : ℕ
       mid = lo + (hi - lo) / 2
 
-      go : (p : Bool) → ltb lo hi ≡ p → ((l h : ℕ) → h - l ≤ n → l ≤ j → j ≤ h → h ≤ top → halved t n l h ≡ j)
-          → cond p (cond (t mid) (halved t n (suc mid) hi) (halved t n lo mid)) lo ≡ j
-      go true e f =
-          let h : lo < hi = ltb-true lo hi e in
-          half mid _ _ (omega arith) (λ g. f (suc mid) hi (omega arith) g b c) (λ g. f lo mid (omega arith) a g (omega arith))
-      go false e f = let h : hi ≤ lo = ltb-false lo hi e in omega arith
+      go : (p q : Bool) → ltb lo hi ≡ p → t mid ≡ q → ((l h : ℕ) → l ≤ j → h ≤ top → halved t n l h ≤ j)
+          → cond p (cond q (halved t n (suc mid) hi) (halved t n lo mid)) lo ≤ j
+      go true true e g f = let h : lo < hi = ltb-true lo hi e in f (suc mid) hi (past (ltb mid j) refl) c
+        where
+          past : (b : Bool) → ltb mid j ≡ b → suc mid ≤ j
+          past true u = ltb-true mid j u
+          past false u = let h : lo < hi = ltb-true lo hi e in absurd (false≢true (sym (after mid (ltb-false mid j u) (omega arith)) ∙ g))
+      go true false e g f = let h : lo < hi = ltb-true lo hi e in f lo mid a (omega arith)
+      go false q e g f = a
+
+module _ (t : ℕ → Bool) (j : ℕ) (before : (i : ℕ) → i < j → t i ≡ true) (stops : t j ≡ false) where
+  pub onward-leads : (n i : ℕ) → i ≤ j → j < i + n → onward t n i ≡ j
+  unfolding onward
+  onward-leads zero i a b = absurd (omega arith)
+  onward-leads (suc n) i a b = go (ltb i j) (t i) refl refl (onward-leads n (suc i))
+    where
+      go : (p q : Bool) → ltb i j ≡ p → t i ≡ q → (suc i ≤ j → j < suc i + n → onward t n (suc i) ≡ j) → cond q (onward t n (suc i)) i ≡ j
+      go true true e g f = let h : i < j = ltb-true i j e in f h (omega arith)
+      go true false e g f = absurd (false≢true (sym g ∙ before i (ltb-true i j e)))
+      go false true e g f =
+          let h : j ≤ i = ltb-false i j e in
+          let w : i ≡ j = omega arith in
+          absurd (false≢true (sym stops ∙ subst (λ (x : ℕ). t x ≡ true) w g))
+      go false false e g f = let h : j ≤ i = ltb-false i j e in omega arith

@@ -2,24 +2,24 @@
 use Prim.Native.Nat.{ℕ, suc, _+_, _-_, _*_, _≤_, _<_}
 use native.Mathlib.Nat.{div-eq-of-eq-mul-left, eq-or-lt-of-le}
 use native.Mathlib.Omega.{arith}
-use mathlib.Core.Path.{_≡_, sym, ap, _∙_, subst}
+use mathlib.Core.Path.{_≡_, refl, sym, ap, _∙_, subst}
 use mathlib.Core.Logic.{_⊎_, inl, inr}
 use mathlib.Core.List.{List, _++_, Memᴰ·append-left, List·Memᴰ·append-cases}
-use mathlib.Core.Bool.{Bool, true, false}
+use mathlib.Core.Bool.{Bool, true, false, _&&_, _||_}
 use lib.ListN.{length}
-use lib.Dec.{eqb}
-use borrow.Author.Tests.{le-leb, eq-eqb}
+use lib.Dec.{eqb, ltb}
+use borrow.Author.Tests.{le-leb, le-ltb, eq-eqb}
 use Rattle.records.specs.Kinds.{bodyLen, kindOf}
-use Rattle.records.specs.Key.{keyOf, precedes}
+use Rattle.records.specs.Key.{keyBy, keyOf, precedes}
 use Rattle.records.specs.declared.Record.{Record}
 use Rattle.records.specs.declared.RecordKey.{RecordKey}
 use Rattle.reader.specs.Read.{recordOf}
 use Rattle.reader.specs.Walk.{Walk, walkFrom, recordsIn, recordsOf}
 use Rattle.rules.specs.Check.{IsPlan}
-use Rattle.places.specs.Places.{placesOf, beginOf, endOf, countOf, recordBy, halved, numbered, positionOf, picked, recordsOfKind}
+use Rattle.places.specs.Places.{placesOf, beginOf, endOf, countOf, recordBy, halved, onward, numbered, firstOf, positionOf, picked, recordsOfKind}
 use Rattle.accepted.specs.Plan.{_∈_}
 use Rattle.accepted.proofs.Order.{Precedes, precedes-irrefl}
-use Rattle.placed.proofs.Halving.{halving-leads}
+use Rattle.placed.proofs.Halving.{halving-within, onward-leads}
 use Rattle.placed.proofs.Ascending.{Ascends, precedes-true, precedes-false, not-back, plan-ascends}
 use Rattle.placed.proofs.Runs.{along, from, placeIn, Rest, rest, from-on, place-on, Run, run, recordAt, listed}
 use Rattle.placed.proofs.Listed.{in-listed, index-of, listed-ascends, all-picked}
@@ -38,6 +38,23 @@ keyAt s k i = keyOf (recordBy s (placesOf s) k i)
 -- what is left of the walk from kind j on
 rest-of : (s : List ℕ) → IsPlan s → (j : ℕ) → Rest s j (walkFrom s 0) (placeIn j 0 (walkFrom s 0)) (from j (walkFrom s 0))
 rest-of s accepted j = rest s j 0 (walkFrom s 0) (along s) (omega arith) (plan-ascends s accepted)
+
+-- what does not precede a key does not precede the least with its first two numbers
+not-least : (p q : RecordKey) (k : ℕ) → q .kind ≡ k → precedes p q ≡ false → precedes p (keyBy k (q .first) (q .second) 0) ≡ false
+unfolding precedes
+not-least p q k n e =
+    subst (λ (x : ℕ). precedes p (keyBy x (q .first) (q .second) 0) ≡ false) n
+    (go (ltb (p .kind) (q .kind)) (eqb (p .kind) (q .kind)) (ltb (p .first) (q .first)) (eqb (p .first) (q .first)) (ltb (p .second) (q .second)) (eqb (p .second) (q .second))
+    (ltb (p .third) (q .third)) (ltb (p .third) 0) (le-ltb (p .third) 0 (omega arith)) e)
+  where
+    go : (a b c d f g h z : Bool) → z ≡ false → (a || (b && (c || (d && (f || (g && h)))))) ≡ false → (a || (b && (c || (d && (f || (g && z)))))) ≡ false
+    go true b c d f g h z w x = x
+    go false false c d f g h z w x = refl
+    go false true true d f g h z w x = x
+    go false true false false f g h z w x = refl
+    go false true false true true g h z w x = x
+    go false true false true false false h z w x = refl
+    go false true false true false true h z w x = w
 
 module _ (s : List ℕ) (accepted : IsPlan s) (k : ℕ) (begins : Begins s k) where
   -- the records from kind k on begin with the run of kind k
@@ -115,12 +132,14 @@ module _ (s : List ℕ) (accepted : IsPlan s) (k : ℕ) (begins : Begins s k) wh
       unfolding positionOf recordBy
       by-number e numbers i h = simp (kept, e) (numbers i h)
 
-      -- since they ascend, it leads to them by halving
+      -- since they ascend, it leads to them by halving and going on: no later one is before the least key with the first two numbers of one of them
       pub by-halving : numbered k ≡ false → (i : ℕ) → i < kind-run .count → positionOf s (placesOf s) (keyAt s k i) ≡ i
-      unfolding positionOf recordBy
+      unfolding positionOf firstOf recordBy
       by-halving e i h =
           let n : ℕ = kind-run .count in
           let t : ℕ → Bool = λ j. precedes (keyAt s k j) (keyAt s k i) in
+          let u : ℕ → Bool = λ j. precedes (keyAt s k j) (keyBy k (keyAt s k i .first) (keyAt s k i .second) 0) in
+          let w : halved u n 0 n ≤ i = halving-within u i n (λ j l g. not-least (keyAt s k j) (keyAt s k i) k (kept _) (not-before i j l g)) n 0 n (omega arith) (omega arith) in
           simp (kept, e)
-          (ap (λ (x : ℕ). halved t x 0 x) counts
-          ∙ halving-leads t i n (λ j l. precedes-true _ _ (ordered j i l h)) (not-before i) n 0 n (omega arith) (omega arith) (omega arith) (omega arith))
+          (ap (λ (x : ℕ). onward t (x - halved u x 0 x) (halved u x 0 x)) counts
+          ∙ onward-leads t i (λ j l. precedes-true _ _ (ordered j i l h)) (not-before i i (omega arith) h) (n - halved u n 0 n) (halved u n 0 n) w (omega arith))

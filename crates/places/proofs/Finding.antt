@@ -12,7 +12,7 @@ use lib.Ieee.Fits.{and-l, and-r}
 use borrow.Author.Tests.{eq-eqb, ne-eqb, eqb-true, eqb-false}
 use denote.Floats.{passes}
 use Rattle.records.specs.Kinds.{bodyLen, noLen}
-use Rattle.records.specs.Key.{keyBy, headKey, keyOf, sameKey, precedes}
+use Rattle.records.specs.Key.{keyBy, keyOf, sameKey}
 use Rattle.records.specs.declared.Record.{Record}
 use Rattle.records.specs.declared.RecordKey.{RecordKey}
 use Rattle.reader.specs.Read.{recordOf}
@@ -20,11 +20,12 @@ use Rattle.reader.specs.Find.{findIn}
 use Rattle.reader.specs.declared.Found.{Found}
 use Rattle.reader.specs.declared.Found.the-variants.{It, Missing}
 use Rattle.reader.proofs.Reading.{kind-kept}
-use Rattle.places.specs.Places.{beginOf, endOf, countOf, recordBy, halved, numbered, positionOf, picked, recordsOfKind, recordsOfKinds, kinds, recordsBy}
-use Rattle.places.specs.Runs.{runBy, runOf, before}
+use Rattle.places.specs.Places.{beginOf, endOf, countOf, recordBy, halved, onward, numbered, leastKey, firstOf, positionOf, picked, recordsOfKind, recordsOfKinds, kinds, recordsBy}
+use Rattle.places.specs.Runs.{runBy, runOf, keyed, before}
 use Rattle.places.specs.declared.Places.{Places}
 use Rattle.places.specs.declared.Run.{Run}
 use Rattle.places.proofs.Counting.{counts, inside-by}
+use Rattle.places.proofs.Keys.{keyed-other}
 
 -- the first of two answers that is a record
 orElse : Found → Found → Found
@@ -100,7 +101,7 @@ module _ (q : RecordKey) (t : ℕ → Bool) (f : ℕ → Record) where
 
 -- ---- among the records of all kinds
 
-same-is : (p q : RecordKey) → sameKey p q ≡ true → p ≡ q
+pub same-is : (p q : RecordKey) → sameKey p q ≡ true → p ≡ q
 unfolding sameKey
 same-is p q e =
     let t : T (sameKey p q) = passes _ e in
@@ -202,11 +203,11 @@ module _ (s : List ℕ) (p : Places) (q : RecordKey) where
   only : (j : ℕ) → sameKey (keyOf (recordBy s p (q .kind) j)) q ≡ true → eqb (positionOf s p (keyOf (recordBy s p (q .kind) j))) j ≡ eqb (positionOf s p q) j
   only j e = ap (λ (x : RecordKey). eqb (positionOf s p x) j) (same-is _ q e)
 
-  missing : (positionOf s p q < countOf s p (q .kind) → sameKey (keyOf (recordBy s p (q .kind) (positionOf s p q))) q ≡ false) → findIn q (recordsBy s p) ≡ Missing
+  pub missing : (positionOf s p q < countOf s p (q .kind) → sameKey (keyOf (recordBy s p (q .kind) (positionOf s p q))) q ≡ false) → findIn q (recordsBy s p) ≡ Missing
   unfolding recordsOfKind
   missing h = by-kind ∙ pick-missing q _ (recordBy s p (q .kind)) (positionOf s p q) only 0 (countOf s p (q .kind)) (λ l. h (omega arith))
 
-  it : positionOf s p q < countOf s p (q .kind) → sameKey (keyOf (recordBy s p (q .kind) (positionOf s p q))) q ≡ true
+  pub it : positionOf s p q < countOf s p (q .kind) → sameKey (keyOf (recordBy s p (q .kind) (positionOf s p q))) q ≡ true
       → findIn q (recordsBy s p) ≡ It (recordBy s p (q .kind) (positionOf s p q))
   unfolding recordsOfKind
   it l e = by-kind ∙ pick-it q _ (recordBy s p (q .kind)) (positionOf s p q) only 0 (countOf s p (q .kind)) (omega arith) (omega arith) e
@@ -218,9 +219,14 @@ module _ (s : List ℕ) (p : Places) (q : RecordKey) where
   unfolding positionOf
   numbered-by n e = simp n e
 
-  pub halved-by : {r : Run} {x : ℕ} → numbered (q .kind) ≡ false → r ≡ runOf s p (q .kind) → x ≡ halved (before s r q) (r .count) 0 (r .count) → x ≡ positionOf s p q
-  unfolding positionOf runOf runBy before countOf recordBy
-  halved-by n e f = simp n (f ∙ ap (λ (r : Run). halved (before s r q) (r .count) 0 (r .count)) e)
+  pub keyed-by : {r : Run} {h x : ℕ} → keyed (q .kind) ≡ true → r ≡ runOf s p (q .kind) → h ≡ halved (before s r (leastKey q)) (r .count) 0 (r .count)
+      → x ≡ onward (before s r q) (r .count - h) h → x ≡ positionOf s p q
+  unfolding positionOf firstOf runOf runBy before countOf recordBy
+  keyed-by {r} {h} {x} n e f g =
+      simp (keyed-other _ n)
+      (g
+      ∙ ap (λ (y : ℕ). onward (before s r q) (r .count - y) y) f
+      ∙ ap (λ (y : Run). onward (before s y q) (y .count - halved (before s y (leastKey q)) (y .count) 0 (y .count)) (halved (before s y (leastKey q)) (y .count) 0 (y .count))) e)
 
   module _ {r : Run} {i : ℕ} (e : r ≡ runOf s p (q .kind)) (f : i ≡ positionOf s p q) where
     pub missing-past : r .count ≤ i → Missing ≡ findIn q (recordsBy s p)
@@ -290,53 +296,6 @@ module _ (s : List ℕ) (p : Places) (k x : ℕ) (n : numbered k ≡ true) {r : 
     pub number-other : (getD s a 0 ≡ x → ⊥) → Missing ≡ findIn (keyBy k x 0 0) (recordsBy s p)
     number-other h =
         missing-there s p (keyBy k x 0 0) e (numbered-by s p (keyBy k x 0 0) n f) l g refl refl (same-number ∙ ne-eqb _ _ h)
-
--- where no number passes the test the first is found
-halved-first : (t : ℕ → Bool) (n hi : ℕ) → ((i : ℕ) → t i ≡ false) → halved t n 0 hi ≡ 0
-unfolding halved
-halved-first t zero hi h = refl
-halved-first t (suc n) hi h = go (ltb 0 hi) (t (0 + (hi - 0) / 2)) _ _ (h (0 + (hi - 0) / 2)) (halved-first t n (0 + (hi - 0) / 2) h)
-  where
-    go : (b c : Bool) (x y : ℕ) → c ≡ false → y ≡ 0 → cond b (cond c x y) 0 ≡ 0
-    go true c x y e f = simp e f
-    go false c x y e f = refl
-
--- every record of the head's kind has the head's key
-module _ (s : List ℕ) (p : Places) (x : ℕ) where
-  head-key : (i : ℕ) → keyOf (recordBy s p 0x10 i) ≡ headKey
-  unfolding recordBy recordOf keyOf
-  head-key i = refl
-
-  pub head-other : 0 < x → Missing ≡ findIn (keyBy 0x10 x 0 0) (recordsBy s p)
-  unfolding sameKey
-  head-other l =
-      let w : 0 ≡ x → ⊥ = λ e. absurd (omega arith) in
-      sym (missing s p (keyBy 0x10 x 0 0) (λ m. simp (head-key (positionOf s p (keyBy 0x10 x 0 0)), ne-eqb 0 x w)))
-
-  module _ (z : x ≤ 0) {r : Run} (e : r ≡ runOf s p 0x10) where
-    first-place : positionOf s p (keyBy 0x10 x 0 0) ≡ 0
-    unfolding positionOf numbered precedes
-    first-place =
-        let w : x ≡ 0 = omega arith in
-        halved-first _ (countOf s p 0x10) (countOf s p 0x10) (λ i. simp (head-key i, w))
-
-    head-same : sameKey (keyOf (recordBy s p 0x10 (positionOf s p (keyBy 0x10 x 0 0)))) (keyBy 0x10 x 0 0) ≡ true
-    unfolding sameKey
-    head-same =
-        let w : x ≡ 0 = omega arith in
-        ap (λ (y : RecordKey). sameKey y (keyBy 0x10 x 0 0)) (head-key (positionOf s p (keyBy 0x10 x 0 0))) ∙ ap (λ (y : ℕ). sameKey headKey (keyBy 0x10 y 0 0)) w
-
-    pub head-missing : r .count ≡ 0 → Missing ≡ findIn (keyBy 0x10 x 0 0) (recordsBy s p)
-    head-missing c =
-        let w : r .count ≡ countOf s p 0x10 = counts s p 0x10 e in
-        sym (missing s p (keyBy 0x10 x 0 0) (λ m. absurd (omega arith)))
-
-    pub head-it : (r .count ≡ 0 → ⊥) → {v : Record} → v ≡ recordOf 0x10 (drop 1 s) → It v ≡ findIn (keyBy 0x10 x 0 0) (recordsBy s p)
-    unfolding recordBy beginOf bodyLen
-    head-it c v =
-        let w : r .count ≡ countOf s p 0x10 = counts s p 0x10 e in
-        let o : positionOf s p (keyBy 0x10 x 0 0) ≡ 0 = first-place in
-        ap It v ∙ sym (it s p (keyBy 0x10 x 0 0) (omega arith) head-same ∙ ap (λ (i : ℕ). It (recordBy s p 0x10 i)) o)
 
 -- no event, module or supervisor is found past the count of its kind
 pub number-missing : (s : List ℕ) (p : Places) (k x : ℕ) → numbered k ≡ true → countOf s p k ≤ x → findIn (keyBy k x 0 0) (recordsBy s p) ≡ Missing

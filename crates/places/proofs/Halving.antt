@@ -1,12 +1,12 @@
--- Halving: fuel past the distance changes nothing, and what a turn of the loop leaves.
-use mathlib.Core.Path.{_≡_, refl, sym, _∙_}
+-- Halving, and going on from one number to the next: fuel past the distance changes nothing, and what a turn of each loop leaves.
+use mathlib.Core.Path.{_≡_, refl, sym, ap, _∙_}
 use mathlib.Core.Bool.{Bool, true, false, cond}
 use Prim.Native.Nat.{ℕ, zero, suc, _+_, _-_, _/_, _≤_, _<_}
 use native.Mathlib.Numerals.{add-one}
 use native.Mathlib.Omega.{arith}
 use lib.Dec.{ltb}
 use borrow.Author.Tests.{lt-ltb, le-ltb, ltb-true}
-use Rattle.places.specs.Places.{halved}
+use Rattle.places.specs.Places.{halved, onward}
 
 -- the middle
 abbrev pub mid : ℕ → ℕ → ℕ
@@ -54,3 +54,19 @@ module _ (t : ℕ → Bool) where
   pub turned : (lo hi : ℕ) {y : ℕ} → hi ≤ lo → halved t (hi - lo) lo hi ≡ y → lo ≡ y
   unfolding halved
   turned lo hi h f = fuel zero (hi - lo) lo hi (omega arith) (omega arith) ∙ f
+
+  -- one number further, from what the code of `go_on` is told
+  module _ (n i : ℕ) {y : ℕ} (f : onward t (n - i) i ≡ y) where
+    goes : i < n → cond (t i) (onward t (n - suc i) (suc i)) i ≡ y
+    unfolding onward
+    goes l = let w : n - i ≡ suc (n - suc i) = omega arith in sym (ap (λ (m : ℕ). onward t m i) w) ∙ f
+
+    pub goes-on : {b : Bool} → i < n → b ≡ t i → b ≡ true → onward t (n - (i + 1)) (i + 1) ≡ y
+    goes-on l e w = let u : t i ≡ true = sym e ∙ w in rw add-one (sym (simp u) ∙ goes l)
+
+    pub goes-no-further : {b : Bool} → i < n → b ≡ t i → b ≡ false → i ≡ y
+    goes-no-further l e w = let u : t i ≡ false = sym e ∙ w in sym (simp u) ∙ goes l
+
+    pub goes-to-the-end : n ≤ i → i ≡ y
+    unfolding onward
+    goes-to-the-end l = let w : n - i ≡ 0 = omega arith in sym (ap (λ (m : ℕ). onward t m i) w) ∙ f

@@ -5,12 +5,14 @@ use mathlib.Core.List.{List, [], _∷_, _++_}
 use mathlib.Core.Bool.{Bool, cond, _&&_, _||_}
 use lib.ListN.{length, drop}
 use lib.Dec.{eqb, leb, ltb}
+use Rattle.bits.specs.Bit.{maskOf}
 use Rattle.records.specs.Kinds.{bodyLen, kindOf}
-use Rattle.records.specs.Key.{keyOf, precedes}
+use Rattle.records.specs.Key.{keyBy, keyOf, sameKey, precedes}
 use Rattle.records.specs.declared.Record.{Record}
 use Rattle.records.specs.declared.RecordKey.{RecordKey}
 use Rattle.reader.specs.Read.{recordOf}
 use Rattle.reader.specs.Walk.{Walk, more, stop, walkFrom}
+use Rattle.reader.specs.Find.{findIn, found}
 use Rattle.places.specs.declared.Places.{Places}
 
 -- ---- the places of an image
@@ -89,14 +91,38 @@ halved t (suc n) lo hi =
     (cond (t (lo + (hi - lo) / 2)) (halved t n (suc (lo + (hi - lo) / 2)) hi) (halved t n lo (lo + (hi - lo) / 2)))
     lo
 
--- an event, a module and a supervisor have the number of their place; of the other kinds the place is found by halving
+-- the first number from i on, of the n next ones, that does not pass the test
+unfoldable pub onward : (ℕ → Bool) → ℕ → ℕ → ℕ
+onward t zero i = i
+onward t (suc n) i = cond (t i) (onward t n (suc i)) i
+
+-- an event, a module and a supervisor have the number of their place
 unfoldable pub numbered : ℕ → Bool
 numbered k = eqb k 0x11 || eqb k 0x12 || eqb k 0x14
 
+-- the least key with the first two numbers of a key
+abbrev pub leastKey : RecordKey → RecordKey
+leastKey q = keyBy (q .kind) (q .first) (q .second) 0
+
+-- whether the i-th record of a kind precedes a key
+abbrev pub isBefore : List ℕ → Places → ℕ → RecordKey → ℕ → Bool
+isBefore s p k q i = precedes (keyOf (recordBy s p k i)) q
+
+-- where the records begin that have the first two numbers of a key: found by halving
+unfoldable pub firstOf : List ℕ → Places → RecordKey → ℕ
+firstOf s p q = halved (isBefore s p (q .kind) (leastKey q)) (countOf s p (q .kind)) 0 (countOf s p (q .kind))
+
+-- of the other kinds the place is found from there on, one record after the other
 unfoldable pub positionOf : List ℕ → Places → RecordKey → ℕ
 positionOf s p q =
     cond (numbered (q .kind)) (q .first)
-    (halved (λ i. precedes (keyOf (recordBy s p (q .kind) i)) q) (countOf s p (q .kind)) 0 (countOf s p (q .kind)))
+    (onward (isBefore s p (q .kind) q) (countOf s p (q .kind) - firstOf s p q) (firstOf s p q))
+
+-- where the body of the record with a key begins, and 0 if that record is not at its place
+unfoldable pub spotOf : List ℕ → Places → RecordKey → ℕ
+spotOf s p q =
+    cond (ltb (positionOf s p q) (countOf s p (q .kind)) && sameKey (keyOf (recordBy s p (q .kind) (positionOf s p q))) q)
+    (suc (beginOf p (q .kind) + positionOf s p q * suc (bodyLen (q .kind)))) 0
 
 -- ---- the records that a look-up can find
 
@@ -119,3 +145,7 @@ kinds = 0x10 ∷ 0x11 ∷ 0x12 ∷ 0x13 ∷ 0x14 ∷ 0x15 ∷ 0x16 ∷ 0x17 ∷ 
 
 unfoldable pub recordsBy : List ℕ → Places → List Record
 recordsBy s p = recordsOfKinds s p kinds
+
+-- the events by which a module has a move from a state
+abbrev pub movesOf : List Record → ℕ → ℕ → ℕ
+movesOf rs m st = maskOf (λ e. found (findIn (keyBy 0x13 m st e) rs)) 64

@@ -2,9 +2,9 @@
 use mathlib.Core.Path.{_≡_}
 use Prim.Native.Nat.{ℕ, suc, _+_, _-_, _*_, _/_, _≤_, _<_}
 use mathlib.Core.List.{List}
-use mathlib.Core.Bool.{Bool, cond, _&&_, _||_}
+use mathlib.Core.Bool.{Bool, cond, _||_}
 use lib.ListN.{length, drop}
-use lib.Dec.{eqb, leb, ltb}
+use lib.Dec.{eqb, leb}
 use Rattle.records.specs.Kinds.{bodyLen}
 use Rattle.records.specs.Key.{keyOf, precedes}
 use Rattle.records.specs.declared.RecordKey.{RecordKey}
@@ -26,13 +26,12 @@ pub record Inside (s : List ℕ) (r : Run) (k : ℕ) : Type 0 where
   pub size : r .size ≡ suc (bodyLen k)
   pub within : (i : ℕ) → i < r .count → r .begin + i * r .size + r .size ≤ length s
 
--- the numbers of a key as one number
-unfoldable pub keyNumber : ℕ → ℕ → ℕ → ℕ
-keyNumber a b c = (a * 256 + b) * 256 + c
+-- the kinds whose keys have several numbers: moves, with three, and disablings and steps, with two
+unfoldable pub isMove : ℕ → Bool
+isMove k = eqb k 0x13 || eqb k 0x15
 
--- whether a key with three numbers precedes one of the same kind
-unfoldable pub keyBefore : ℕ → ℕ → ℕ → RecordKey → Bool
-keyBefore a b c q = ltb a (q .first) || (eqb a (q .first) && (ltb b (q .second) || (eqb b (q .second) && ltb c (q .third))))
+unfoldable pub keyed : ℕ → Bool
+keyed k = isMove k || (eqb k 0x16 || eqb k 0x17)
 
 -- whether the i-th of the key's kind precedes the key
 unfoldable pub before : List ℕ → Run → RecordKey → ℕ → Bool

@@ -1,13 +1,13 @@
 // Where the records of each kind begin in an image, and the look-up by these places: specs/Places.antt.
 ghost use mathlib.Core.Path.{_≡_};
-ghost use mathlib.Core.Bool.{true};
-ghost use Prim.Native.Nat.{suc, _+_, _*_, _≤_, _<_};
-ghost use lib.ListN.{length, getD, drop};
-ghost use Rattle.records.specs.Key.{keyBy};
+ghost use mathlib.Core.Bool.{true, false, cond};
+ghost use Prim.Native.Nat.{suc, _+_, _-_, _*_, _≤_, _<_};
+ghost use lib.ListN.{length, drop};
+ghost use Rattle.records.specs.Key.{keyBy, keyOf};
 ghost use Rattle.reader.specs.Find.{findIn};
 ghost use Rattle.reader.specs.Read.{recordOf};
-ghost use Rattle.places.specs.Places.{nowhere, placeBy, notedAt, countOf, halved, numbered, positionOf, recordsBy};
-ghost use Rattle.places.specs.Runs.{runBy, runOf, Inside, keyNumber, keyBefore, before};
+ghost use Rattle.places.specs.Places.{nowhere, placeBy, notedAt, countOf, halved, onward, numbered, positionOf, spotOf, recordsBy, movesOf};
+ghost use Rattle.places.specs.Runs.{runBy, runOf, Inside, keyed, before};
 use reader::Found;
 use records::Record;
 use records::RecordKey;
@@ -122,54 +122,44 @@ fn body_at(image: &[u8], run: Run, kind: u8, i: usize) -> usize
     run.begin + i * run.size + 1
 }
 
-// The numbers of a key as one number.
-fn number(first: u8, second: u8, third: u8) -> u32
-    ensures { λ r. ⌜ r ≡ keyNumber first second third ⌝ }
+// ---- the look-up
+
+// The key of the record, of a kind whose keys have several numbers, whose body begins at an offset.
+fn key_in(image: &[u8], kind: u8, at: usize) -> RecordKey
+    requires { ⌜ (keyed kind ≡ true) × (at + 3 ≤ length (now image)) ⌝ }
+    ensures { λ r. ⌜ r ≡ keyOf (recordOf kind (drop at (now (image .entry)))) ⌝ }
 {
-    (first as u32 * 256 + second as u32) * 256 + third as u32
+    let first = image[at];
+    let second = image[at + 1];
+    if (kind == 0x13) | (kind == 0x15) {
+        let third = image[at + 2];
+        return RecordKey {
+            kind,
+            first,
+            second,
+            third,
+        };
+    }
+    RecordKey {
+        kind,
+        first,
+        second,
+        third: 0,
+    }
 }
 
-// Whether a key of the same kind precedes a key, by one comparison.
-fn key_before(first: u8, second: u8, third: u8, key: RecordKey) -> bool
-    ensures { λ r. ⌜ r ≡ keyBefore first second third key ⌝ }
-{
-    number(first, second, third) < number(key.first, key.second, key.third)
-}
-
-// Whether the key of the bytes at an offset, three of them, or two and 0, precedes a key.
-fn three_before(image: &[u8], at: usize, key: RecordKey) -> bool
-    requires { ⌜ at + 3 ≤ length (now image) ⌝ }
-    ensures { λ r. ⌜ r ≡ keyBefore (getD (now (image .entry)) at 0) (getD (now (image .entry)) (at + 1) 0) (getD (now (image .entry)) (at + 2) 0) key ⌝ }
-{
-    key_before(image[at], image[at + 1], image[at + 2], key)
-}
-
-fn two_before(image: &[u8], at: usize, key: RecordKey) -> bool
-    requires { ⌜ at + 2 ≤ length (now image) ⌝ }
-    ensures { λ r. ⌜ r ≡ keyBefore (getD (now (image .entry)) at 0) (getD (now (image .entry)) (at + 1) 0) 0 key ⌝ }
-{
-    key_before(image[at], image[at + 1], 0, key)
-}
-
-// Whether the i-th record of a run precedes a key. Of the kinds with many records only the bytes of the key are read.
+// Whether the i-th record of a run precedes a key.
 fn precedes_at(image: &[u8], run: Run, key: RecordKey, i: usize) -> bool
-    requires { ⌜ Inside (now image) run (key .kind) × (i < run .count) ⌝ }
+    requires { ⌜ Inside (now image) run (key .kind) × (keyed (key .kind) ≡ true) × (i < run .count) ⌝ }
     ensures { λ r. ⌜ r ≡ before (now (image .entry)) run key i ⌝ }
 {
-    let kind = key.kind;
-    let at = body_at(image, run, kind, i);
-    if (kind == 0x13) | (kind == 0x15) {
-        return three_before(image, at, key);
-    }
-    if (kind == 0x16) | (kind == 0x17) {
-        return two_before(image, at, key);
-    }
-    records::precedes(reader::key_at(kind, image, at), key)
+    let at = body_at(image, run, key.kind, i);
+    records::precedes(key_in(image, key.kind, at), key)
 }
 
 // Of the records of a run, in the order of keys, the number of the first that does not precede a key.
 fn halve(image: &[u8], run: Run, key: RecordKey) -> usize
-    requires { ⌜ Inside (now image) run (key .kind) ⌝ }
+    requires { ⌜ Inside (now image) run (key .kind) × (keyed (key .kind) ≡ true) ⌝ }
     ensures { λ r. ⌜ r ≡ halved (before (now (image .entry)) run key) (run .count) 0 (run .count) ⌝ }
 {
     let mut lo: usize = 0;
@@ -185,33 +175,121 @@ fn halve(image: &[u8], run: Run, key: RecordKey) -> usize
     lo
 }
 
-// Where the record with a kind and key stands among those of its kind, if it is there.
-fn position(image: &[u8], p: Places, run: Run, key: RecordKey) -> usize
-    requires { ⌜ run ≡ runOf (now image) p (key .kind) ⌝ }
+// The same from a record on, one after the other.
+fn go_on(image: &[u8], run: Run, key: RecordKey, from: usize) -> usize
+    requires { ⌜ Inside (now image) run (key .kind) × (keyed (key .kind) ≡ true) ⌝ }
+    ensures { λ r. ⌜ r ≡ onward (before (now (image .entry)) run key) (run .count - from) from ⌝ }
+{
+    let mut i = from;
+    while i < run.count {
+        if precedes_at(image, run, key, i) {
+            i += 1;
+        } else {
+            return i;
+        }
+    }
+    i
+}
+
+// Those of a kind whose keys have several numbers.
+fn keyed_run(image: &[u8], p: Places, kind: u8) -> Run
+    requires { ⌜ keyed kind ≡ true ⌝ }
+    ensures { λ r. ⌜ r ≡ runOf (now (image .entry)) p kind ⌝ }
+{
+    if kind == 0x13 {
+        return run_by(image, p.k13 as usize, p.k14 as usize, 5);
+    }
+    if kind == 0x15 {
+        return run_by(image, p.k15 as usize, p.k16 as usize, 5);
+    }
+    if kind == 0x16 {
+        return run_by(image, p.k16 as usize, p.k17 as usize, 11);
+    }
+    run_by(image, p.k17 as usize, p.k1f as usize, 12)
+}
+
+// The place of such a record among those of its kind.
+fn keyed_place(image: &[u8], p: Places, run: Run, key: RecordKey) -> usize
+    requires { ⌜ (keyed (key .kind) ≡ true) × (run ≡ runOf (now image) p (key .kind)) ⌝ }
     ensures { λ r. ⌜ r ≡ positionOf (now (image .entry)) p key ⌝ }
+{
+    let least = RecordKey {
+        kind: key.kind,
+        first: key.first,
+        second: key.second,
+        third: 0,
+    };
+    let first = halve(image, run, least);
+    go_on(image, run, key, first)
+}
+
+// Where its body begins, or 0.
+fn seek_keyed(image: &[u8], p: Places, key: RecordKey) -> usize
+    requires { ⌜ keyed (key .kind) ≡ true ⌝ }
+    ensures { λ r. ⌜ r ≡ spotOf (now (image .entry)) p key ⌝ }
+{
+    let run = keyed_run(image, p, key.kind);
+    let i = keyed_place(image, p, run, key);
+    if run.count <= i {
+        return 0;
+    }
+    let at = body_at(image, run, key.kind, i);
+    if records::same_key(key_in(image, key.kind, at), key) {
+        at
+    } else {
+        0
+    }
+}
+
+// Of the other kinds a record stands at its number or, where no key has a number, at the first place.
+fn place_of(key: RecordKey) -> usize
+    ensures { λ r. ⌜ r ≡ cond (numbered (key .kind)) (key .first) 0 ⌝ }
 {
     let kind = key.kind;
     if (kind == 0x11) | (kind == 0x12) | (kind == 0x14) {
         words::wide(key.first)
     } else {
-        halve(image, run, key)
+        0
     }
+}
+
+fn seek_other(image: &[u8], p: Places, key: RecordKey) -> usize
+    requires { ⌜ keyed (key .kind) ≡ false ⌝ }
+    ensures { λ r. ⌜ r ≡ spotOf (now (image .entry)) p key ⌝ }
+{
+    let run = run_of(image, p, key.kind);
+    let i = place_of(key);
+    if run.count <= i {
+        return 0;
+    }
+    let at = body_at(image, run, key.kind, i);
+    if records::same_key(reader::key_at(key.kind, image, at), key) {
+        at
+    } else {
+        0
+    }
+}
+
+// Where the body of the record with a kind and key begins, or 0 if it is not there.
+pub fn seek(image: &[u8], p: Places, key: RecordKey) -> usize
+    ensures { λ r. ⌜ r ≡ spotOf (now (image .entry)) p key ⌝ }
+{
+    let kind = key.kind;
+    if (kind == 0x13) | (kind == 0x15) | ((kind == 0x16) | (kind == 0x17)) {
+        return seek_keyed(image, p, key);
+    }
+    seek_other(image, p, key)
 }
 
 // The record with a kind and key, found by its place.
 pub fn look(image: &[u8], p: Places, key: RecordKey) -> Found
     ensures { λ r. ⌜ r ≡ findIn key (recordsBy (now (image .entry)) p) ⌝ }
 {
-    let run = run_of(image, p, key.kind);
-    let i = position(image, p, run, key);
-    if run.count <= i {
-        return Found::Missing;
-    }
-    let at = body_at(image, run, key.kind, i);
-    if records::same_key(reader::key_at(key.kind, image, at), key) {
-        Found::It(reader::record_of(key.kind, image, at))
-    } else {
+    let at = seek(image, p, key);
+    if at == 0 {
         Found::Missing
+    } else {
+        Found::It(reader::record_of(key.kind, image, at))
     }
 }
 
@@ -307,4 +385,37 @@ pub fn look_number(image: &[u8], p: Places, kind: u8, first: u8) -> Found
         third: 0,
     };
     look(image, p, key)
+}
+
+// The events by which a module has a move from a state. Its moves stand one after the other; `floor` is the least key that may still be found.
+pub fn moves_of(image: &[u8], p: Places, owner: u8, from: u8) -> u64
+    ensures { λ r. ⌜ r ≡ movesOf (recordsBy (now (image .entry)) p) owner from ⌝ }
+{
+    let run = keyed_run(image, p, 0x13);
+    let least = RecordKey {
+        kind: 0x13,
+        first: owner,
+        second: from,
+        third: 0,
+    };
+    let mut floor = records::rank(least);
+    let most = floor + 255;
+    let mut mask: u64 = 0;
+    let mut i = halve(image, run, least);
+    while i < run.count {
+        let at = body_at(image, run, 0x13, i);
+        let key = key_in(image, 0x13, at);
+        let rank = records::rank(key);
+        if most < rank {
+            return mask;
+        }
+        if floor <= rank {
+            mask = bits::put(mask, key.third, true);
+            floor = rank + 1;
+            i += 1;
+        } else {
+            i += 1;
+        }
+    }
+    mask
 }

@@ -5,9 +5,9 @@ use Prim.Native.Nat.{ℕ, suc, _+_, _*_, _≤_, _<_}
 use native.Mathlib.Nat.{mul-le-mul-right, suc-mul}
 use native.Mathlib.Omega.{arith}
 use lib.Dec.{ltb, eqb}
-use borrow.Author.Tests.{lt-ltb, le-ltb, ltb-true, ltb-false, eqb-true, eqb-false}
+use borrow.Author.Tests.{lt-ltb, le-ltb, ltb-true, ltb-false, eq-eqb, ne-eqb, eqb-true, eqb-false}
 use Rattle.records.specs.Kinds.{kindOf}
-use Rattle.records.specs.Key.{keyOf, rankOf, precedes}
+use Rattle.records.specs.Key.{keyOf, rankOf, sameKey, precedes}
 use Rattle.records.specs.declared.RecordKey.{RecordKey}
 use Rattle.records.specs.declared.Record.{Record}
 use Rattle.records.specs.declared.Record.the-variants.{Head, Event, Module, ModuleMove, Supervisor, SupervisorMove, Disabling, Step, End}
@@ -46,6 +46,34 @@ ranks p q f1 s1 t1 f2 s2 t2 =
     let ps : p .second * 256 + p .third < 65536 = omega arith in
     let qs : q .second * 256 + q .third < 65536 = omega arith in
     rw (e p, e q, less 16777216, less 65536, less 256)
+
+-- keys of one kind are the same where their ranks are
+pub same-ranks : (p q : RecordKey) → p .kind ≡ q .kind → p .second < 256 → p .third < 256 → q .second < 256 → q .third < 256
+    → sameKey p q ≡ eqb (rankOf p) (rankOf q)
+unfolding sameKey
+same-ranks p q k s1 t1 s2 t2 = go (eqb (p .first) (q .first)) (eqb (p .second) (q .second)) (eqb (p .third) (q .third)) refl refl refl
+  where
+    apart : (rankOf p ≡ rankOf q → ⊥) → false ≡ eqb (rankOf p) (rankOf q)
+    apart h = sym (ne-eqb _ _ h)
+
+    go : (a b c : Bool) → eqb (p .first) (q .first) ≡ a → eqb (p .second) (q .second) ≡ b → eqb (p .third) (q .third) ≡ c
+        → (eqb (p .kind) (q .kind) && a && b && c) ≡ eqb (rankOf p) (rankOf q)
+    go true true true f g h =
+        let x : p .first ≡ q .first = eqb-true _ _ f in
+        let y : p .second ≡ q .second = eqb-true _ _ g in
+        let z : p .third ≡ q .third = eqb-true _ _ h in
+        let w : rankOf p ≡ rankOf q = omega arith in
+        simp (eq-eqb _ _ k, eq-eqb _ _ w)
+    go true true false f g h =
+        let x : p .first ≡ q .first = eqb-true _ _ f in
+        let y : p .second ≡ q .second = eqb-true _ _ g in
+        let z : p .third ≡ q .third → ⊥ = eqb-false _ _ h in
+        simp (eq-eqb _ _ k) (apart (λ e. z (omega arith)))
+    go true false c f g h =
+        let x : p .first ≡ q .first = eqb-true _ _ f in
+        let y : p .second ≡ q .second → ⊥ = eqb-false _ _ g in
+        simp (eq-eqb _ _ k) (apart (λ e. y (omega arith)))
+    go false b c f g h = let x : p .first ≡ q .first → ⊥ = eqb-false _ _ f in simp (eq-eqb _ _ k) (apart (λ e. x (omega arith)))
 
 -- the kind that stands in a record's key is the record's
 pub key-kind : (r : Record) → keyOf r .kind ≡ kindOf r

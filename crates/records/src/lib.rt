@@ -239,7 +239,7 @@ pub fn same_key(p: RecordKey, q: RecordKey) -> bool
 }
 
 // The kind and the key as one number, which ascends as they do.
-fn rank(p: RecordKey) -> u32
+pub fn rank(p: RecordKey) -> u32
     ensures { λ r. ⌜ r ≡ rankOf p ⌝ }
 {
     (((p.kind as u32) * 256 + (p.first as u32)) * 256 + (p.second as u32)) * 256 + (p.third as u32)

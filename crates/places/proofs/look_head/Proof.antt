@@ -1,4 +1,4 @@
-use Rattle.places.proofs.Finding.{head-other, head-missing, head-it}
+use Rattle.places.proofs.Spots.{head-other, head-missing, head-it}
 use borrow.Author.Needs.{needs}
 use Rattle.places.proofs.look_head.Statement.{statement}
 use Rattle.places.proofs.look_head.Tie as tie
