@@ -3,18 +3,30 @@ use mathlib.Core.Path.{_≡_, refl, sym, ap, _∙_, subst}
 use mathlib.Core.List.{List}
 use mathlib.Core.Option.{Option, none, some}
 use mathlib.Core.Bool.{Bool, true, false, cond, not, _&&_, _||_}
-use Prim.Native.Nat.{ℕ}
+use Prim.Native.Nat.{ℕ, _+_}
+use lib.ListN.{drop, getD}
+use lib.Seq.{getD-drop}
 use lib.Dec.{eqb, ltb}
 use Rattle.bits.specs.Bit.{optionOf}
 use Rattle.bits.specs.declared.Maybe.{Maybe}
 use Rattle.bits.specs.declared.Maybe.the-variants.{Just, Nothing}
+use Rattle.words.specs.Word.{wordAt}
+use Rattle.words.proofs.Laws.{word-drop}
+use Rattle.records.specs.Key.{keyBy}
 use Rattle.records.specs.Range.{inRange}
 use Rattle.records.specs.declared.Record.{Record}
+use Rattle.reader.specs.Read.{recordOf}
+use Rattle.reader.specs.Find.{findIn}
 use Rattle.reader.specs.declared.Found.{Found}
 use Rattle.reader.specs.declared.Found.the-variants.{It, Missing}
-use Rattle.rules.specs.LookUp.{fieldOf}
+use Rattle.places.specs.declared.Places.{Places}
+use Rattle.places.specs.Places.{spotOf, recordsBy}
+use Rattle.places.specs.Runs.{isMove}
+use Rattle.places.proofs.Keys.{of-moves}
+use Rattle.places.proofs.Spots.{look-missing, look-it}
+use Rattle.rules.specs.LookUp.{wordField, fieldOf}
 use Rattle.plan.specs.declared.Fields.{Fields}
-use Rattle.plan.specs.Plan.{target, stateBy, inAlphabet, supervisorMove, supervisorAfter, counts, counting}
+use Rattle.plan.specs.Plan.{field4, target, stateBy, inAlphabet, shown, supervisorMove, supervisorAfter, counts, counting}
 use Rattle.plan.specs.Fields.{fieldsOf, FieldsFound}
 
 module _ {x y : Found} (p : y ≡ x) where
@@ -22,10 +34,6 @@ module _ {x y : Found} (p : y ≡ x) where
   unfolding fieldOf
   fields-none {f} q e =
       subst (λ (z : Found). FieldsFound z f) (sym q ∙ p) (subst (FieldsFound Missing) (sym e) (record { first = refl; second = refl; third = refl; fourth = refl; word = refl }))
-
-  pub target-none : y ≡ Missing → none ≡ target x
-  unfolding target
-  target-none q = ap target (sym q ∙ p)
 
   pub step-none : y ≡ Missing → Missing ≡ counting x
   unfolding counting
@@ -36,10 +44,6 @@ module _ {x y : Found} (p : y ≡ x) where
     unfolding fieldOf
     fields-it =
         subst (λ (z : Found). FieldsFound z f) (sym q ∙ p) (subst (FieldsFound (It r)) (sym e) (record { first = refl; second = refl; third = refl; fourth = refl; word = refl }))
-
-    pub target-it : some (f .fourth) ≡ target x
-    unfolding target
-    target-it = ap (λ (g : Fields). some (g .fourth)) e ∙ ap target (sym q ∙ p)
 
     module _ {t : Bool} (i : t ≡ inRange r) where
       tested : (t && (not (eqb (f .third) 5) || ltb (f .word) 64)) ≡ counts r
@@ -53,21 +57,44 @@ module _ {x y : Found} (p : y ≡ x) where
       unfolding counting
       step-out h = ap (λ (b : Bool). cond b (It r) Missing) (sym h ∙ tested) ∙ ap counting (sym q ∙ p)
 
+-- what stands at the place that a look-up leads to
+module _ (s : List ℕ) (p : Places) {a : ℕ} where
+  pub shown-none : (v st : ℕ) → a ≡ spotOf s p (keyBy 0x16 v st 0) → a ≡ 0 → 0 ≡ shown (recordsBy s p) v st
+  unfolding fieldOf
+  shown-none v st e z = ap (fieldOf wordField) (look-missing s p (keyBy 0x16 v st 0) e z)
+
+  pub shown-it : (v st : ℕ) {w : ℕ} → a ≡ spotOf s p (keyBy 0x16 v st 0) → (a ≡ 0 → ⊥) → w ≡ wordAt s (a + 2) → w ≡ shown (recordsBy s p) v st
+  unfolding fieldOf wordField recordOf
+  shown-it v st e z f = f ∙ sym (word-drop a s 2) ∙ ap (fieldOf wordField) (look-it s p (keyBy 0x16 v st 0) e z refl)
+
+  module _ (k o f e : ℕ) (m : isMove k ≡ true) (g : a ≡ spotOf s p (keyBy k o f e)) where
+    pub target-none : a ≡ 0 → none ≡ target (findIn (keyBy k o f e) (recordsBy s p))
+    unfolding target
+    target-none z = ap target (look-missing s p (keyBy k o f e) g z)
+
+    pub target-it : {t : ℕ} → (a ≡ 0 → ⊥) → t ≡ getD s (a + 3) 0 → some t ≡ target (findIn (keyBy k o f e) (recordsBy s p))
+    unfolding target field4 recordOf
+    target-it z h = ap some (h ∙ sym (fourth k m)) ∙ ap target (look-it s p (keyBy k o f e) g z refl)
+      where
+        fourth : (j : ℕ) → isMove j ≡ true → field4 (recordOf j (drop a s)) ≡ getD s (a + 3) 0
+        fourth j n = of-moves (λ (i : ℕ). field4 (recordOf i (drop a s)) ≡ getD s (a + 3) 0) j n (simp getD-drop) (simp getD-drop)
+
+-- a supervisor's move
+module _ (st : ℕ) {o : Option ℕ} {y : Maybe} (m : optionOf y ≡ o) where
+  pub move-stays : y ≡ Nothing → st ≡ stateBy o st
+  unfolding stateBy
+  move-stays q = ap (λ (x : Option ℕ). stateBy x st) (ap optionOf (sym q) ∙ m)
+
+  pub move-leads : {t : ℕ} → y ≡ Just t → t ≡ stateBy o st
+  unfolding stateBy
+  move-leads q = ap (λ (x : Option ℕ). stateBy x st) (ap optionOf (sym q) ∙ m)
+
 -- a supervisor after an event
 module _ (rs : List Record) (v st e : ℕ) {b : Bool} (a : b ≡ inAlphabet rs v e) where
   pub after-outside : b ≡ false → st ≡ supervisorAfter rs v st e
   unfolding supervisorAfter
   after-outside h = ap (λ (z : Bool). cond z (stateBy (supervisorMove rs v st e) st) st) (sym h ∙ a)
 
-  module _ (h : b ≡ true) where
-    inside : {o : Option ℕ} → o ≡ supervisorMove rs v st e → stateBy o st ≡ supervisorAfter rs v st e
-    unfolding supervisorAfter
-    inside m = ap (λ (o : Option ℕ). stateBy o st) m ∙ ap (λ (z : Bool). cond z (stateBy (supervisorMove rs v st e) st) st) (sym h ∙ a)
-
-    pub after-stays : {y : Maybe} → optionOf y ≡ supervisorMove rs v st e → y ≡ Nothing → st ≡ supervisorAfter rs v st e
-    unfolding stateBy
-    after-stays m q = inside (ap optionOf (sym q) ∙ m)
-
-    pub after-moves : {y : Maybe} {t : ℕ} → optionOf y ≡ supervisorMove rs v st e → y ≡ Just t → t ≡ supervisorAfter rs v st e
-    unfolding stateBy
-    after-moves m q = inside (ap optionOf (sym q) ∙ m)
+  pub after-inside : {t : ℕ} → b ≡ true → t ≡ stateBy (supervisorMove rs v st e) st → t ≡ supervisorAfter rs v st e
+  unfolding supervisorAfter
+  after-inside h m = m ∙ ap (λ (z : Bool). cond z (stateBy (supervisorMove rs v st e) st) st) (sym h ∙ a)

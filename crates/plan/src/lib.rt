@@ -1,11 +1,13 @@
 // Look-ups on a plan: specs/Plan.antt. They take any bytes and any places, and go by the record that is found there.
 ghost use mathlib.Core.Path.{_≡_};
+ghost use mathlib.Core.Bool.{true};
 ghost use Rattle.bits.specs.Bit.{optionOf};
 ghost use Rattle.places.specs.Places.{recordsBy};
+ghost use Rattle.places.specs.Runs.{isMove};
 ghost use Rattle.records.specs.Key.{keyBy};
 ghost use Rattle.reader.specs.Find.{findIn};
 ghost use Rattle.rules.specs.LookUp.{modulesOf, supervisorsOf, eventsOf, moduleState, supervisorState, ownerOf, controllable, alphabetOf};
-ghost use Rattle.plan.specs.Plan.{target, moduleInitial, supervisorInitial, ownEvent, ownUncontrollable, inAlphabet, shown, moduleMove, supervisorAfter, stepIn};
+ghost use Rattle.plan.specs.Plan.{target, stateBy, moduleInitial, supervisorInitial, ownEvent, ownUncontrollable, inAlphabet, shown, moduleMove, supervisorMove, supervisorAfter, stepIn};
 ghost use Rattle.plan.specs.Fields.{fieldsOf, FieldsFound};
 use bits::Maybe;
 use places::Places;
@@ -86,28 +88,7 @@ pub fn fields_of(r: Record) -> Fields
     }
 }
 
-fn find(image: &[u8], places: Places, kind: u8, first: u8, second: u8, third: u8) -> Found
-    ensures { λ f. ⌜ f ≡ findIn (keyBy kind first second third) (recordsBy (now (image .entry)) places) ⌝ }
-{
-    let key = RecordKey {
-        kind,
-        first,
-        second,
-        third,
-    };
-    places::look(image, places, key)
-}
-
-fn fields_at(image: &[u8], places: Places, kind: u8, first: u8, second: u8) -> Fields
-    ensures { λ f. ⌜ FieldsFound (findIn (keyBy kind first second 0) (recordsBy (now (image .entry)) places)) f ⌝ }
-{
-    let Found::It(r) = find(image, places, kind, first, second, 0) else {
-        return fields_by(0, 0, 0, 0, 0);
-    };
-    fields_of(r)
-}
-
-// The same of the head, an event, a module or a supervisor.
+// The fields of the head, an event, a module or a supervisor.
 fn numbered_fields(image: &[u8], places: Places, kind: u8, first: u8) -> Fields
     ensures { λ f. ⌜ FieldsFound (findIn (keyBy kind first 0 0) (recordsBy (now (image .entry)) places)) f ⌝ }
 {
@@ -200,22 +181,41 @@ pub fn in_alphabet(image: &[u8], places: Places, v: u8, e: u8) -> bool
     bits::has(alphabet_of(image, places, v), e)
 }
 
-// The mask that a supervisor shows in a state.
+// The mask that a supervisor shows in a state, which stands behind the two numbers of its record.
 pub fn shown(image: &[u8], places: Places, v: u8, st: u8) -> u64
     ensures { λ r. ⌜ r ≡ shown (recordsBy (now (image .entry)) places) v st ⌝ }
 {
-    fields_at(image, places, 0x16, v, st).word
+    let key = RecordKey {
+        kind: 0x16,
+        first: v,
+        second: st,
+        third: 0,
+    };
+    let at = places::seek(image, places, key);
+    if at == 0 {
+        0
+    } else {
+        words::word_at(image, at + 2)
+    }
 }
 
-// Where a listed move of a kind leads.
+// Where a listed move of a kind leads: the state behind the three numbers of its record.
 fn target_of(image: &[u8], places: Places, kind: u8, owner: u8, from: u8, event: u8) -> Maybe
+    requires { ⌜ isMove kind ≡ true ⌝ }
     ensures { λ r. ⌜ optionOf r ≡ target (findIn (keyBy kind owner from event) (recordsBy (now (image .entry)) places)) ⌝ }
 {
-    let Found::It(r) = find(image, places, kind, owner, from, event) else {
-        return Maybe::Nothing;
+    let key = RecordKey {
+        kind,
+        first: owner,
+        second: from,
+        third: event,
     };
-    let f = fields_of(r);
-    Maybe::Just(f.fourth)
+    let at = places::seek(image, places, key);
+    if at == 0 {
+        Maybe::Nothing
+    } else {
+        Maybe::Just(words::byte_at(image, at + 3))
+    }
 }
 
 pub fn module_move(image: &[u8], places: Places, m: u8, st: u8, e: u8) -> Maybe
@@ -224,15 +224,22 @@ pub fn module_move(image: &[u8], places: Places, m: u8, st: u8, e: u8) -> Maybe
     target_of(image, places, 0x13, m, st, e)
 }
 
+// Where a supervisor's listed move leads; without one it stays.
+pub fn supervisor_move(image: &[u8], places: Places, v: u8, st: u8, e: u8) -> u8
+    ensures { λ r. ⌜ r ≡ stateBy (supervisorMove (recordsBy (now (image .entry)) places) v st e) st ⌝ }
+{
+    let Maybe::Just(t) = target_of(image, places, 0x15, v, st, e) else {
+        return st;
+    };
+    t
+}
+
 // A supervisor's state after an event.
 pub fn supervisor_after(image: &[u8], places: Places, v: u8, st: u8, e: u8) -> u8
     ensures { λ r. ⌜ r ≡ supervisorAfter (recordsBy (now (image .entry)) places) v st e ⌝ }
 {
     if in_alphabet(image, places, v, e) {
-        let Maybe::Just(t) = target_of(image, places, 0x15, v, st, e) else {
-            return st;
-        };
-        t
+        supervisor_move(image, places, v, st, e)
     } else {
         st
     }
@@ -242,7 +249,13 @@ pub fn supervisor_after(image: &[u8], places: Places, v: u8, st: u8, e: u8) -> u
 pub fn step(image: &[u8], places: Places, e: u8, i: u8) -> Found
     ensures { λ r. ⌜ r ≡ stepIn (recordsBy (now (image .entry)) places) e i ⌝ }
 {
-    let Found::It(r) = find(image, places, 0x17, e, i, 0) else {
+    let key = RecordKey {
+        kind: 0x17,
+        first: e,
+        second: i,
+        third: 0,
+    };
+    let Found::It(r) = places::look(image, places, key) else {
         return Found::Missing;
     };
     let f = fields_of(r);

@@ -1,10 +1,10 @@
-use borrow.Author.Needs.{needs}
 use Rattle.plan.proofs.Answers.{step-none, step-it, step-out}
+use borrow.Author.Needs.{needs}
 use Rattle.plan.proofs.step.Statement.{statement}
 use Rattle.plan.proofs.step.Tie as tie
 
-find-requires : tie.Need-find-requires
-find-requires c κs = search needs
+look-requires : tie.Need-look-requires
+look-requires c κs = search needs
 
 enum-known-r : tie.Need-enum-known-r
 enum-known-r c = search needs
@@ -31,7 +31,7 @@ pub step-spec : {M : Type 1} → statement M
 step-spec =
     tie.close
     (tie.spec
-    find-requires
+    look-requires
     enum-known-r
     enum-told
     returns

@@ -1,26 +1,24 @@
-use borrow.Author.Needs.{needs}
+use native.Mathlib.Omega.{arith}
+use Rattle.places.proofs.Spots.{spot-within}
 use Rattle.plan.proofs.Answers.{target-none, target-it}
+use borrow.Author.Needs.{needs}
 use Rattle.plan.proofs.target_of.Statement.{statement}
 use Rattle.plan.proofs.target_of.Tie as tie
 
-find-requires : tie.Need-find-requires
-find-requires c κs = search needs
+seek-requires : tie.Need-seek-requires
+seek-requires c κs = search needs
 
-enum-known-r : tie.Need-enum-known-r
-enum-known-r c = search needs
+add-byte-at : tie.Need-add-byte-at
+add-byte-at c = omega (arith, spot-within _ _ _ (c .before .seek .ensures))
 
-enum-told : tie.Need-enum-told
-enum-told c = search needs
+byte-at-requires : tie.Need-byte-at-requires
+byte-at-requires c κs = search needs
 
 returns : tie.Need-returns
 returns c = search target-none
-
-fields-of-requires : tie.Need-fields-of-requires
-fields-of-requires c κs = search needs
 
 returns-2 : tie.Need-returns-2
 returns-2 c = search target-it
 
 pub target-of-spec : {M : Type 1} → statement M
-target-of-spec =
-    tie.close (tie.spec find-requires enum-known-r enum-told returns fields-of-requires returns-2)
+target-of-spec = tie.close (tie.spec seek-requires add-byte-at byte-at-requires returns returns-2)
