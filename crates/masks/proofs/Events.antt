@@ -1,25 +1,24 @@
 -- Masks made bit by bit from below, and what their bits mean.
 use mathlib.Core.Path.{_≡_, refl, sym, ap, ap₂, _∙_, subst}
 use mathlib.Core.List.{List}
-use mathlib.Core.Option.{Option}
 use mathlib.Core.Bool.{Bool, true, false, cond, not, _&&_}
-use Prim.Native.Nat.{ℕ, zero, suc, _+_, _-_, _^_, _≤_, _<_}
+use Prim.Native.Nat.{ℕ, zero, suc, _+_, _-_, _/_, _^_, _≤_, _<_}
 use native.Mathlib.Numerals.{add-one}
 use native.Mathlib.Omega.{arith}
 use lib.Dec.{eqb, ltb}
 use lib.Bits.{bitAnd, bitOr}
 use borrow.Author.Tests.{lt-ltb, le-ltb}
-use Rattle.bits.specs.Bit.{maskOf, isSome, optionOf}
-use Rattle.bits.specs.declared.Maybe.{Maybe}
-use Rattle.bits.specs.declared.Maybe.the-variants.{Just, Nothing}
-use Rattle.bits.proofs.Mask.{mask-small, common-is}
+use Rattle.bits.specs.Bit.{bit, maskOf, isSome}
+use Rattle.bits.proofs.Laws.{bit-above, shr-none}
+use Rattle.bits.proofs.Mask.{mask-bit, mask-small, common-is}
+use Rattle.records.specs.Key.{keyBy}
 use Rattle.records.specs.declared.Record.{Record}
+use Rattle.reader.specs.Find.{findIn, found}
 use Rattle.reader.specs.declared.Found.{Found}
-use Rattle.places.specs.declared.Places.{Places}
-use Rattle.places.specs.Places.{countOf, numbered, recordsBy}
-use Rattle.places.proofs.Finding.{number-missing}
-use Rattle.rules.specs.LookUp.{field3, fieldOf, eventsOf, supervisorsOf, ownerOf, controllable, alphabetOf}
-use Rattle.plan.specs.Plan.{moduleMove, hasCommand, commands, ownEvent, neighbour, neighbours}
+use Rattle.reader.specs.declared.Found.the-variants.{It, Missing}
+use Rattle.places.specs.Places.{movesOf}
+use Rattle.rules.specs.LookUp.{eventsOf, supervisorsOf, ownerOf, controllable, alphabetOf}
+use Rattle.plan.specs.Plan.{target, moduleMove, hasCommand, commands, ownEvent, neighbour, neighbours}
 
 -- ---- a mask from below
 
@@ -29,51 +28,66 @@ unfolding maskOf
 one-bit p v e f g = g ∙ ap₂ (λ (b : Bool) (x : ℕ). cond b (bitOr x (2 ^ v)) x) f e ∙ sym (ap (maskOf p) (add-one v))
 
 -- numbers that do not pass the test add nothing
-no-bits : (p : ℕ → Bool) (v k : ℕ) → ((j : ℕ) → v ≤ j → p j ≡ false) → maskOf p (k + v) ≡ maskOf p v
+no-bits : (p : ℕ → Bool) (v k : ℕ) → ((j : ℕ) → v ≤ j → j < k + v → p j ≡ false) → maskOf p (k + v) ≡ maskOf p v
 unfolding maskOf
 no-bits p v zero f = ap (maskOf p) (let q : 0 + v ≡ v = omega arith in q)
 no-bits p v (suc k) f =
     ap (maskOf p) (let q : suc k + v ≡ suc (k + v) = omega arith in q)
-    ∙ ap (λ (b : Bool). cond b (bitOr (maskOf p (k + v)) (2 ^ (k + v))) (maskOf p (k + v))) (f (k + v) (let q : v ≤ k + v = omega arith in q))
-    ∙ no-bits p v k f
+    ∙ ap (λ (b : Bool). cond b (bitOr (maskOf p (k + v)) (2 ^ (k + v))) (maskOf p (k + v))) (f (k + v) (omega arith) (omega arith))
+    ∙ no-bits p v k (λ j l h. f j l (omega arith))
 
 module _ (p : ℕ → Bool) (n v : ℕ) {x : ℕ} (e : x ≡ maskOf p v) (h : v ≤ n) where
   pub all-bits : n ≤ v → x ≡ maskOf p n
   all-bits l = e ∙ ap (maskOf p) (let q : v ≡ n = omega arith in q)
 
-  pub rest-bits : ((j : ℕ) → v ≤ j → p j ≡ false) → x ≡ maskOf p n
-  rest-bits f = e ∙ sym (no-bits p v (n - v) f) ∙ ap (maskOf p) (let q : n - v + v ≡ n = omega arith in q)
+  pub rest-bits : ((j : ℕ) → v ≤ j → j < n → p j ≡ false) → x ≡ maskOf p n
+  rest-bits f = e ∙ sym (no-bits p v (n - v) (λ j l g. f j l (omega arith))) ∙ ap (maskOf p) (let q : n - v + v ≡ n = omega arith in q)
 
 -- what stands past a count
-past-count : (b : ℕ → Bool) (n v : ℕ) → n ≤ v → (j : ℕ) → v ≤ j → (ltb j n && b j) ≡ false
-past-count b n v h j l = ap (λ (t : Bool). t && b j) (le-ltb j n (let q : n ≤ j = omega arith in q))
+past-count : (b : ℕ → Bool) (n v k : ℕ) → n ≤ v → (j : ℕ) → v ≤ j → j < k → (ltb j n && b j) ≡ false
+past-count b n v k h j l g = ap (λ (t : Bool). t && b j) (le-ltb j n (let q : n ≤ j = omega arith in q))
 
 within-count : (b : ℕ → Bool) (n v : ℕ) → v < n → b v ≡ (ltb v n && b v)
 within-count b n v h = sym (ap (λ (t : Bool). t && b v) (lt-ltb v n h))
 
 -- ---- commands
 
-module _ (rs : List Record) (m st e : ℕ) {c : Bool} (f : c ≡ controllable rs e) where
-  pub command-outside : c ≡ false → false ≡ hasCommand rs m st e
-  command-outside q = ap (λ (t : Bool). t && isSome (moduleMove rs m st e)) (sym q ∙ f)
+found-target : (x : Found) → found x ≡ isSome (target x)
+unfolding found target
+found-target (It r) = refl
+found-target Missing = refl
 
-  module _ (q : c ≡ true) (y : Maybe) (g : optionOf y ≡ moduleMove rs m st e) where
-    command-by : isSome (optionOf y) ≡ hasCommand rs m st e
-    command-by = ap₂ (λ (t : Bool) (o : Option ℕ). t && isSome o) (sym q ∙ f) g
+swapped : (a b : Bool) → (a && b) ≡ (b && a)
+swapped true true = refl
+swapped true false = refl
+swapped false true = refl
+swapped false false = refl
 
-    pub command-none : y ≡ Nothing → false ≡ hasCommand rs m st e
-    command-none h = ap (λ (z : Maybe). isSome (optionOf z)) (sym h) ∙ command-by
+-- a test of which the second part is asked for only where the first is passed
+module _ {a x : Bool} (e : a ≡ x) (y : Bool) where
+  pub second-asked : {b : Bool} → a ≡ true → b ≡ y → b ≡ (x && y)
+  second-asked f g = g ∙ ap (λ (t : Bool). t && y) (sym f ∙ e)
 
-    pub command-there : {t : ℕ} → y ≡ Just t → true ≡ hasCommand rs m st e
-    command-there h = ap (λ (z : Maybe). isSome (optionOf z)) (sym h) ∙ command-by
+  pub second-spared : a ≡ false → false ≡ (x && y)
+  second-spared f = ap (λ (t : Bool). t && y) (sym f ∙ e)
 
--- none past the count of events
-pub commands-end : (s : List ℕ) (p : Places) (m st e : ℕ) {n w x : ℕ} → n ≡ countOf s p 0x11 → w ≡ e → n ≤ w → e ≤ 64 → x ≡ maskOf (hasCommand (recordsBy s p) m st) e
-    → x ≡ commands (recordsBy s p) m st
-unfolding fieldOf numbered
-commands-end s p m st e c q l h f =
-    rest-bits (hasCommand (recordsBy s p) m st) 64 e f h
-    (λ j k. ap (λ (y : Found). eqb (fieldOf field3 y) 1 && isSome (moduleMove (recordsBy s p) m st j)) (number-missing s p 0x11 j refl (let r : countOf s p 0x11 ≤ j = omega arith in r)))
+-- the moves of a module's state are bits of a mask
+module _ (rs : List Record) (m st : ℕ) {k : ℕ} (f : k ≡ movesOf rs m st) where
+  move-bit : (e : ℕ) → e < 64 → bit k e ≡ isSome (moduleMove rs m st e)
+  move-bit e l =
+      ap (λ (x : ℕ). bit x e) f ∙ mask-bit (λ j. found (findIn (keyBy 0x13 m st j) rs)) 64 e ∙ ap (λ (b : Bool). b && found (findIn (keyBy 0x13 m st e) rs)) (lt-ltb e 64 l)
+      ∙ found-target (findIn (keyBy 0x13 m st e) rs)
+
+  pub command-bit : (e : ℕ) {x y : ℕ} {b : Bool} → x ≡ maskOf (hasCommand rs m st) e → e < 64 → b ≡ (bit k e && controllable rs e)
+      → y ≡ cond b (bitOr x (2 ^ e)) x → y ≡ maskOf (hasCommand rs m st) (e + 1)
+  command-bit e q l g h =
+      one-bit (hasCommand rs m st) e q (g ∙ swapped (bit k e) (controllable rs e) ∙ ap (λ (t : Bool). controllable rs e && t) (move-bit e l)) h
+
+  -- none past the last move
+  pub commands-end : (e : ℕ) {x : ℕ} → k / 2 ^ e ≡ 0 → e ≤ 64 → x ≡ maskOf (hasCommand rs m st) e → x ≡ commands rs m st
+  commands-end e z h g =
+      rest-bits (hasCommand rs m st) 64 e g h
+      (λ j l v. ap (λ (t : Bool). controllable rs j && t) (sym (move-bit j v) ∙ bit-above e k j (shr-none k e z) l) ∙ swapped (controllable rs j) false)
 
 -- ---- a module's events
 
@@ -84,7 +98,7 @@ module _ (rs : List Record) (m e : ℕ) {n x : ℕ} (k : n ≡ eventsOf rs) (f :
       (ap (λ (z : ℕ). eqb z m) g ∙ within-count (λ j. eqb (ownerOf rs j) m) (eventsOf rs) e (subst (λ (z : ℕ). e < z) k h)) q
 
   pub own-rest : e ≤ 64 → n ≤ e → x ≡ maskOf (ownEvent rs m) 64
-  own-rest l h = rest-bits (ownEvent rs m) 64 e f l (past-count (λ j. eqb (ownerOf rs j) m) (eventsOf rs) e (subst (λ (z : ℕ). z ≤ e) k h))
+  own-rest l h = rest-bits (ownEvent rs m) 64 e f l (past-count (λ j. eqb (ownerOf rs j) m) (eventsOf rs) e 64 (subst (λ (z : ℕ). z ≤ e) k h))
 
 -- ---- neighbours
 
@@ -102,7 +116,7 @@ module _ (rs : List Record) (m v : ℕ) {n x : ℕ} (k : n ≡ supervisorsOf rs)
       one-bit (isNeighbour rs m) v f (g ∙ within-count (neighbour rs m) (supervisorsOf rs) v (subst (λ (z : ℕ). v < z) k h)) q
 
   pub neighbour-rest : v ≤ 32 → n ≤ v → x ≡ neighbours rs m
-  neighbour-rest l h = rest-bits (isNeighbour rs m) 32 v f l (past-count (neighbour rs m) (supervisorsOf rs) v (subst (λ (z : ℕ). z ≤ v) k h))
+  neighbour-rest l h = rest-bits (isNeighbour rs m) 32 v f l (past-count (neighbour rs m) (supervisorsOf rs) v 32 (subst (λ (z : ℕ). z ≤ v) k h))
 
 pub small-mask : (p : ℕ → Bool) (v : ℕ) {x : ℕ} → x ≡ maskOf p v → v ≤ 32 → x < 2 ^ 32
 small-mask p v f l = subst (λ (z : ℕ). z < 2 ^ 32) (sym f) (mask-small p v 32 l)

@@ -2,14 +2,13 @@
 ghost use mathlib.Core.Path.{_≡_};
 ghost use Prim.Native.Nat.{ℕ, _<_, _^_};
 ghost use mathlib.Core.List.{List};
-ghost use mathlib.Core.Bool.{cond};
+ghost use mathlib.Core.Bool.{cond, _&&_};
 ghost use lib.Bits.{bitOr};
-ghost use Rattle.bits.specs.Bit.{maskOf};
+ghost use Rattle.bits.specs.Bit.{bit, maskOf};
 ghost use Rattle.records.specs.declared.Record.{Record};
 ghost use Rattle.places.specs.Places.{recordsBy};
-ghost use Rattle.rules.specs.LookUp.{alphabetOf};
-ghost use Rattle.plan.specs.Plan.{hasCommand, commands, ownEvent, neighbour, neighbours};
-use bits::Maybe;
+ghost use Rattle.rules.specs.LookUp.{controllable, alphabetOf};
+ghost use Rattle.plan.specs.Plan.{commands, ownEvent, neighbour, neighbours};
 use places::Places;
 
 // The mask with bit v, if it is to have it.
@@ -20,32 +19,30 @@ fn with_bit(mask: u64, v: u8, on: bool) -> u64
     if on { mask | (1u64 << v) } else { mask }
 }
 
-// Whether an event is a controllable one that has a move from a module's state.
-fn has_command(image: &[u8], places: Places, m: u8, st: u8, e: u8) -> bool
-    ensures { λ r. ⌜ r ≡ hasCommand (recordsBy (now (image .entry)) places) m st e ⌝ }
+// Whether an event is one of a mask and controllable.
+fn is_command(image: &[u8], places: Places, moves: u64, e: u8) -> bool
+    ensures { λ r. ⌜ r ≡ (bit moves e && controllable (recordsBy (now (image .entry)) places) e) ⌝ }
 {
-    if plan::controllable(image, places, e) {
-        let Maybe::Just(_) = plan::module_move(image, places, m, st, e) else {
-            return false;
-        };
-        true
+    if bits::has(moves, e) {
+        plan::controllable(image, places, e)
     } else {
         false
     }
 }
 
-// The controllable events that have a move from a module's state. No event is found past the events' count.
+// The controllable events that have a move from a module's state.
 pub fn commands(image: &[u8], places: Places, m: u8, st: u8) -> u64
     ensures { λ r. ⌜ r ≡ commands (recordsBy (now (image .entry)) places) m st ⌝ }
 {
-    let n = places::count(image, places, 0x11);
+    let moves = places::moves_of(image, places, m, st);
     let mut mask: u64 = 0;
     let mut e: u8 = 0;
     while e < 64 {
-        if n <= words::wide(e) {
+        // Past the last that has a move nothing is left to ask.
+        if moves >> e == 0 {
             return mask;
         }
-        mask = with_bit(mask, e, has_command(image, places, m, st, e));
+        mask = with_bit(mask, e, is_command(image, places, moves, e));
         e += 1;
     }
     mask
