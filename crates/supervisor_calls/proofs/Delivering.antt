@@ -20,7 +20,7 @@ use Rattle.checker.specs.declared.Examined.{Examined}
 use Rattle.checker.specs.declared.Examined.the-variants.{Accepted, Refused}
 use Rattle.checker.proofs.Examining.{accepted-by, records-by, call-by, refused-call}
 use Rattle.accepted.proofs.Accepted.{every-plan}
-use Rattle.plan.specs.Plan.{inAlphabet, ownEvent, neighbour, supervisorAfter}
+use Rattle.plan.specs.Plan.{stateBy, neighbour, supervisorMove}
 use Rattle.modules.specs.declared.Called.the-variants.{Done}
 use Rattle.messages.specs.Message.{noEvent, parse}
 use Rattle.messages.specs.declared.Message.{Message}
@@ -52,15 +52,6 @@ bidder-small rs g {m} {w} p n e =
     let t : T (ltb m (modulesOf rs) && ltb w (supervisorsOf rs) && neighbour rs m w) = holds _ (ap (named rs) (sym e) ∙ n) in
     let l : m < modulesOf rs = ltb-true m (modulesOf rs) (is-true _ (and-l (ltb m (modulesOf rs)) (ltb w (supervisorsOf rs)) (and-l (ltb m (modulesOf rs) && ltb w (supervisorsOf rs)) (neighbour rs m w) t))) in
     omega arith
-
--- the event of a release is none or in the alphabet of the supervisor that it names
-pub released-event : (rs : List Record) (g : Message) {m w e : ℕ} → named rs g ≡ true → g ≡ Release m w e → (eqb e noEvent || inAlphabet rs w e) ≡ true
-unfolding named
-released-event rs g {m} {w} {e} n f = go (eqb e noEvent) (and-r (neighbours? rs m w) (eqb e noEvent || eventNamed rs m w e) (holds _ (ap (named rs) (sym f) ∙ n)))
-  where
-    go : (b : Bool) → T (b || eventNamed rs m w e) → (b || inAlphabet rs w e) ≡ true
-    go true t = is-true _ t
-    go false t = is-true _ (and-r (ownEvent rs m e) (inAlphabet rs w e) t)
 
 -- the holder of a state that fits is a neighbour
 holder-near : (rs : List Record) (v : ℕ) (y : Supervisor) (m : ℕ) → supervisorFits rs v y ≡ true → heldBy (y .holder) m ≡ true → neighbours? rs m v ≡ true
@@ -103,12 +94,9 @@ module _ (rs : List Record) (v st e : ℕ) where
   unfolding applied
   applied-none h = simp (eq-eqb e 255 h)
 
-  pub applied-moves : {s : ℕ} → (e ≡ 255 → ⊥) → (eqb e noEvent || inAlphabet rs v e) ≡ true → s ≡ supervisorAfter rs v st e → s ≡ applied rs v st e
-  unfolding applied supervisorAfter
-  applied-moves h q f =
-      let n : eqb e 255 ≡ false = ne-eqb e 255 h in
-      let a : inAlphabet rs v e ≡ true = sym (ap (λ (b : Bool). b || inAlphabet rs v e) n) ∙ q in
-      f ∙ simp (n, a)
+  pub applied-moves : {s : ℕ} → (e ≡ 255 → ⊥) → s ≡ stateBy (supervisorMove rs v st e) st → s ≡ applied rs v st e
+  unfolding applied
+  applied-moves h f = f ∙ simp (ne-eqb e 255 h)
 
 pub held-arm : (h : Holder) (m : ℕ) {x : Holder} {t : Bool} → h ≡ x → t ≡ heldBy x m → t ≡ heldBy h m
 held-arm h m e f = f ∙ ap (λ (z : Holder). heldBy z m) (sym e)

@@ -1,12 +1,9 @@
 // The supervisor's calls on many devices but for its step: definitions in permits/specs/Supervisor.antt.
 ghost use mathlib.Core.Path.{_≡_};
-ghost use mathlib.Core.Bool.{true, cond, _||_};
+ghost use mathlib.Core.Bool.{true, cond};
 ghost use Prim.Native.Nat.{_≤_, _<_};
-ghost use lib.Dec.{eqb};
 ghost use Rattle.places.specs.Places.{recordsBy};
 ghost use Rattle.rules.specs.LookUp.{modulesOf};
-ghost use Rattle.plan.specs.Plan.{inAlphabet};
-ghost use Rattle.messages.specs.Message.{noEvent};
 ghost use Rattle.permits.specs.Names.{named};
 ghost use Rattle.permits.specs.Supervisor.{supervisorFits, afterNote, afterRelease, callRefused, applied, heldBy, takenBy, deliverIn, absent, supervisorDeliver, supervisorStart};
 use checker::Examined;
@@ -83,20 +80,18 @@ fn after_note(y: Supervisor, m: u8) -> Supervisor
     }
 }
 
-// The state after a release's event, which is none or in the alphabet.
+// The state after a release's event. One that is named is in the alphabet, so that it is not asked for again.
 fn apply(image: &[u8], places: Places, v: u8, st: u8, e: u8) -> u8
-    requires { ⌜ (eqb e noEvent || inAlphabet (recordsBy (now image) places) v e) ≡ true ⌝ }
     ensures { λ r. ⌜ r ≡ applied (recordsBy (now (image .entry)) places) v st e ⌝ }
 {
     if e == 255 {
         st
     } else {
-        plan::supervisor_after(image, places, v, st, e)
+        plan::supervisor_move(image, places, v, st, e)
     }
 }
 
 fn after_release(image: &[u8], places: Places, v: u8, y: Supervisor, e: u8) -> Supervisor
-    requires { ⌜ (eqb e noEvent || inAlphabet (recordsBy (now image) places) v e) ≡ true ⌝ }
     ensures { λ r. ⌜ r ≡ afterRelease (recordsBy (now (image .entry)) places) v y e ⌝ }
 {
     let holder = Holder::Home;

@@ -1,4 +1,4 @@
-use Rattle.supervisor_calls.proofs.Delivering.{bidder-small, released-event, bid-by, permit-by, release-by}
+use Rattle.supervisor_calls.proofs.Delivering.{bidder-small, bid-by, permit-by, release-by}
 use borrow.Author.Needs.{needs}
 use Rattle.supervisor_calls.proofs.take.Statement.{statement}
 use Rattle.supervisor_calls.proofs.take.Tie as tie
@@ -28,7 +28,7 @@ enum-known-g-2 : tie.Need-enum-known-g-2
 enum-known-g-2 c = search needs
 
 after-release-requires : tie.Need-after-release-requires
-after-release-requires c κs = search released-event
+after-release-requires c κs = search needs
 
 held-by-requires : tie.Need-held-by-requires
 held-by-requires c κs = search needs
