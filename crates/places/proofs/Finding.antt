@@ -7,7 +7,7 @@ use native.Mathlib.Nat.{zero-div, add-zero}
 use native.Mathlib.Omega.{arith}
 use lib.ListN.{length, drop, getD}
 use lib.Seq.{getD-drop}
-use lib.Dec.{T, T-not, leb, ltb, eqb, eqb→eq}
+use lib.Dec.{T, T-not, leb, eqb, eqb→eq}
 use lib.Ieee.Fits.{and-l, and-r}
 use borrow.Author.Tests.{eq-eqb, ne-eqb, eqb-true, eqb-false}
 use denote.Floats.{passes}

@@ -24,18 +24,18 @@ use Rattle.places.proofs.Spots.{found-is}
 
 -- b e i: the i-th of n records precedes the key of event e; m e i: it has this key, whose rank is base + e. The search for each begins at h.
 module _ (b m : ℕ → ℕ → Bool) (n h base : ℕ) where
-  abbrev pub endOf : ℕ → ℕ
-  endOf e = onward (b e) (n - h) h
+  abbrev pub reached : ℕ → ℕ
+  reached e = onward (b e) (n - h) h
 
   abbrev pub there : ℕ → Bool
-  there e = ltb (endOf e) n && m e (endOf e)
+  there e = ltb (reached e) n && m e (reached e)
 
   -- before the i-th: the events whose key is below the floor are decided, and the search for the others has come to i
   pub record Scanned (floor x i : ℕ) : Type 0 where
     pub small : x < 2 ^ 64
     pub low : base ≤ floor
     pub decided : (e : ℕ) → e < 64 → bit x e ≡ (ltb (base + e) floor && there e)
-    pub left : (e : ℕ) → e < 64 → floor ≤ base + e → onward (b e) (n - i) i ≡ endOf e
+    pub left : (e : ℕ) → e < 64 → floor ≤ base + e → onward (b e) (n - i) i ≡ reached e
 
   pub scan-start : Scanned base 0 h
   scan-start =
@@ -58,17 +58,17 @@ module _ (b m : ℕ → ℕ → Bool) (n h base : ℕ) where
     pub scan-end : n ≤ i → x ≡ maskOf there 64
     scan-end g =
         whole (λ e l f.
-          let u : i ≡ endOf e = goes-to-the-end (b e) n i (z .left e l f) g in
-          ap (λ (t : Bool). t && m e (endOf e)) (le-ltb (endOf e) n (omega arith)))
+        let u : i ≡ reached e = goes-to-the-end (b e) n i (z .left e l f) g in
+        ap (λ (t : Bool). t && m e (reached e)) (le-ltb (reached e) n (omega arith)))
 
     -- the i-th, of rank k
     module _ (l : i < n) {k : ℕ} (fb : (e : ℕ) → e < 64 → b e i ≡ ltb k (base + e)) (fm : (e : ℕ) → e < 64 → m e i ≡ eqb k (base + e)) where
       ended : (e : ℕ) → e < 64 → floor ≤ base + e → base + e ≤ k → there e ≡ eqb k (base + e)
       ended e g f q =
-          let u : i ≡ endOf e = goes-no-further (b e) n i (z .left e g f) l refl (fb e g ∙ le-ltb k (base + e) q) in
+          let u : i ≡ reached e = goes-no-further (b e) n i (z .left e g f) l refl (fb e g ∙ le-ltb k (base + e) q) in
           ap (λ (j : ℕ). ltb j n && m e j) (sym u) ∙ ap₂ _&&_ (lt-ltb i n l) (fm e g)
 
-      further : (e : ℕ) → e < 64 → floor ≤ base + e → k < base + e → onward (b e) (n - (i + 1)) (i + 1) ≡ endOf e
+      further : (e : ℕ) → e < 64 → floor ≤ base + e → k < base + e → onward (b e) (n - (i + 1)) (i + 1) ≡ reached e
       further e g f q = goes-on (b e) n i (z .left e g f) l refl (fb e g ∙ lt-ltb k (base + e) q)
 
       pub scan-stop : base + 255 < k → x ≡ maskOf there 64
