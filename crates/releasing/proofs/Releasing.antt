@@ -69,52 +69,52 @@ written-more p q b h =
     (ap₂ (λ (x y : List ℕ). x ++ q ++ y) (take-append-seam p (drop (length p) b)) (drop-append-add p (drop (length p) b) (length q) ∙ drop-drop (length q) (length p) b)
     ∙ ap (λ (n : ℕ). p ++ q ++ drop n b) (sym (length-append p q)))
 
-module _ (rs : List Record) (m adjacent : ℕ) (t : Turn) where
+module _ (rs : List Record) (m mask : ℕ) (t : Turn) where
   -- the releases to those below v, and the one to v
   abbrev pub sent : ℕ → List ℕ
-  sent v = bytesOfMessages (releasesIn rs m adjacent t v)
+  sent v = bytesOfMessages (releasesIn rs m mask t v)
 
   abbrev one : ℕ → List ℕ
   one v = messageBytes (Release m v (eventFor rs v t))
 
-  sent-next : (v : ℕ) → sent (suc v) ≡ sent v ++ cond (bit adjacent v) (one v) []
+  sent-next : (v : ℕ) → sent (suc v) ≡ sent v ++ cond (bit mask v) (one v) []
   unfolding releasesIn bytesOfMessages
   sent-next v =
-      bytes-append (releasesIn rs m adjacent t v) (cond (bit adjacent v) (Release m v (eventFor rs v t) ∷ []) [])
-      ∙ ap (λ (l : List ℕ). sent v ++ l) (go (bit adjacent v))
+      bytes-append (releasesIn rs m mask t v) (cond (bit mask v) (Release m v (eventFor rs v t) ∷ []) [])
+      ∙ ap (λ (l : List ℕ). sent v ++ l) (go (bit mask v))
     where
       go : (b : Bool) → bytesOfMessages (cond b (Release m v (eventFor rs v t) ∷ []) []) ≡ cond b (one v) []
       go true = append-nil (one v)
       go false = refl
 
   -- each is of 4 bytes
-  sent-length : (v : ℕ) → length (sent v) ≡ 4 * onesIn v adjacent
+  sent-length : (v : ℕ) → length (sent v) ≡ 4 * onesIn v mask
   sent-length zero = unfold releasesIn bytesOfMessages onesIn in refl
   sent-length (suc v) =
       ap length (sent-next v) ∙ length-append (sent v) (cond b (one v) []) ∙ ap₂ _+_ (sent-length v) (go b)
-      ∙ (let e : 4 * onesIn v adjacent + 4 * cond b 1 0 ≡ 4 * (onesIn v adjacent + cond b 1 0) = omega arith in e)
-      ∙ ap (λ (k : ℕ). 4 * k) (sym (ones-top v adjacent))
+      ∙ (let e : 4 * onesIn v mask + 4 * cond b 1 0 ≡ 4 * (onesIn v mask + cond b 1 0) = omega arith in e)
+      ∙ ap (λ (k : ℕ). 4 * k) (sym (ones-top v mask))
     where
       b : Bool
-      b = bit adjacent v
+      b = bit mask v
 
       go : (c : Bool) → length (cond c (one v) []) ≡ 4 * cond c 1 0
       go true = unfold messageBytes in refl
       go false = refl
 
-  pub sent-count : adjacent < 2 ^ 32 → length (sent 32) ≡ 4 * ones adjacent
-  sent-count h = sent-length 32 ∙ ap (λ (k : ℕ). 4 * k) (ones-in 32 adjacent h)
+  pub sent-count : mask < 2 ^ 32 → length (sent 32) ≡ 4 * ones mask
+  sent-count h = sent-length 32 ∙ ap (λ (k : ℕ). 4 * k) (ones-in 32 mask h)
 
   sent-le : (v k : ℕ) → v ≤ k → length (sent v) ≤ length (sent k)
   sent-le v k h =
       le-ind (λ (j : ℕ). length (sent v) ≤ length (sent j)) (omega arith)
-      (λ j l i. let e : length (sent (suc j)) ≡ length (sent j) + length (cond (bit adjacent j) (one j) []) = ap length (sent-next j) ∙ length-append (sent j) _ in omega arith) k h
+      (λ j l i. let e : length (sent (suc j)) ≡ length (sent j) + length (cond (bit mask j) (one j) []) = ap length (sent-next j) ∙ length-append (sent j) _ in omega arith) k h
 
   -- past the last of the mask there is none
-  sent-rest : (v k : ℕ) → v ≤ k → adjacent < 2 ^ v → sent k ≡ sent v
+  sent-rest : (v k : ℕ) → v ≤ k → mask < 2 ^ v → sent k ≡ sent v
   sent-rest v k h s =
       le-ind (λ (j : ℕ). sent j ≡ sent v) refl
-      (λ j l i. sent-next j ∙ ap (λ (b : Bool). sent j ++ cond b (one j) []) (bit-above v adjacent j s l) ∙ append-nil (sent j) ∙ i) k h
+      (λ j l i. sent-next j ∙ ap (λ (b : Bool). sent j ++ cond b (one j) []) (bit-above v mask j s l) ∙ append-nil (sent j) ∙ i) k h
 
   -- the loop of `release_all` at v: the releases below are written
   pub record Going (b₀ b : List ℕ) (at v : ℕ) : Type 0 where
@@ -133,14 +133,14 @@ module _ (rs : List Record) (m adjacent : ℕ) (t : Turn) where
     pub done-by : 32 ≤ v → b ≡ written (sent 32) b₀
     done-by h = g .bytes ∙ ap (λ (k : ℕ). written (sent k) b₀) (let e : v ≡ 32 = omega arith in e)
 
-    pub rest-by : adjacent / 2 ^ v ≡ 0 → b ≡ written (sent 32) b₀
+    pub rest-by : mask / 2 ^ v ≡ 0 → b ≡ written (sent 32) b₀
     rest-by z =
-        let w : adjacent / 2 ^ v < 1 = omega arith in
-        let u : adjacent < 1 * 2 ^ v = div-lt-iff-lt-mul (pow-pos v) .0 w in
+        let w : mask / 2 ^ v < 1 = omega arith in
+        let u : mask < 1 * 2 ^ v = div-lt-iff-lt-mul (pow-pos v) .0 w in
         g .bytes ∙ ap (λ (l : List ℕ). written l b₀) (sym (sent-rest v 32 (g .below) (omega arith)))
 
     -- a says whether the mask has v
-    module _ {a : Bool} (f : a ≡ bit adjacent v) (l : v < 32) where
+    module _ {a : Bool} (f : a ≡ bit mask v) (l : v < 32) where
       next : sent (v + 1) ≡ sent v ++ cond a (one v) []
       next = ap sent (add-one v) ∙ sent-next v ∙ ap (λ (c : Bool). sent v ++ cond c (one v) []) (sym f)
 
@@ -176,15 +176,15 @@ module _ (rs : List Record) (m adjacent : ℕ) (t : Turn) where
           }
 
 -- the room for all releases: n is 4 bytes for each
-module _ (rs : List Record) (m adjacent : ℕ) (t : Turn) (b : List ℕ) {n : ℕ} (s : adjacent < 2 ^ 32) (f : n ≡ 4 * ones adjacent) where
-  long : length (sent rs m adjacent t 32) ≡ n
-  long = sent-count rs m adjacent t s ∙ sym f
+module _ (rs : List Record) (m mask : ℕ) (t : Turn) (b : List ℕ) {n : ℕ} (s : mask < 2 ^ 32) (f : n ≡ 4 * ones mask) where
+  long : length (sent rs m mask t 32) ≡ n
+  long = sent-count rs m mask t s ∙ sym f
 
-  pub room-all : n ≤ length b → length (sent rs m adjacent t 32) ≤ length b
+  pub room-all : n ≤ length b → length (sent rs m mask t 32) ≤ length b
   room-all h = omega (arith, long)
 
-  pub released-none : length b < n → Released rs m adjacent t b false b
-  released-none h = record { answer = sym (ap not (lt-ltb (length b) (length (sent rs m adjacent t 32)) (omega (arith, long)))); buffer = refl }
+  pub released-none : length b < n → Released rs m mask t b false b
+  released-none h = record { answer = sym (ap not (lt-ltb (length b) (length (sent rs m mask t 32)) (omega (arith, long)))); buffer = refl }
 
-  pub released-all : {after : List ℕ} → n ≤ length b → after ≡ written (sent rs m adjacent t 32) b → Released rs m adjacent t b true after
-  released-all h g = record { answer = sym (ap not (le-ltb (length b) (length (sent rs m adjacent t 32)) (omega (arith, long)))); buffer = g }
+  pub released-all : {after : List ℕ} → n ≤ length b → after ≡ written (sent rs m mask t 32) b → Released rs m mask t b true after
+  released-all h g = record { answer = sym (ap not (le-ltb (length b) (length (sent rs m mask t 32)) (omega (arith, long)))); buffer = g }

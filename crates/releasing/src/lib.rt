@@ -40,19 +40,19 @@ fn release_to(image: &[u8], places: Places, m: u8, v: u8, t: Turn, buffer: &mut 
 }
 
 // The releases to all supervisors of a mask, in ascending order.
-fn release_all(image: &[u8], places: Places, m: u8, adjacent: u32, t: Turn, buffer: &mut [u8])
-    requires { ⌜ length (releaseBytes (recordsBy (now image) places) m adjacent t) ≤ length (now buffer) ⌝ }
-    ensures { λ r. ⌜ now (buffer .exit) ≡ written (releaseBytes (recordsBy (now (image .entry)) places) m adjacent t) (now (buffer .entry)) ⌝ }
+fn release_all(image: &[u8], places: Places, m: u8, mask: u32, t: Turn, buffer: &mut [u8])
+    requires { ⌜ length (releaseBytes (recordsBy (now image) places) m mask t) ≤ length (now buffer) ⌝ }
+    ensures { λ r. ⌜ now (buffer .exit) ≡ written (releaseBytes (recordsBy (now (image .entry)) places) m mask t) (now (buffer .entry)) ⌝ }
 {
-    let mask = adjacent as u64;
+    let wide = mask as u64;
     let mut at: usize = 0;
     let mut v: u8 = 0;
     while v < 32 {
         // Past the last of them nothing is left to write.
-        if mask >> v == 0 {
+        if wide >> v == 0 {
             return;
         }
-        if bits::has(mask, v) {
+        if bits::has(wide, v) {
             release_to(image, places, m, v, t, &mut *buffer, at);
             at += 4;
         }
@@ -61,27 +61,20 @@ fn release_all(image: &[u8], places: Places, m: u8, adjacent: u32, t: Turn, buff
 }
 
 // The bytes of the releases to the supervisors of a mask, 4 of each.
-pub fn length_of(adjacent: u32) -> usize
-    ensures { λ r. ⌜ r ≡ 4 * ones adjacent ⌝ }
+pub fn length_of(mask: u32) -> usize
+    ensures { λ r. ⌜ r ≡ 4 * ones mask ⌝ }
 {
-    4 * u32::count_ones(adjacent) as usize
+    4 * u32::count_ones(mask) as usize
 }
 
 // The releases of a module's turn to the supervisors of a mask into the buffer, if there is room for them.
-pub fn release(
-    image: &[u8],
-    places: Places,
-    m: u8,
-    adjacent: u32,
-    t: Turn,
-    buffer: &mut [u8],
-) -> bool
-    ensures { λ r. ⌜ Released (recordsBy (now (image .entry)) places) m adjacent t (now (buffer .entry)) r (now (buffer .exit)) ⌝ }
+pub fn release(image: &[u8], places: Places, m: u8, mask: u32, t: Turn, buffer: &mut [u8]) -> bool
+    ensures { λ r. ⌜ Released (recordsBy (now (image .entry)) places) m mask t (now (buffer .entry)) r (now (buffer .exit)) ⌝ }
 {
-    let n = length_of(adjacent);
+    let n = length_of(mask);
     if buffer.len() < n {
         return false;
     }
-    release_all(image, places, m, adjacent, t, &mut *buffer);
+    release_all(image, places, m, mask, t, &mut *buffer);
     true
 }

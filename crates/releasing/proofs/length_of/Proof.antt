@@ -5,10 +5,10 @@ use Rattle.releasing.proofs.length_of.Statement.{statement}
 use Rattle.releasing.proofs.length_of.Tie as tie
 
 cast-result : tie.Need-cast-result
-cast-result c = omega (arith, ones-le 32 (c .args .adjacent) (search needs))
+cast-result c = omega (arith, ones-le 32 (c .args .mask) (search needs))
 
 mul-result : tie.Need-mul-result
-mul-result c = omega (arith, ones-le 32 (c .args .adjacent) (search needs))
+mul-result c = omega (arith, ones-le 32 (c .args .mask) (search needs))
 
 returns : tie.Need-returns
 returns c = search needs
