@@ -13,6 +13,7 @@ use borrow.Author.Tests.{eq-eqb, ne-eqb, le-leb, lt-leb, le-ltb, lt-ltb, ltb-tru
 use Rattle.bits.specs.Bit.{allBelow}
 use Rattle.bits.proofs.Laws.{all-at, all-of}
 use Rattle.records.specs.declared.Record.{Record}
+use Rattle.words.specs.Word.{allZero}
 use Rattle.messages.specs.Message.{putAt}
 use Rattle.messages.proofs.Writing.{put-sets}
 use Rattle.modules.specs.declared.Own.{Own}
@@ -22,7 +23,6 @@ use Rattle.plan.specs.Lists.{listFrom}
 use Rattle.device_states.specs.declared.Device.{Device}
 use Rattle.device_states.specs.States.{ownAt}
 use Rattle.device_states.proofs.Slots.{all-on, one-fails, filled, fill-on, fill-done, from-length, from-at}
-use Rattle.fields.specs.Fields.{allZero}
 use Rattle.fields.proofs.Writing.{join}
 use Rattle.own_bytes.specs.Own.{ownBytes, ownRead, ownStands}
 use Rattle.own_bytes.proofs.Writing.{length-own}

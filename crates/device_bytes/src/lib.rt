@@ -5,11 +5,11 @@ ghost use Prim.Native.Nat.{_+_, _-_, _*_, _≤_, _<_};
 ghost use lib.ListN.{length, take, drop};
 ghost use lib.Seq.{sets};
 ghost use Rattle.bits.specs.Bit.{allBelow};
+ghost use Rattle.words.specs.Word.{allZero};
 ghost use Rattle.places.specs.Places.{recordsBy};
 ghost use Rattle.modules.specs.Fits.{ownEmpty};
 ghost use Rattle.plan.specs.Lists.{listFrom};
 ghost use Rattle.device_states.specs.States.{deviceFits};
-ghost use Rattle.fields.specs.Fields.{allZero};
 ghost use Rattle.own_bytes.specs.Own.{ownBytes};
 ghost use Rattle.device_bytes.specs.Device.{ownsBytes, devicePut, slotOf, stateOf, isSlot, slotFits, deviceOf, statesIn, ownIn, slotPut};
 use device_states::Device;
@@ -70,7 +70,7 @@ fn zeros_from(s: &[u8], m: u8) -> bool
     ensures { λ r. ⌜ r ≡ allZero (take (560 - m * 35) (drop (m * 35) (now (s .entry)))) ⌝ }
 {
     let o = words::wide(m) * 35;
-    fields::are_zeros(&s[o..560])
+    words::are_zeros(&s[o..560])
 }
 
 // Slots that the plan lacks are 0 in every state that fits, so that all of them are judged by one look at their bytes.

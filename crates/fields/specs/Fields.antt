@@ -2,7 +2,7 @@
 use Prim.Native.Nat.{ℕ, zero, suc, _+_, _/_, _%_}
 use mathlib.Core.Path.{_≡_}
 use mathlib.Core.List.{List, [], _∷_}
-use mathlib.Core.Bool.{Bool, true, false, cond, not, _&&_}
+use mathlib.Core.Bool.{Bool, false, cond, not}
 use lib.ListN.{getD}
 use lib.Dec.{T, eqb, ltb}
 use lib.Ieee.{Float, binary64, toBits, ofBits, nanBits, fits, isNan}
@@ -12,11 +12,6 @@ use Rattle.words.specs.Word.{appendByte, wordAt, wordBytes}
 unfoldable pub bytesFrom : List ℕ → ℕ → ℕ → List ℕ
 bytesFrom s o zero = []
 bytesFrom s o (suc n) = getD s o 0 ∷ bytesFrom s (suc o) n
-
--- whether every byte is 0
-unfoldable pub allZero : List ℕ → Bool
-allZero [] = true
-allZero (x ∷ s) = eqb x 0 && allZero s
 
 -- a number of two bytes and the number that the two bytes at an offset are
 unfoldable pub halfBytes : ℕ → List ℕ

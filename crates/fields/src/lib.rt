@@ -3,7 +3,7 @@ ghost use mathlib.Core.Path.{_≡_};
 ghost use Prim.Native.Nat.{_<_};
 ghost use lib.Ieee.{binary64, toBits, ofBits, nanBits};
 ghost use Rattle.messages.specs.Message.{putAt};
-ghost use Rattle.fields.specs.Fields.{halfBytes, halfAt, flagByte, floatBytes, floatAt, isFloat, allZero};
+ghost use Rattle.fields.specs.Fields.{halfBytes, halfAt, flagByte, floatBytes, floatAt, isFloat};
 
 // ---- read
 
@@ -65,19 +65,6 @@ pub fn half_at(s: &[u8], o: usize) -> u16
     } else {
         0
     }
-}
-
-// Whether every byte is 0: all are read, which the compiler does many at a time.
-pub fn are_zeros(s: &[u8]) -> bool
-    ensures { λ r. ⌜ r ≡ allZero (now (s .entry)) ⌝ }
-{
-    let mut all: u8 = 0;
-    let mut i: usize = 0;
-    while i < s.len() {
-        all = all | s[i];
-        i += 1;
-    }
-    all == 0
 }
 
 // A flag's byte.

@@ -9,10 +9,10 @@ use lib.Dec.{eqb, lit<}
 use lib.Seq.{getD-take}
 use lib.Ieee.{ofBits, nanBits}
 use Rattle.litres.specs.Eighths.{isEighths, count}
-use Rattle.words.specs.Word.{quadAt, wordAt}
+use Rattle.words.specs.Word.{allZero, quadAt, wordAt}
 use Rattle.modules.specs.Fits.{ownEmpty, idleFits, every}
 use Rattle.modules.specs.declared.Own.{Own}
-use Rattle.fields.specs.Fields.{bytesFrom, halfAt, allZero}
+use Rattle.fields.specs.Fields.{bytesFrom, halfAt}
 use Rattle.fields.proofs.Back.{and-left, and-right}
 use borrow.Author.Tests.{eqb-true, lt-ltb, le-ltb}
 use Rattle.own_bytes.specs.Own.{procedureOf, ownOf, isOwn, unfitOwn, ownRead, ownStands}

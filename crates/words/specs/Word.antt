@@ -1,9 +1,14 @@
--- Bytes put into a list, and numbers of four and of eight bytes. Document 01: "Multi-byte values are big-endian".
+-- Bytes put into a list, bytes that are 0, and numbers of four and of eight bytes. Document 01: "Multi-byte values are big-endian".
 use Prim.Native.Nat.{ℕ, _+_, _*_, _/_, _%_}
 use mathlib.Core.List.{List, [], _∷_, _++_}
-use mathlib.Core.Bool.{Bool, cond}
+use mathlib.Core.Bool.{Bool, true, cond, _&&_}
 use lib.ListN.{length, getD, take, drop}
-use lib.Dec.{leb}
+use lib.Dec.{eqb, leb}
+
+-- whether every byte is 0
+unfoldable pub allZero : List ℕ → Bool
+allZero [] = true
+allZero (x ∷ s) = eqb x 0 && allZero s
 
 -- whether there is room for bytes at an offset of a buffer
 unfoldable pub fitsAt : List ℕ → ℕ → List ℕ → Bool

@@ -3,7 +3,7 @@ ghost use mathlib.Core.Path.{_≡_};
 ghost use Prim.Native.Nat.{_<_, _≤_, _+_};
 ghost use lib.ListN.{length, getD};
 ghost use lib.Seq.{sets};
-ghost use Rattle.words.specs.Word.{putAt, quadAt, quadBytes, wordAt, wordBytes};
+ghost use Rattle.words.specs.Word.{allZero, putAt, quadAt, quadBytes, wordAt, wordBytes};
 
 // A byte as an index.
 pub fn wide(b: u8) -> usize
@@ -17,6 +17,19 @@ pub fn byte_at(s: &[u8], i: usize) -> u8
     ensures { λ r. ⌜ r ≡ getD (now (s .entry)) i 0 ⌝ }
 {
     if i < s.len() { s[i] } else { 0 }
+}
+
+// Whether every byte is 0: all are read, which the compiler does many at a time.
+pub fn are_zeros(s: &[u8]) -> bool
+    ensures { λ r. ⌜ r ≡ allZero (now (s .entry)) ⌝ }
+{
+    let mut all: u8 = 0;
+    let mut i: usize = 0;
+    while i < s.len() {
+        all = all | s[i];
+        i += 1;
+    }
+    all == 0
 }
 
 fn long(b: u8) -> u64

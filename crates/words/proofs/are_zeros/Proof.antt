@@ -3,9 +3,9 @@ use mathlib.Core.Path.{refl}
 use Prim.Native.Nat.{_-_, _≤_}
 use native.Mathlib.Omega.{arith}
 use lib.ListN.{length}
-use Rattle.fields.proofs.Reading.{ZerosSoFar, zeros-on, zeros-done}
-use Rattle.fields.proofs.are_zeros.Statement.{statement}
-use Rattle.fields.proofs.are_zeros.Tie as tie
+use Rattle.words.proofs.Zeros.{ZerosSoFar, zeros-on, zeros-done}
+use Rattle.words.proofs.are_zeros.Statement.{statement}
+use Rattle.words.proofs.are_zeros.Tie as tie
 
 abbrev Inv-loop : tie.InvT-loop
 Inv-loop s all₀ i₀ all i = ZerosSoFar s i all × (i ≤ length s)
