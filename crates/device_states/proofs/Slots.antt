@@ -6,14 +6,19 @@ use native.Mathlib.Omega.{arith}
 use mathlib.Core.Path.{_≡_, refl, sym, ap, ap₂, _∙_}
 use mathlib.Core.List.{List, [], _∷_, _++_, append-assoc, append-nil}
 use mathlib.Core.Bool.{Bool, true, false, cond, _&&_, true≢false}
-use lib.ListN.{length, getD, set, replicate, length-append}
+use lib.ListN.{length, getD, set, drop, replicate, length-drop}
 use lib.Bits.{bitOr}
 use lib.Dec.{eqb, ltb}
-use lib.Seq.{set-append-seam}
-use Rattle.bits.specs.Bit.{allBelow}
+use lib.Seq.{set-append-seam, drop-cons, getD-drop}
+use Rattle.bits.specs.Bit.{bit, allBelow}
+use Rattle.bits.proofs.Laws.{bit-none}
 use Rattle.records.specs.declared.Record.{Record}
-use Rattle.plan.specs.Plan.{shown, supervisorAfter}
-use Rattle.rules.specs.LookUp.{modulesOf, supervisorsOf, supervisorState}
+use Rattle.reader.specs.declared.Found.{Found}
+use Rattle.places.specs.declared.Places.{Places}
+use Rattle.places.specs.Places.{countOf, numbered, recordsBy}
+use Rattle.places.proofs.Finding.{number-missing}
+use Rattle.plan.specs.Plan.{shown, supervisorMove, stateBy, supervisorAfter}
+use Rattle.rules.specs.LookUp.{wordField, fieldOf, modulesOf, supervisorsOf, supervisorState}
 use Rattle.modules.specs.declared.Own.{Own}
 use Rattle.modules.specs.declared.Turn.the-variants.{Event}
 use Rattle.modules.specs.Turn.{emptyOwn}
@@ -49,10 +54,12 @@ module _ {A : Type 0} (f : ℕ → A) where
   from-length i zero = refl
   from-length i (suc n) = ap suc (from-length (suc i) n)
 
-  from-snoc : (i n : ℕ) → listFrom f i (suc n) ≡ listFrom f i n ++ (f (i + n) ∷ [])
+  from-join : (i n k : ℕ) → listFrom f i n ++ listFrom f (i + n) k ≡ listFrom f i (n + k)
   unfolding listFrom
-  from-snoc i zero = ap (λ (k : ℕ). f k ∷ []) (sym (add-zero i))
-  from-snoc i (suc n) = ap (λ (l : List A). f i ∷ l) (from-snoc (suc i) n ∙ ap (λ (k : ℕ). listFrom f (suc i) n ++ (f k ∷ [])) (suc-add i n ∙ sym (add-suc i n)))
+  from-join i zero k = ap₂ (listFrom f) (add-zero i) (sym (zero-add k))
+  from-join i (suc n) k =
+      ap (λ (l : List A). f i ∷ l) (ap (λ (j : ℕ). listFrom f (suc i) n ++ listFrom f j k) (add-suc i n ∙ sym (suc-add i n)) ∙ from-join (suc i) n k)
+      ∙ ap (listFrom f i) (sym (suc-add n k))
 
   pub from-at : (i n k : ℕ) (d : A) → k < n → getD (listFrom f i n) k d ≡ f (i + k)
   unfolding listFrom
@@ -60,20 +67,24 @@ module _ {A : Type 0} (f : ℕ → A) where
   from-at i (suc n) zero d h = ap f (sym (add-zero i))
   from-at i (suc n) (suc k) d h = from-at (suc i) n k d (omega arith) ∙ ap f (suc-add i k ∙ sym (add-suc i k))
 
+  -- a list that begins with them, and the slot behind them set
+  seam-on : (i : ℕ) (y : A) (z : List A) {x : A} {l : List A} → l ≡ listFrom f 0 i ++ y ∷ z → x ≡ f i → set l i x ≡ listFrom f 0 (i + 1) ++ z
+  unfolding listFrom
+  seam-on i y z e g =
+      ap₂ (λ (k : List A) (w : A). set k i w) e g
+      ∙ ap (λ (k : ℕ). set (listFrom f 0 i ++ y ∷ z) k (f i)) (sym (from-length 0 i))
+      ∙ set-append-seam (listFrom f 0 i) y z (f i)
+      ∙ sym (append-assoc (listFrom f 0 i) (f i ∷ []) z)
+      ∙ ap (λ (k : ℕ). (listFrom f 0 i ++ (f k ∷ [])) ++ z) (sym (zero-add i)) ∙ ap (λ (k : List A). k ++ z) (from-join 0 i 1)
+
   module _ (d : A) (n : ℕ) where
     abbrev pub filled : ℕ → List A
     filled i = listFrom f 0 i ++ replicate (n - i) d
 
     pub fill-on : (i : ℕ) {x : A} {l : List A} → l ≡ filled i → x ≡ f i → i < n → set l i x ≡ filled (i + 1)
-    fill-on i {x} {l} e g h =
+    fill-on i e g h =
         let one : n - i ≡ suc (n - (i + 1)) = omega arith in
-        let z : List A = replicate (n - (i + 1)) d in
-        ap₂ (λ (k : List A) (y : A). set k i y) (e ∙ ap (λ (k : ℕ). listFrom f 0 i ++ replicate k d) one) g
-        ∙ ap (λ (k : ℕ). set (listFrom f 0 i ++ d ∷ z) k (f i)) (sym (from-length 0 i))
-        ∙ set-append-seam (listFrom f 0 i) d z (f i)
-        ∙ sym (append-assoc (listFrom f 0 i) (f i ∷ []) z)
-        ∙ ap (λ (k : ℕ). (listFrom f 0 i ++ (f k ∷ [])) ++ z) (sym (zero-add i))
-        ∙ ap (λ (k : List A). k ++ z) (sym (from-snoc 0 i) ∙ ap (listFrom f 0) (sym (add-one i)))
+        seam-on i d (replicate (n - (i + 1)) d) (e ∙ ap (λ (k : ℕ). listFrom f 0 i ++ replicate k d) one) g
 
     pub fill-done : (i : ℕ) {l : List A} → l ≡ filled i → n ≤ i → i ≤ n → l ≡ listFrom f 0 n
     fill-done i e h k =
@@ -81,24 +92,39 @@ module _ {A : Type 0} (f : ℕ → A) where
         let is : i ≡ n = omega arith in
         e ∙ ap (λ (j : ℕ). listFrom f 0 i ++ replicate j d) last ∙ append-nil (listFrom f 0 i) ∙ ap (listFrom f 0) is
 
--- the slots of a list, one after the other
-module _ {A : Type 0} (d : A) where
-  slot-after : (p : List A) (x : A) (r : List A) → getD (p ++ x ∷ r) (length p) d ≡ x
-  slot-after [] x r = refl
-  slot-after (y ∷ p) x r = slot-after p x r
-
-  slots-from : (p r : List A) → listFrom (λ v. getD (p ++ r) v d) (length p) (length r) ≡ r
+  rest-is : (d : A) (i : ℕ) (r : List A) → ((v : ℕ) → v < length r → f (i + v) ≡ getD r v d) → listFrom f i (length r) ≡ r
   unfolding listFrom
-  slots-from p [] = refl
-  slots-from p (x ∷ r) =
-      let q : List A = p ++ (x ∷ []) in
-      let is : p ++ x ∷ r ≡ q ++ r = sym (append-assoc p (x ∷ []) r) in
-      let k : suc (length p) ≡ length q = omega (arith, length-append p (x ∷ [])) in
-      ap₂ (λ (y : A) (l : List A). y ∷ l) (slot-after p x r)
-      (ap₂ (λ (l : List A) (i : ℕ). listFrom (λ v. getD l v d) i (length r)) is k ∙ slots-from q r)
+  rest-is d i [] h = refl
+  rest-is d i (x ∷ r) h =
+      ap₂ (λ (y : A) (k : List A). y ∷ k) (ap f (sym (add-zero i)) ∙ h 0 (omega arith))
+      (rest-is d (suc i) r (λ v k. ap f (suc-add i v ∙ sym (add-suc i v)) ∙ h (suc v) (omega arith)))
 
+  -- the other slots hold what they did in the list at the start
+  module _ (d : A) (l : List A) where
+    abbrev pub over : ℕ → List A
+    over i = listFrom f 0 i ++ drop i l
+
+    pub over-on : (i : ℕ) {x : A} {k : List A} → k ≡ over i → x ≡ f i → i < length l → set k i x ≡ over (i + 1)
+    over-on i e g h =
+        seam-on i (getD l i d) (drop (suc i) l) (e ∙ ap (λ (k : List A). listFrom f 0 i ++ k) (drop-cons l i d h)) g
+        ∙ ap (λ (j : ℕ). listFrom f 0 (i + 1) ++ drop j l) (sym (add-one i))
+
+    pub over-rest : (i : ℕ) {k : List A} → k ≡ over i → i ≤ length l → ((v : ℕ) → i ≤ v → v < length l → f v ≡ getD l v d)
+        → k ≡ listFrom f 0 (length l)
+    over-rest i e h same =
+        let m : length (drop i l) ≡ length l - i = length-drop i l in
+        let n : i + length (drop i l) ≡ length l = omega arith in
+        let kept : listFrom f i (length (drop i l)) ≡ drop i l =
+        rest-is d i (drop i l) (λ v w. same (i + v) (omega arith) (omega arith) ∙ sym (getD-drop i l v d)) in
+        e ∙ ap (λ (r : List A). listFrom f 0 i ++ r) (sym kept)
+        ∙ ap (λ (j : ℕ). listFrom f 0 i ++ listFrom f j (length (drop i l))) (sym (zero-add i))
+        ∙ from-join 0 i (length (drop i l)) ∙ ap (listFrom f 0) n
+
+module _ {A : Type 0} (d : A) where
+  -- the slots of a list, one after the other
   pub same-slots : (l : List A) → listFrom (λ v. getD l v d) 0 (length l) ≡ l
-  same-slots l = slots-from [] l
+  unfolding listFrom
+  same-slots l = sym (over-rest (λ v. getD l v d) d l 0 refl (omega arith) (λ v h k. refl))
 
   -- a slot, whatever stands for what is not there
   pub any-slot : (b : A) (l : List A) (i j : ℕ) → i ≡ j → j < length l → getD l i d ≡ getD l j b
@@ -172,5 +198,24 @@ module _ (rs : List Record) (states : List ℕ) where
   abbrev pub moved : ℕ → ℕ → ℕ
   moved e v = stateAfterTurn rs v (stateOf states v) (Event e)
 
-  pub moved-on : (e i v : ℕ) {x : ℕ} {l : List ℕ} → v ≡ i → x ≡ supervisorAfter rs v (stateOf states i) e → i < 32 → l ≡ filled (moved e) 0 32 i → set l i x ≡ filled (moved e) 0 32 (i + 1)
-  moved-on e i v {x} w g h k = fill-on (moved e) 0 32 i k (g ∙ ap (λ (j : ℕ). supervisorAfter rs j (stateOf states i) e) w ∙ (unfold stateAfterTurn in refl)) h
+  module _ (k : length states ≡ 32) (e i : ℕ) {l : List ℕ} (w : l ≡ over (moved e) 0 states i) where
+    pub moved-on : (v : ℕ) {x : ℕ} → v ≡ i → x ≡ supervisorAfter rs v (stateOf states i) e → i < 32 → set l i x ≡ over (moved e) 0 states (i + 1)
+    moved-on v q g h =
+        over-on (moved e) 0 states i w
+        (g ∙ ap (λ (j : ℕ). supervisorAfter rs j (stateOf states i) e) q ∙ (unfold stateAfterTurn in refl)) (omega (arith, k, h))
+
+    -- the others stay
+    pub moved-rest : i ≤ 32 → ((v : ℕ) → i ≤ v → v < 32 → moved e v ≡ stateOf states v) → l ≡ listFrom (moved e) 0 32
+    moved-rest h same =
+        over-rest (moved e) 0 states i w (omega (arith, k, h)) (λ v a b. same v a (omega (arith, k, b))) ∙ ap (listFrom (moved e) 0) k
+
+    pub moved-all : 32 ≤ i → i ≤ 32 → l ≡ listFrom (moved e) 0 32
+    moved-all h m = moved-rest m (λ v a b. absurd (omega arith))
+
+-- a supervisor past the count of them is not found, and stays
+pub stays : (s : List ℕ) (p : Places) (states : List ℕ) (e v : ℕ) → countOf s p 0x14 ≤ v → moved (recordsBy s p) states e v ≡ stateOf states v
+unfolding stateAfterTurn supervisorAfter fieldOf numbered
+stays s p states e v h =
+    let st : ℕ = stateOf states v in
+    let by : Bool → ℕ = λ t. cond t (stateBy (supervisorMove (recordsBy s p) v st e) st) st in
+    ap (λ (y : Found). by (bit (fieldOf wordField y) e)) (number-missing s p 0x14 v refl h) ∙ ap by (bit-none e)

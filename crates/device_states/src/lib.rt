@@ -155,13 +155,17 @@ pub fn shown_by(image: &[u8], places: Places, states: [u8; 32], n: u8) -> u64
     k
 }
 
-// The states after an event fired.
+// The states after an event fired. Past the supervisors that are there none is found, so that the states stay.
 pub fn states_after(image: &[u8], places: Places, states: [u8; 32], e: u8) -> [u8; 32]
     ensures { λ r. ⌜ r ≡ statesAfter (recordsBy (now (image .entry)) places) states (Event e) ⌝ }
 {
-    let mut next = [0u8; 32];
+    let n = places::count(image, places, 0x14);
+    let mut next = states;
     let mut i: usize = 0;
     while i < 32 {
+        if n <= i {
+            return next;
+        }
         let v = (i % 256) as u8;
         let st = states[i];
         next[i] = plan::supervisor_after(image, places, v, st, e);
