@@ -5,13 +5,15 @@ use native.Mathlib.Numerals.{add-one}
 use native.Mathlib.Omega.{arith}
 use mathlib.Core.Path.{_≡_, refl, sym, ap, ap₂, _∙_}
 use mathlib.Core.List.{List, [], _∷_, _++_, append-assoc, append-nil}
-use mathlib.Core.Bool.{Bool, true, false, cond, _&&_, true≢false}
-use lib.ListN.{length, getD, set, drop, replicate, length-drop}
+use mathlib.Core.Bool.{Bool, true, false, cond, _&&_, true≢false, and-true, and-assoc, and-comm}
+use lib.ListN.{length, getD, set, take, drop, replicate, length-drop}
 use lib.Bits.{bitOr}
 use lib.Dec.{eqb, ltb}
-use lib.Seq.{set-append-seam, drop-cons, getD-drop}
+use lib.Seq.{set-append-seam, take-all, drop-cons, getD-drop}
+use borrow.Author.Tests.{lt-ltb, le-ltb}
 use Rattle.bits.specs.Bit.{bit, allBelow}
 use Rattle.bits.proofs.Laws.{bit-none}
+use Rattle.words.specs.Word.{allZero}
 use Rattle.records.specs.declared.Record.{Record}
 use Rattle.reader.specs.declared.Found.{Found}
 use Rattle.places.specs.declared.Places.{Places}
@@ -45,6 +47,18 @@ one-fails p (suc n) i e f h = go (p n) refl (one-fails p n i e f)
 
 pub all-done : (p : ℕ → Bool) (n i : ℕ) → i ≤ n → n ≤ i → allBelow p i ≡ true → true ≡ allBelow p n
 all-done p n i h k a = let e : i ≡ n = omega arith in sym a ∙ ap (allBelow p) e
+
+-- the slots from v on pass if they are 0
+zeros-pass : (p : ℕ → Bool) (v : ℕ) (r : List ℕ) → ((j : ℕ) → j < length r → p (v + j) ≡ eqb (getD r j 0) 0)
+    → (allBelow p v && allZero r) ≡ allBelow p (v + length r)
+unfolding allBelow allZero
+zeros-pass p v [] h = and-true (allBelow p v) ∙ ap (allBelow p) (sym (add-zero v))
+zeros-pass p v (x ∷ r) h =
+    let here : eqb x 0 ≡ p v = sym (ap p (sym (add-zero v)) ∙ h 0 (omega arith)) in
+    sym (and-assoc (allBelow p v) (eqb x 0) (allZero r))
+    ∙ ap (λ (t : Bool). t && allZero r) (and-comm (allBelow p v) (eqb x 0) ∙ ap (λ (t : Bool). t && allBelow p v) here)
+    ∙ zeros-pass p (suc v) r (λ j k. ap p (suc-add v j ∙ sym (add-suc v j)) ∙ h (suc j) (omega arith))
+    ∙ ap (allBelow p) (suc-add v (length r) ∙ sym (add-suc v (length r)))
 
 -- ---- a list filled from its start: f 0, f 1, .. up to i, and d in the other slots
 
@@ -163,12 +177,32 @@ module _ (rs : List Record) (n : ℕ) where
     pub own-fails : (z : Own) (m i : ℕ) {b : Bool} → b ≡ ownPasses m (getD owns i z) → i ≡ m → m < 16 → b ≡ false → false ≡ allBelow (slotPasses ownPasses emptyOwn owns) 16
     own-fails z m i g e h f = slot-fails ownPasses emptyOwn owns z m i g e (omega (arith, h, k)) f ∙ ap (allBelow (slotPasses ownPasses emptyOwn owns)) k
 
-  module _ (states : List ℕ) (k : length states ≡ 32) where
-    pub state-on : (v i : ℕ) {b : Bool} → b ≡ statePasses v (stateOf states i) → i ≡ v → v < 32 → b ≡ true → allBelow (slotPasses statePasses 0 states) v ≡ true → allBelow (slotPasses statePasses 0 states) (v + 1) ≡ true
-    state-on v i g e h = slot-on statePasses 0 states 0 v i g e (omega (arith, h, k))
+  module _ (states : List ℕ) (k : length states ≡ 32) (v : ℕ) {i : ℕ} (e : i ≡ v) (h : v < 32) where
+    abbrev all : ℕ → Bool
+    all = allBelow (slotPasses statePasses 0 states)
 
-    pub state-fails : (v i : ℕ) {b : Bool} → b ≡ statePasses v (stateOf states i) → i ≡ v → v < 32 → b ≡ false → false ≡ allBelow (slotPasses statePasses 0 states) 32
-    state-fails v i g e h f = slot-fails statePasses 0 states 0 v i g e (omega (arith, h, k)) f ∙ ap (allBelow (slotPasses statePasses 0 states)) k
+    module _ (l : v < n) {b : Bool} (g : b ≡ supervisorState rs v (stateOf states i)) where
+      passes : b ≡ statePasses v (stateOf states i)
+      passes = g ∙ sym (ap (λ (t : Bool). cond t (supervisorState rs v (stateOf states i)) (eqb (stateOf states i) 0)) (lt-ltb v n l))
+
+      pub state-on : b ≡ true → all v ≡ true → all (v + 1) ≡ true
+      state-on = slot-on statePasses 0 states 0 v i passes e (omega (arith, h, k))
+
+      pub state-fails : b ≡ false → false ≡ all 32
+      state-fails f = slot-fails statePasses 0 states 0 v i passes e (omega (arith, h, k)) f ∙ ap all k
+
+    pub states-zero : n ≤ v → {b : Bool} → b ≡ allZero (take (32 - i) (drop i states)) → all v ≡ true → b ≡ all 32
+    states-zero l {b} g a =
+        let from : length (drop v states) ≡ length states - v = length-drop v states in
+        let to : v + length (drop v states) ≡ 32 = omega (arith, h, k) in
+        g ∙ ap allZero (take-all (32 - i) (drop i states) (omega (arith, k, length-drop i states)))
+        ∙ ap (λ (j : ℕ). allZero (drop j states)) e ∙ sym (ap (λ (t : Bool). t && allZero (drop v states)) a)
+        ∙ zeros-pass (slotPasses statePasses 0 states) v (drop v states)
+        (λ j w. lacks (v + j) (omega arith) ∙ ap (λ (y : ℕ). eqb y 0) (sym (getD-drop v states j 0)))
+        ∙ ap all to
+      where
+        lacks : (j : ℕ) → n ≤ j → slotPasses statePasses 0 states j ≡ eqb (stateOf states j) 0
+        lacks j w = ap (λ (t : Bool). cond t (supervisorState rs j (stateOf states j)) (eqb (stateOf states j) 0)) (le-ltb j n w)
 
 -- the supervisors' states fit
 pub states-all : (rs : List Record) (states : List ℕ) (n : ℕ) {b : Bool} → n ≡ supervisorsOf rs → b ≡ allBelow (slotPasses (statePasses rs n) 0 states) 32 → b ≡ allBelow (stateSlotFits rs states) 32

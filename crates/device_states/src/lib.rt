@@ -90,25 +90,18 @@ fn owns_fit(image: &[u8], places: Places, n: u8, owns: [Own; 16]) -> bool
     true
 }
 
-// The same of a supervisor's state, of a plan of n supervisors.
-fn state_slot_fits(image: &[u8], places: Places, n: u8, st: u8, v: u8) -> bool
-    ensures { λ r. ⌜ r ≡ cond (ltb v n) (supervisorState (recordsBy (now (image .entry)) places) v st) (eqb st 0) ⌝ }
-{
-    if v < n {
-        plan::supervisor_state(image, places, v, st)
-    } else {
-        st == 0
-    }
-}
-
+// The same of the supervisors' states, of a plan of n supervisors. Those past the n are judged by one look at all of them.
 fn states_fit_of(image: &[u8], places: Places, n: u8, states: [u8; 32]) -> bool
     ensures { λ r. ⌜ r ≡ allBelow (λ v. cond (ltb v n) (supervisorState (recordsBy (now (image .entry)) places) v (stateOf states v)) (eqb (stateOf states v) 0)) 32 ⌝ }
 {
     let mut v: u8 = 0;
     while v < 32 {
         let i = words::wide(v);
+        if n <= v {
+            return words::are_zeros(&states[i..]);
+        }
         let st = states[i];
-        if state_slot_fits(image, places, n, st, v) {
+        if plan::supervisor_state(image, places, v, st) {
             v += 1;
         } else {
             return false;
