@@ -224,9 +224,11 @@ module _ (rs : List Record) (d : Device) where
   owns-unfit n e g f = ap (λ (t : Bool). t && allBelow (stateSlotFits rs (d .supervisors)) 32) (sym f ∙ owns-all n e g)
 
 module _ (rs : List Record) (states : List ℕ) where
-  pub shown-on : (v : ℕ) {k x st : ℕ} → st ≡ stateOf states v → x ≡ shown rs v st → k ≡ shownBy rs (stateOf states) v → bitOr k x ≡ shownBy rs (stateOf states) (v + 1)
-  shown-on v {k} {x} {st} e g h =
-      ap₂ bitOr h (g ∙ ap (shown rs v) e) ∙ sym (ap (shownBy rs (stateOf states)) (add-one v) ∙ (unfold shownBy in refl))
+  pub shown-on : (v : ℕ) {i k x st : ℕ} → i ≡ v → st ≡ stateOf states i → x ≡ shown rs v st → k ≡ shownBy rs (stateOf states) v
+      → bitOr k x ≡ shownBy rs (stateOf states) (v + 1)
+  shown-on v w e g h =
+      ap₂ bitOr h (g ∙ ap (shown rs v) (e ∙ ap (stateOf states) w))
+      ∙ sym (ap (shownBy rs (stateOf states)) (add-one v) ∙ (unfold shownBy in refl))
 
   -- where the event e leads a supervisor
   abbrev pub moved : ℕ → ℕ → ℕ

@@ -34,18 +34,6 @@ pub fn own_of(d: Device, m: u8) -> Own
     }
 }
 
-// The state of a supervisor, and 0 past the last slot.
-fn state_of(states: [u8; 32], v: u8) -> u8
-    ensures { λ r. ⌜ r ≡ stateOf states v ⌝ }
-{
-    if v < 32 {
-        let i = words::wide(v);
-        states[i]
-    } else {
-        0
-    }
-}
-
 // The device with another own part of a module; past the last slot it stays.
 pub fn with_own(d: Device, m: u8, own: Own) -> Device
     ensures { λ r. ⌜ r ≡ withOwn d m own ⌝ }
@@ -141,7 +129,7 @@ pub fn shown_by(image: &[u8], places: Places, states: [u8; 32], n: u8) -> u64
     let mut k: u64 = 0;
     let mut v: u8 = 0;
     while v < n {
-        let st = state_of(states, v);
+        let st = words::byte_at(&states, words::wide(v));
         k = k | plan::shown(image, places, v, st);
         v += 1;
     }

@@ -9,17 +9,23 @@ use Rattle.device_states.proofs.shown_by.Statement.{statement}
 use Rattle.device_states.proofs.shown_by.Tie as tie
 
 abbrev Inv-loop : tie.InvT-loop
-Inv-loop image places states n k₀ v₀ k v = (v ≤ n) × (k ≡ shownBy (recordsBy image places) (stateOf states) v)
+Inv-loop image places n states k₀ v₀ k v = (v ≤ n) × (k ≡ shownBy (recordsBy image places) (stateOf states) v)
 
 abbrev μ-loop : tie.MeasureT-loop
-μ-loop image places states n k₀ v₀ k v = n - v
+μ-loop image places n states k₀ v₀ k v = n - v
 
 loop-holds : tie.Need-loop-holds Inv-loop μ-loop
 unfolding shownBy
 loop-holds c = (search needs, refl)
 
-state-of-requires : tie.Need-state-of-requires Inv-loop μ-loop
-state-of-requires c κs = search needs
+slice-aggregate-byte-at : tie.Need-slice-aggregate-byte-at Inv-loop μ-loop
+slice-aggregate-byte-at c = search needs
+
+wide-requires : tie.Need-wide-requires Inv-loop μ-loop
+wide-requires c κs = search needs
+
+byte-at-requires : tie.Need-byte-at-requires Inv-loop μ-loop
+byte-at-requires c κs = search needs
 
 shown-requires : tie.Need-shown-requires Inv-loop μ-loop
 shown-requires c κs = search needs
@@ -40,4 +46,17 @@ returns c =
     l .1 ∙ ap (shownBy _ _) e
 
 pub shown-by-spec : {M : Type 1} → statement M
-shown-by-spec = tie.close (tie.spec Inv-loop μ-loop loop-holds state-of-requires shown-requires add-v loop-less loop-again returns)
+shown-by-spec =
+    tie.close
+    (tie.spec
+    Inv-loop
+    μ-loop
+    loop-holds
+    slice-aggregate-byte-at
+    wide-requires
+    byte-at-requires
+    shown-requires
+    add-v
+    loop-less
+    loop-again
+    returns)
