@@ -1,7 +1,7 @@
 -- The bytes of a device read and put, from what the code is told.
 use mathlib.Core.Path.{_≡_, refl, sym, ap, ap₂, _∙_, subst}
 use mathlib.Core.List.{List, [], _++_}
-use mathlib.Core.Bool.{Bool, true, false, cond, _&&_}
+use mathlib.Core.Bool.{Bool, true, false, cond, _&&_, and-false}
 use Prim.Native.Nat.{ℕ, suc, _+_, _*_, _-_, _≤_, _<_}
 use native.Mathlib.Nat.{zero-add}
 use native.Mathlib.Omega.{arith}
@@ -23,10 +23,11 @@ use Rattle.plan.specs.Lists.{listFrom}
 use Rattle.device_states.specs.declared.Device.{Device}
 use Rattle.device_states.specs.States.{ownAt}
 use Rattle.device_states.proofs.Slots.{all-on, one-fails, filled, fill-on, fill-done, from-length, from-at}
+use Rattle.fields.specs.Fields.{isFlag}
 use Rattle.fields.proofs.Writing.{join}
-use Rattle.own_bytes.specs.Own.{ownBytes, ownRead, ownStands}
+use Rattle.own_bytes.specs.Own.{ownBytes, ownRead}
 use Rattle.own_bytes.proofs.Writing.{length-own}
-use Rattle.own_bytes.proofs.Reading.{stands-all, read-all, zero-at, zeros-stand, zeros-empty}
+use Rattle.own_bytes.proofs.Reading.{read-all, flag-fails, fits-stands, empty-stands, zero-at, zeros-stand, zeros-empty}
 use Rattle.device_bytes.specs.Device.{ownsBytes, deviceBytes, devicePut, slotOf, stateOf, isSlot, slotFits, deviceAt, statesIn, ownIn, slotPut}
 
 -- ---- read
@@ -39,35 +40,39 @@ module _ (s : List ℕ) (i : ℕ) where
   enough : length s ≡ 592 → i < 16 → 35 ≤ length (drop (i * 35) s)
   enough l h = omega (arith, l, length-drop (i * 35) s)
 
-  pub slot-is : {r : Bool} → length s ≡ 592 → i < 16 → r ≡ ownStands (take (length s - i * 35) (drop (i * 35) s)) → r ≡ isSlot s i
-  unfolding isSlot
-  slot-is l h e = e ∙ ap ownStands (tail (i * 35) s) ∙ stands-all (drop (i * 35) s) (enough l h)
-
   pub slot-read : {r : Own} → length s ≡ 592 → i < 16 → r ≡ ownRead (take (length s - i * 35) (drop (i * 35) s)) → r ≡ slotOf s i
   unfolding slotOf
   slot-read l h e = e ∙ ap ownRead (tail (i * 35) s) ∙ read-all (drop (i * 35) s) (enough l h)
 
-  module _ {x : Bool} (e : x ≡ isSlot s i) where
-    pub vacant-read : {own : Own} {r : Bool} → x ≡ true → own ≡ slotOf s i → r ≡ ownEmpty own → r ≡ (isSlot s i && ownEmpty (slotOf s i))
-    vacant-read t g h = h ∙ ap₂ (λ (y : Bool) (o : Own). y && ownEmpty o) (sym t ∙ e) g
-
-    pub vacant-not : x ≡ false → false ≡ (isSlot s i && ownEmpty (slotOf s i))
-    vacant-not f = ap (λ (y : Bool). y && ownEmpty (slotOf s i)) (sym f ∙ e)
-
 -- the slot of module m, which the code has as the index i
 module _ (rs : List Record) (n : ℕ) (s : List ℕ) (m : ℕ) {i : ℕ} (w : i ≡ m) where
-  pub fits-lacking : {r : Bool} → n ≤ m → r ≡ (isSlot s i && ownEmpty (slotOf s i)) → r ≡ slotFits rs n s m
-  unfolding slotFits
-  fits-lacking h e = e ∙ ap (λ (k : ℕ). isSlot s k && ownEmpty (slotOf s k)) w ∙ simp (le-ltb m n h)
+  flag-is : isFlag (getD (drop (m * 35) s) 10 0) ≡ isFlag (getD s (i * 35 + 10) 0)
+  flag-is = ap isFlag (getD-drop (m * 35) s 10 0 ∙ ap (λ (k : ℕ). getD s (k * 35 + 10) 0) (sym w))
 
-  module _ {x : Bool} (e : x ≡ isSlot s i) where
-    pub fits-read : {own : Own} {r : Bool} → m < n → x ≡ true → own ≡ slotOf s i → r ≡ ownFits rs m own → r ≡ slotFits rs n s m
-    unfolding slotFits
-    fits-read h t g z = z ∙ ap₂ (λ (y : Bool) (o : Own). y && ownFits rs m o) (sym t ∙ e) g ∙ ap (λ (k : ℕ). isSlot s k && ownFits rs m (slotOf s k)) w ∙ simp (lt-ltb m n h)
+  pub fits-not : 2 ≤ getD s (i * 35 + 10) 0 → false ≡ slotFits rs n s m
+  unfolding slotFits isSlot
+  fits-not h =
+      ap (λ (t : Bool). t && cond (ltb m n) (ownFits rs m (slotOf s m)) (ownEmpty (slotOf s m)))
+      (sym (flag-fails (drop (m * 35) s) (flag-is ∙ le-ltb (getD s (i * 35 + 10) 0) 2 h)))
 
-    pub fits-not : x ≡ false → false ≡ slotFits rs n s m
-    unfolding slotFits
-    fits-not f = ap (λ (y : Bool). y && cond (ltb m n) (ownFits rs m (slotOf s m)) (ownEmpty (slotOf s m))) (sym f ∙ e ∙ ap (isSlot s) w)
+  module _ (h : getD s (i * 35 + 10) 0 < 2) {own : Own} (g : own ≡ slotOf s i) where
+    flag : isFlag (getD (drop (m * 35) s) 10 0) ≡ true
+    flag = flag-is ∙ lt-ltb (getD s (i * 35 + 10) 0) 2 h
+
+    with-stands : (a : Bool) → (T a → isSlot s m ≡ true) → a ≡ (isSlot s m && a)
+    with-stands true k = sym (ap (λ (t : Bool). t && true) (k tt))
+    with-stands false k = sym (and-false (isSlot s m))
+
+    pub fits-read : {r : Bool} → m < n → r ≡ ownFits rs m own → r ≡ slotFits rs n s m
+    unfolding slotFits isSlot slotOf
+    fits-read l z =
+        z ∙ ap (ownFits rs m) (g ∙ ap (slotOf s) w) ∙ with-stands (ownFits rs m (slotOf s m)) (fits-stands (drop (m * 35) s) flag rs m)
+        ∙ simp (lt-ltb m n l)
+
+    pub fits-lacking : {r : Bool} → n ≤ m → r ≡ ownEmpty own → r ≡ slotFits rs n s m
+    unfolding slotFits isSlot slotOf
+    fits-lacking l z =
+        z ∙ ap ownEmpty (g ∙ ap (slotOf s) w) ∙ with-stands (ownEmpty (slotOf s m)) (empty-stands (drop (m * 35) s) flag) ∙ simp (le-ltb m n l)
 
 -- the slots from that of module m on, whose bytes are 0 and which the plan lacks
 pub zeros-by : (s : List ℕ) (m : ℕ) {i : ℕ} {r : Bool} → i ≡ m → r ≡ allZero (take (560 - i * 35) (drop (i * 35) s)) → r ≡ allZero (take (560 - m * 35) (drop (m * 35) s))

@@ -1,30 +1,20 @@
 // The state of one device as bytes: specs/Device.antt. A call reads and puts what it needs of them, in place.
 ghost use mathlib.Core.Path.{_≡_};
-ghost use mathlib.Core.Bool.{_&&_};
 ghost use Prim.Native.Nat.{_+_, _-_, _*_, _≤_, _<_};
 ghost use lib.ListN.{length, take, drop};
 ghost use lib.Seq.{sets};
 ghost use Rattle.bits.specs.Bit.{allBelow};
 ghost use Rattle.words.specs.Word.{allZero};
 ghost use Rattle.places.specs.Places.{recordsBy};
-ghost use Rattle.modules.specs.Fits.{ownEmpty};
 ghost use Rattle.plan.specs.Lists.{listFrom};
 ghost use Rattle.device_states.specs.States.{deviceFits};
 ghost use Rattle.own_bytes.specs.Own.{ownBytes};
-ghost use Rattle.device_bytes.specs.Device.{ownsBytes, devicePut, slotOf, stateOf, isSlot, slotFits, deviceOf, statesIn, ownIn, slotPut};
+ghost use Rattle.device_bytes.specs.Device.{ownsBytes, devicePut, slotOf, stateOf, slotFits, deviceOf, statesIn, ownIn, slotPut};
 use device_states::Device;
 use modules::Own;
 use places::Places;
 
 // ---- read
-
-fn is_slot(s: &[u8], i: usize) -> bool
-    requires { ⌜ (length (now s) ≡ 592) × (i < 16) ⌝ }
-    ensures { λ r. ⌜ r ≡ isSlot (now (s .entry)) i ⌝ }
-{
-    let o = i * 35;
-    own_bytes::is_own(&s[o..])
-}
 
 fn slot_of(s: &[u8], i: usize) -> Own
     requires { ⌜ (length (now s) ≡ 592) × (i < 16) ⌝ }
@@ -34,33 +24,20 @@ fn slot_of(s: &[u8], i: usize) -> Own
     own_bytes::own_of(&s[o..])
 }
 
-// Whether a slot is empty.
-fn is_vacant(s: &[u8], i: usize) -> bool
-    requires { ⌜ (length (now s) ≡ 592) × (i < 16) ⌝ }
-    ensures { λ r. ⌜ r ≡ (isSlot (now (s .entry)) i && ownEmpty (slotOf (now (s .entry)) i)) ⌝ }
-{
-    if is_slot(s, i) {
-        let own = slot_of(s, i);
-        fitting::is_empty(own)
-    } else {
-        false
-    }
-}
-
-// Whether what stands in the slot of module m fits, of a plan of n modules.
+// Whether what stands in the slot of module m fits, of a plan of n modules. A NaN neither fits nor is 0, so that only the flag is judged beside.
 fn slot_fits(image: &[u8], places: Places, n: u8, s: &[u8], m: u8) -> bool
     requires { ⌜ (length (now s) ≡ 592) × (m < 16) ⌝ }
     ensures { λ r. ⌜ r ≡ slotFits (recordsBy (now (image .entry)) places) n (now (s .entry)) m ⌝ }
 {
     let i = words::wide(m);
-    if n <= m {
-        return is_vacant(s, i);
+    if 2 <= s[i * 35 + 10] {
+        return false;
     }
-    if is_slot(s, i) {
-        let own = slot_of(s, i);
+    let own = slot_of(s, i);
+    if m < n {
         fitting::fits(image, places, m, own)
     } else {
-        false
+        fitting::is_empty(own)
     }
 }
 

@@ -1,18 +1,25 @@
--- An own part is read from its 35 bytes alone, and bytes that are all 0 are an empty one.
+-- An own part is read from its 35 bytes alone, one that fits has no NaN, and bytes that are all 0 are an empty one.
 use mathlib.Core.Path.{_≡_, refl, ap, ap₂, _∙_}
 use mathlib.Core.List.{List, [], _∷_}
-use mathlib.Core.Bool.{Bool, true, false}
+use mathlib.Core.Bool.{Bool, true, false, cond, _&&_}
 use Prim.Native.Nat.{ℕ, zero, suc, _+_, _≤_, _<_}
 use native.Mathlib.Omega.{arith}
 use lib.ListN.{length, getD, take}
-use lib.Dec.{eqb, lit<}
+use lib.Dec.{T, eqb, lit<}
 use lib.Seq.{getD-take}
 use lib.Ieee.{ofBits, nanBits}
+use lib.Ieee.Bits.{is-true}
 use Rattle.litres.specs.Eighths.{isEighths, count}
+use Rattle.litres.proofs.Laws.{target-not-nan}
 use Rattle.words.specs.Word.{allZero, quadAt, wordAt}
-use Rattle.modules.specs.Fits.{ownEmpty, idleFits, every}
+use Rattle.records.specs.declared.Record.{Record}
+use Rattle.rules.proofs.Valid.{both}
+use Rattle.plan.specs.Plan.{operationOf, operandOf}
+use Rattle.water.specs.Water.{waterZero, running}
+use Rattle.modules.specs.Fits.{every, idleFits, stepFits, procedureFits, ownFits, ownEmpty}
 use Rattle.modules.specs.declared.Own.{Own}
-use Rattle.fields.specs.Fields.{bytesFrom, halfAt}
+use Rattle.modules.specs.declared.Procedure.{Procedure}
+use Rattle.fields.specs.Fields.{bytesFrom, halfAt, isFlag, isFloat}
 use Rattle.fields.proofs.Back.{and-left, and-right}
 use borrow.Author.Tests.{eqb-true, lt-ltb, le-ltb}
 use Rattle.own_bytes.specs.Own.{procedureOf, ownOf, isOwn, unfitOwn, ownRead, ownStands}
@@ -74,6 +81,50 @@ module _ (b : List ℕ) where
   pub read-all : 35 ≤ length b → ownRead b ≡ ownOf b
   unfolding ownRead
   read-all h = simp (le-ltb (length b) 35 h)
+
+-- ---- an own part that fits, or is empty, has no NaN
+
+module _ (p : Procedure) where
+  abbrev Whole : Type 0
+  Whole = T (isEighths (p .water .target)) × T (isEighths (p .water .total))
+
+  idle-whole : T (idleFits p) → Whole
+  unfolding idleFits
+  idle-whole t = (search both, search both)
+
+  fits-whole : (rs : List Record) (m : ℕ) → T (procedureFits rs m p) → Whole
+  unfolding procedureFits stepFits
+  fits-whole rs m = go (p .running)
+    where
+      pours : (b : Bool) (x : ℕ) → T (cond b (running x (p .water)) (waterZero (p .water))) → Whole
+      pours true x t = (search both, search both)
+      pours false x t = (search both, search both)
+
+      go : (b : Bool) → T (cond b (stepFits rs m p) (idleFits p)) → Whole
+      go true t = pours (eqb (operationOf rs (p .event) (p .index)) 4) (operandOf rs (p .event) (p .index)) (search both)
+      go false t = idle-whole t
+
+-- so that of its bytes only the flag is left to judge
+module _ (b : List ℕ) where
+  pub flag-fails : isFlag (getD b 10 0) ≡ false → isOwn b ≡ false
+  unfolding isOwn
+  flag-fails f = ap (λ (t : Bool). t && isFloat b 15 && isFloat b 23) f
+
+  module _ (f : isFlag (getD b 10 0) ≡ true) where
+    whole-stands : Whole (procedureOf b) → isOwn b ≡ true
+    unfolding isOwn procedureOf
+    whole-stands w =
+        let target : isFloat b 15 ≡ true = is-true (isFloat b 15) (target-not-nan (wordAt b 15) (w .0)) in
+        let total : isFloat b 23 ≡ true = is-true (isFloat b 23) (target-not-nan (wordAt b 23) (w .1)) in
+        simp (f, target, total)
+
+    pub fits-stands : (rs : List Record) (m : ℕ) → T (ownFits rs m (ownOf b)) → isOwn b ≡ true
+    unfolding ownFits ownOf
+    fits-stands rs m t = whole-stands (fits-whole (procedureOf b) rs m (search both))
+
+    pub empty-stands : T (ownEmpty (ownOf b)) → isOwn b ≡ true
+    unfolding ownEmpty ownOf
+    empty-stands t = whole-stands (idle-whole (procedureOf b) (search both))
 
 -- ---- bytes that are 0
 
