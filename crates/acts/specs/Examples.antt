@@ -1,7 +1,7 @@
 -- Lines of the simulation, each by computation.
 use mathlib.Core.Path.{_≡_, refl}
 use Rattle.lines.specs.Number.{numberFrom, begins, upTo, numberUpTo, numberOf, spaceIn}
-use Rattle.script.specs.Ascii.{ascii}
+use Rattle.texts.specs.Ascii.{ascii}
 use Rattle.script.specs.Line.{pairOf}
 use Rattle.acts.specs.declared.Act.the-variants.{Module, Supervisor, Delivery, Response, Tick, Unfitted, Misshapen}
 use Rattle.acts.specs.Act.{readingOf, tickOf, actOf}

@@ -22,12 +22,13 @@ use Rattle.permits.specs.declared.Stepped.{Stepped}
 use Rattle.permits.specs.declared.Stepped.the-variants.{Turned, Bids, Waits, Refused as StepRefused}
 use Rattle.permits.proofs.Stepped as SteppedType
 use Rattle.permits.specs.declared.Served.{Served}
-use Rattle.script.specs.declared.Text.{Text}
-use Rattle.script.specs.Ascii.{ascii}
-use Rattle.script.specs.Text.{textOf, cut}
+use Rattle.texts.specs.declared.Text.{Text}
+use Rattle.texts.specs.Ascii.{ascii}
+use Rattle.texts.specs.Text.{textOf, cut}
 use Rattle.script.specs.Answers.{refusedLine, responseLine}
-use Rattle.script.specs.SimulationLines.{hexes, sentLine, deliveredLine, steppedLine, servedLine, tickLine, nothingLine}
-use Rattle.script.proofs.Texts.{appended-text}
+use Rattle.texts.specs.Digits.{hexDigits, hexes}
+use Rattle.script.specs.SimulationLines.{sentLine, deliveredLine, steppedLine, servedLine, tickLine, nothingLine}
+use Rattle.texts.proofs.Texts.{appended-text}
 use Rattle.simulation.specs.declared.Answer.{Answer}
 use Rattle.simulation.specs.declared.Answer.the-variants.{Module, Supervisor, Delivery, NoMessage, Response, Tick, Misshapen}
 use Rattle.simulation.proofs.Answer as AnswerType
@@ -37,7 +38,7 @@ use Rattle.simulation.proofs.Playing.{message-length}
 -- ---- a message's bytes are few
 
 hexes-length : (bs : List ℕ) → length (hexes bs) ≡ 2 * length bs
-unfolding hexes
+unfolding hexes hexDigits
 hexes-length [] = refl
 hexes-length (b ∷ bs) = let e = hexes-length bs in omega arith
 

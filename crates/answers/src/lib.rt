@@ -2,7 +2,7 @@
 ghost use mathlib.Core.Path.{_≡_};
 ghost use Rattle.places.specs.Places.{recordsBy};
 ghost use Rattle.messages.specs.Message.{messageBytes};
-ghost use Rattle.script.specs.Text.{textOf};
+ghost use Rattle.texts.specs.Text.{textOf};
 ghost use Rattle.script.specs.SimulationLines.{sentLine, deliveredLine};
 ghost use Rattle.answers.specs.AnswerLines.{deliveryLine, answerLine, fired, command, noRow, rowFull, withNumber};
 use bits::Maybe;
@@ -11,8 +11,8 @@ use modules::Called;
 use modules::Turn;
 use permits::Stepped;
 use places::Places;
-use script::Text;
 use simulation::Answer;
+use texts::Text;
 
 // The numbers of a row that is still to be printed.
 pub struct Row {

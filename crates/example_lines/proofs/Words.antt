@@ -14,7 +14,7 @@ use Rattle.bytes.specs.Bytes.{indexOf, indexAfter, slice}
 use Rattle.lines.specs.Number.{spaceIn}
 use Rattle.example_lines.specs.Words.{lineEnd, spaceOf, spacesIn, wordFrom, digitOf, longer, numberFrom}
 use Rattle.lines.specs.Hex.{hexDigit}
-use Rattle.example_lines.specs.Digits.{hexDigits}
+use Rattle.texts.specs.Digits.{hexDigits}
 
 -- ---- the end of a line
 

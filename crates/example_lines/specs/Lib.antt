@@ -1,3 +1,2 @@
-pub mod Digits
 pub mod Image
 pub mod Words

@@ -6,7 +6,7 @@ ghost use lib.ListN.{length, take, drop};
 ghost use lib.Seq.{paste};
 ghost use Rattle.example_lines.specs.Words as Words;
 ghost use Rattle.example_lines.specs.Words.{lineEnd, spaceOf, spacesIn, wordFrom, letterIn, digitOf, numberFrom, numberIn, bitsIn};
-ghost use Rattle.example_lines.specs.Digits.{hexDigits};
+ghost use Rattle.texts.specs.Digits.{hexDigits};
 ghost use Rattle.example_lines.specs.Image.{grown, copyOf, closed, withDigit, withByte, imageFrom, imageIn, piece, partOf, Put, Stands, Kept};
 
 // ---- words and numbers

@@ -5,7 +5,7 @@ use checker::Examined;
 use device_states::Device;
 use lines::Partial;
 use places::Places;
-use script::Text;
+use texts::Text;
 
 // One byte more than a plan may have, so that a longer file is seen to be one.
 const ROOM: usize = 49153;
@@ -13,9 +13,7 @@ const ROOM: usize = 49153;
 fn print(t: Text) {
     let bytes = t.bytes;
     let n = t.length;
-    if n <= 208 {
-        io::write_all(1, &bytes[..n]);
-    }
+    io::write_all(1, texts::shown(&bytes, n));
 }
 
 // Plays a line, prints what it got, and gives the device after it.

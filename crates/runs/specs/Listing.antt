@@ -24,9 +24,10 @@ use Rattle.plan.specs.Lists.{listFrom}
 use Rattle.device_states.specs.States.{ownSlotFits, stateSlotFits, startSlot, startState, deviceFits, shownBy, stateAfterTurn}
 use Rattle.device.specs.Device.{turned, afterTurn, turnIn, turnBy, replyIn, replyBy, startBy}
 use Rattle.lines.specs.Number.{numberFrom, begins, upTo, numberUpTo, numberOf, spaceIn}
-use Rattle.script.specs.Ascii.{ascii, digits}
+use Rattle.texts.specs.Ascii.{ascii, digits}
 use Rattle.script.specs.Line.{pairOf, lineOf}
-use Rattle.script.specs.Answers.{spacedAll, headerLine, refusedLine, turnLine, responseLine, statesRow}
+use Rattle.texts.specs.Numbers.{spacedAll}
+use Rattle.script.specs.Answers.{headerLine, refusedLine, turnLine, responseLine, statesRow}
 use Rattle.sheet.specs.Listing.{lineNumber, deviceAfter, answerTo, onFirst, linesOf, answersTo, listedBy, listed}
 use Rattle.marked.specs.Sheet.{planP}
 

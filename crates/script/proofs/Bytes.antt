@@ -1,27 +1,13 @@
 -- Laws of the lines of the simulation: bytes in hexadecimal, and numbers.
 use mathlib.Core.Path.{_≡_, sym, ap, _∙_}
 use mathlib.Core.List.{List, [], _∷_, _++_}
-use Prim.Native.Nat.{ℕ, _+_, _/_, _%_, _≤_, _<_}
-use native.Mathlib.Numerals.{add-one}
-use lib.ListN.{length, getD, drop, drop-of-length-le}
-use lib.Seq.{drop-cons}
-use Rattle.script.specs.declared.Text.{Text}
-use Rattle.script.specs.Ascii.{ascii}
-use Rattle.script.specs.Text.{textOf, pushed, appended}
-use Rattle.script.specs.Answers.{spacedAll}
-use Rattle.lines.specs.Hex.{hexDigit}
-use Rattle.script.specs.SimulationLines.{hexes}
-use Rattle.script.proofs.Texts.{appended-append}
-
--- the loop over bytes
-pub hexes-again : (s : List ℕ) (i : ℕ) (t : Text) {a b : ℕ} {u r x : Text} → i < length s → a ≡ hexDigit (getD s i 0 / 16 % 16) → u ≡ pushed t a → b ≡ hexDigit (getD s i 0 % 16)
-    → r ≡ pushed u b → appended t (hexes (drop i s)) ≡ x → appended r (hexes (drop (i + 1) s)) ≡ x
-unfolding appended hexes
-hexes-again s i t h p q o e f = rw (e, q, p, o, add-one) (sym (ap (λ (l : List ℕ). appended t (hexes l)) (drop-cons s i 0 h)) ∙ f)
-
-pub hexes-done : (s : List ℕ) {i : ℕ} {t x : Text} → length s ≤ i → appended t (hexes (drop i s)) ≡ x → t ≡ x
-unfolding appended hexes
-hexes-done s {i} {t} h f = sym (ap (λ (l : List ℕ). appended t (hexes l)) (drop-of-length-le s h)) ∙ f
+use Prim.Native.Nat.{ℕ}
+use Rattle.texts.specs.declared.Text.{Text}
+use Rattle.texts.specs.Ascii.{ascii}
+use Rattle.texts.specs.Text.{textOf, pushed, appended}
+use Rattle.texts.specs.Numbers.{spacedAll}
+use Rattle.texts.specs.Digits.{hexes}
+use Rattle.texts.proofs.Texts.{appended-append}
 
 pub bytes-by : (word s : List ℕ) {t u x r : Text} → t ≡ textOf [] → u ≡ appended t word → x ≡ appended u (hexes s) → r ≡ pushed x 10
     → r ≡ appended (textOf []) (word ++ hexes s ++ ascii "\n")

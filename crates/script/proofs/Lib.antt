@@ -1,5 +1,5 @@
 pub mod Parts
-pub mod Texts
+pub mod States
 pub mod Lines
 pub mod Takes
 pub mod Bytes

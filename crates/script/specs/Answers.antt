@@ -1,7 +1,6 @@
 -- Document 01, "The two-valve sheet": the lines that the listing program prints, each with its line feed.
 use Prim.Native.Nat.{ℕ}
-use Prim.Native.Char.{code}
-use mathlib.Core.List.{List, [], _∷_, _++_, map}
+use mathlib.Core.List.{List, _++_, map}
 use lib.ListN.{take}
 use Rattle.modules.specs.declared.Own.{Own}
 use Rattle.modules.specs.declared.Turn.the-variants.{Event, Stray, Nothing}
@@ -10,15 +9,8 @@ use Rattle.modules.specs.declared.Called.the-variants.{Done, Refused as CallRef
 use Rattle.device_states.specs.declared.Device.{Device}
 use Rattle.device.specs.declared.Turning.{Turning}
 use Rattle.device.specs.declared.Turning.the-variants.{Turned, Refused as TurnRefused}
-use Rattle.script.specs.Ascii.{ascii, decimal}
-
--- a number with the space before it
-abbrev pub spaced : ℕ → List ℕ
-spaced n = code " " ∷ decimal n
-
-unfoldable pub spacedAll : List ℕ → List ℕ
-spacedAll [] = []
-spacedAll (n ∷ ns) = spaced n ++ spacedAll ns
+use Rattle.texts.specs.Ascii.{ascii}
+use Rattle.texts.specs.Numbers.{spaced, spacedAll}
 
 -- "Header: modules, supervisors, events."
 unfoldable pub headerLine : ℕ → ℕ → ℕ → List ℕ

@@ -6,9 +6,10 @@ use Rattle.device.specs.declared.Turning.the-variants.{Turned, Refused as TurnR
 use Rattle.device_states.specs.States.{emptyDevice}
 use Rattle.lines.specs.Number.{numberFrom, begins, upTo, numberUpTo, numberOf, spaceIn}
 use Rattle.script.specs.declared.Line.the-variants.{Turn, Response, Misshapen}
-use Rattle.script.specs.Ascii.{ascii, digits}
+use Rattle.texts.specs.Ascii.{ascii, digits}
 use Rattle.script.specs.Line.{pairOf, lineOf}
-use Rattle.script.specs.Answers.{spacedAll, headerLine, planRefusedLine, refusedLine, turnLine, responseLine, statesRow, statesLine}
+use Rattle.texts.specs.Numbers.{spacedAll}
+use Rattle.script.specs.Answers.{headerLine, planRefusedLine, refusedLine, turnLine, responseLine, statesRow, statesLine}
 
 -- the sheet's script, and numbers up to 255
 pub record Scripts : Type 0 where

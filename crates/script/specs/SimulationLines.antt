@@ -1,6 +1,6 @@
 -- The lines that the simulation prints, each with its line feed: what a step, a delivery or a tick got, and a message sent, by its bytes.
-use Prim.Native.Nat.{ℕ, _/_, _%_}
-use mathlib.Core.List.{List, [], _∷_, _++_}
+use Prim.Native.Nat.{ℕ}
+use mathlib.Core.List.{List, _++_}
 use Rattle.device_states.specs.declared.Device.{Device}
 use Rattle.modules.specs.declared.Turn.the-variants.{Event, Stray, Nothing}
 use Rattle.modules.specs.declared.Called.{Called}
@@ -9,14 +9,10 @@ use Rattle.permits.specs.declared.Stepped.{Stepped}
 use Rattle.permits.specs.declared.Stepped.the-variants.{Turned, Bids, Waits, Refused as StepRefused}
 use Rattle.permits.specs.declared.Served.{Served}
 use Rattle.permits.specs.declared.Served.the-variants.{Sends, Waits as ServedWaits, Refused as ServedRefused}
-use Rattle.lines.specs.Hex.{hexDigit}
-use Rattle.script.specs.Ascii.{ascii}
-use Rattle.script.specs.Answers.{spaced, refusedLine, statesRow}
-
--- each byte by two digits
-unfoldable pub hexes : List ℕ → List ℕ
-hexes [] = []
-hexes (b ∷ bs) = hexDigit (b / 16 % 16) ∷ hexDigit (b % 16) ∷ hexes bs
+use Rattle.texts.specs.Ascii.{ascii}
+use Rattle.texts.specs.Digits.{hexes}
+use Rattle.texts.specs.Numbers.{spaced}
+use Rattle.script.specs.Answers.{refusedLine, statesRow}
 
 unfoldable pub sentLine : List ℕ → List ℕ
 sentLine bs = ascii "sent " ++ hexes bs ++ ascii "\n"

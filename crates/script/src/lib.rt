@@ -1,13 +1,15 @@
 // The lines of the listing and the simulation: what a line of the listing's script is, and lines of output as values.
 ghost use mathlib.Core.Path.{_≡_};
-ghost use mathlib.Core.List.{[], _++_};
-ghost use Prim.Native.Nat.{_+_, _*_, _%_, _≤_, _<_};
+ghost use mathlib.Core.List.{_++_};
+ghost use Prim.Native.Nat.{_+_, _≤_};
 ghost use lib.ListN.{length, take};
-ghost use Rattle.script.specs.Ascii.{ascii, decimal};
+ghost use Rattle.texts.specs.Ascii.{ascii};
+ghost use Rattle.texts.specs.Digits.{hexes};
+ghost use Rattle.texts.specs.Numbers.{spaced, spacedAll};
+ghost use Rattle.texts.specs.Text.{textOf, appended, cut};
 ghost use Rattle.script.specs.Line.{turnBy, responseBy, pairOf, lineOf, parsedOf};
-ghost use Rattle.script.specs.Text.{textOf, pushed, appended, cut};
-ghost use Rattle.script.specs.Answers.{spaced, spacedAll, statesOf, headerLine, planRefusedLine, refusedLine, turnLine, responseLine, statesRow, statesLine};
-ghost use Rattle.script.specs.SimulationLines.{hexes, sentLine, deliveredLine, steppedLine, servedLine, tickLine, nothingLine, deviceLine};
+ghost use Rattle.script.specs.Answers.{statesOf, headerLine, planRefusedLine, refusedLine, turnLine, responseLine, statesRow, statesLine};
+ghost use Rattle.script.specs.SimulationLines.{sentLine, deliveredLine, steppedLine, servedLine, tickLine, nothingLine, deviceLine};
 use bits::Maybe;
 use device::Turning;
 use device_states::Device;
@@ -17,18 +19,13 @@ use modules::Own;
 use modules::Turn;
 use permits::Served;
 use permits::Stepped;
+use texts::Text;
 
 // What a line of the script is.
 pub enum Line {
     Turn(u8),
     Response(u8, u8),
     Misshapen,
-}
-
-// A line of output: its bytes, zeros after them, and how many they are.
-pub struct Text {
-    pub bytes: [u8; 208],
-    pub length: usize,
 }
 
 fn turn_by(m: Maybe) -> Line
@@ -98,79 +95,6 @@ pub fn parsed(p: Partial) -> Line
     }
 }
 
-fn empty() -> Text
-    ensures { λ r. ⌜ r ≡ textOf [] ⌝ }
-{
-    Text {
-        bytes: [0; 208],
-        length: 0,
-    }
-}
-
-// The text with one byte more, if there is room.
-fn push(t: Text, b: u8) -> Text
-    ensures { λ r. ⌜ r ≡ pushed t b ⌝ }
-{
-    let at = t.length;
-    if at < 208 {
-        let mut next = t;
-        next.bytes[at] = b;
-        next.length = at + 1;
-        next
-    } else {
-        t
-    }
-}
-
-fn push_all(t: Text, s: &[u8]) -> Text
-    ensures { λ r. ⌜ r ≡ appended t (now (s .entry)) ⌝ }
-{
-    let mut next = t;
-    let mut i: usize = 0;
-    while i < s.len() {
-        next = push(next, s[i]);
-        i += 1;
-    }
-    next
-}
-
-// The text with a number in decimal behind it.
-fn push_number(t: Text, n: usize) -> Text
-    ensures { λ r. ⌜ r ≡ appended t (decimal n) ⌝ }
-{
-    if n < 10 {
-        push(t, b'0' + n as u8)
-    } else {
-        let next = push_number(t, n / 10);
-        push(next, b'0' + (n % 10) as u8)
-    }
-}
-
-fn push_spaced(t: Text, n: usize) -> Text
-    ensures { λ r. ⌜ r ≡ appended t (spaced n) ⌝ }
-{
-    push_number(push(t, b' '), n)
-}
-
-fn push_field(t: Text, n: u8) -> Text
-    ensures { λ r. ⌜ r ≡ appended t (spaced n) ⌝ }
-{
-    push_spaced(t, words::wide(n))
-}
-
-// The numbers of a slice, and how long they are at most.
-fn push_numbers(t: Text, s: &[u8]) -> Text
-    ensures { λ r. ⌜ (r ≡ appended t (spacedAll (now (s .entry)))) × (length (spacedAll (now (s .entry))) ≤ 4 * length (now (s .entry))) ⌝ }
-{
-    let mut next = t;
-    let mut i: usize = 0;
-    while i < s.len() {
-        next = push_field(next, s[i]);
-        i += 1;
-    }
-    next
-}
-
 fn state_of(own: Own) -> u8
     ensures { λ r. ⌜ r ≡ own .state ⌝ }
 {
@@ -187,7 +111,7 @@ fn push_states(t: Text, modules: [Own; 16], n: usize) -> Text
         if 16 <= i {
             return next;
         }
-        next = push_field(next, state_of(modules[i]));
+        next = texts::push_field(next, state_of(modules[i]));
         i += 1;
     }
     next
@@ -198,9 +122,9 @@ fn push_first(t: Text, states: [u8; 32], n: usize) -> Text
     ensures { λ r. ⌜ (r ≡ appended t (spacedAll (take n states))) × (length (spacedAll (take n states)) ≤ 128) ⌝ }
 {
     if n < 32 {
-        push_numbers(t, &states[..n])
+        texts::push_numbers(t, &states[..n])
     } else {
-        push_numbers(t, &states)
+        texts::push_numbers(t, &states)
     }
 }
 
@@ -209,7 +133,10 @@ fn short_line(first: &[u8], n: u8, last: &[u8]) -> Text
     requires { ⌜ length (now first) + length (now last) ≤ 100 ⌝ }
     ensures { λ r. ⌜ r ≡ textOf (now (first .entry) ++ spaced n ++ now (last .entry)) ⌝ }
 {
-    push_all(push_field(push_all(empty(), first), n), last)
+    texts::push_all(
+        texts::push_field(texts::push_all(texts::empty(), first), n),
+        last,
+    )
 }
 
 // Two words, each with a number behind it, and the line feed.
@@ -217,24 +144,27 @@ fn long_line(first: &[u8], m: u8, second: &[u8], e: u8) -> Text
     requires { ⌜ length (now first) + length (now second) ≤ 100 ⌝ }
     ensures { λ r. ⌜ r ≡ textOf (now (first .entry) ++ spaced m ++ now (second .entry) ++ spaced e ++ ascii "\n") ⌝ }
 {
-    let t = push_field(push_all(empty(), first), m);
-    push(push_field(push_all(t, second), e), b'\n')
+    let t = texts::push_field(texts::push_all(texts::empty(), first), m);
+    texts::push(texts::push_field(texts::push_all(t, second), e), b'\n')
 }
 
 // `plan 2 1 4`.
 pub fn header_line(modules: u8, supervisors: u8, events: u8) -> Text
     ensures { λ r. ⌜ r ≡ textOf (headerLine modules supervisors events) ⌝ }
 {
-    let t = push_field(push_all(empty(), b"plan"), modules);
-    push(push_field(push_field(t, supervisors), events), b'\n')
+    let t = texts::push_field(texts::push_all(texts::empty(), b"plan"), modules);
+    texts::push(
+        texts::push_field(texts::push_field(t, supervisors), events),
+        b'\n',
+    )
 }
 
 // `plan refused N at B`.
 pub fn plan_refused_line(n: u8, at: usize) -> Text
     ensures { λ r. ⌜ r ≡ textOf (planRefusedLine n at) ⌝ }
 {
-    let t = push_field(push_all(empty(), b"plan refused"), n);
-    push(push_spaced(push_all(t, b" at"), at), b'\n')
+    let t = texts::push_field(texts::push_all(texts::empty(), b"plan refused"), n);
+    texts::push(texts::push_spaced(texts::push_all(t, b" at"), at), b'\n')
 }
 
 // `refused N`.
@@ -275,9 +205,13 @@ fn states_row(word: &[u8], d: Device, modules: u8, supervisors: u8) -> Text
 {
     let own = d.modules;
     let states = d.supervisors;
-    let t = push_states(push_all(empty(), word), own, words::wide(modules));
+    let t = push_states(
+        texts::push_all(texts::empty(), word),
+        own,
+        words::wide(modules),
+    );
     let t = push_first(t, states, words::wide(supervisors));
-    push(t, b'\n')
+    texts::push(t, b'\n')
 }
 
 // `states 1 0 0`.
@@ -289,25 +223,14 @@ pub fn states_line(d: Device, modules: u8, supervisors: u8) -> Text
 
 // ---- the lines of the simulation
 
-// The text with bytes in hexadecimal behind it.
-fn push_hexes(t: Text, s: &[u8]) -> Text
-    ensures { λ r. ⌜ r ≡ appended t (hexes (now (s .entry))) ⌝ }
-{
-    let mut next = t;
-    let mut i: usize = 0;
-    while i < s.len() {
-        let b = s[i];
-        next = push(push(next, lines::hex_digit(b / 16)), lines::hex_digit(b));
-        i += 1;
-    }
-    next
-}
-
 // A word and bytes in hexadecimal.
 fn bytes_line(word: &[u8], s: &[u8]) -> Text
     ensures { λ r. ⌜ r ≡ cut (now (word .entry) ++ hexes (now (s .entry)) ++ ascii "\n") ⌝ }
 {
-    push(push_hexes(push_all(empty(), word), s), b'\n')
+    texts::push(
+        texts::push_hexes(texts::push_all(texts::empty(), word), s),
+        b'\n',
+    )
 }
 
 // `sent BYTES`.
@@ -365,14 +288,14 @@ pub fn served_line(v: u8, a: Served) -> Text
 pub fn numbers(s: &[u8]) -> Text
     ensures { λ r. ⌜ r ≡ cut (spacedAll (now (s .entry))) ⌝ }
 {
-    push_numbers(empty(), s)
+    texts::push_numbers(texts::empty(), s)
 }
 
 // `nothing`.
 pub fn nothing_line() -> Text
     ensures { λ r. ⌜ r ≡ textOf nothingLine ⌝ }
 {
-    push_all(empty(), b"nothing\n")
+    texts::push_all(texts::empty(), b"nothing\n")
 }
 
 // `device 1 0 0`.

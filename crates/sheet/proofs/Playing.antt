@@ -8,8 +8,8 @@ use Rattle.device.specs.declared.DeviceCalled.{DeviceCalled}
 use Rattle.device.specs.Device.{turnCall, respondCall}
 use Rattle.script.specs.declared.Line.{Line}
 use Rattle.script.specs.declared.Line.the-variants.{Turn, Response, Misshapen}
-use Rattle.script.specs.declared.Text.{Text}
-use Rattle.script.specs.Text.{textOf}
+use Rattle.texts.specs.declared.Text.{Text}
+use Rattle.texts.specs.Text.{textOf}
 use Rattle.script.specs.Answers.{refusedLine, turnLine, responseLine}
 use Rattle.sheet.specs.Listing.{lineNumber, deviceAfter, answerTo, played}
 

@@ -4,7 +4,7 @@ use mathlib.Core.List.{[], _∷_}
 use Rattle.reader.specs.Walk.{walkOf, recordsIn}
 use Rattle.rules.specs.Check.{checkWalk, verdictOf}
 use Rattle.device.specs.Device.{startBy}
-use Rattle.script.specs.Ascii.{ascii, digits}
+use Rattle.texts.specs.Ascii.{ascii, digits}
 use Rattle.script.specs.Answers.{planRefusedLine}
 use Rattle.sheet.specs.Listing.{onFirst, linesOf, listedBy, listed}
 

@@ -16,7 +16,7 @@ use Rattle.lines.specs.Partial.{begun, withByte, hasByte}
 use Rattle.script.specs.declared.Line.{Line}
 use Rattle.script.specs.declared.Line.the-variants.{Turn, Response, Misshapen}
 use Rattle.script.specs.Line.{lineOf, parsedOf}
-use Rattle.script.specs.Text.{textOf}
+use Rattle.texts.specs.Text.{textOf}
 use Rattle.script.specs.Answers.{headerLine, planRefusedLine, refusedLine, turnLine, responseLine, statesLine}
 use Rattle.sheet.specs.declared.Played.{Played}
 

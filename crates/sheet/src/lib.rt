@@ -3,7 +3,7 @@ ghost use mathlib.Core.Path.{_≡_};
 ghost use Rattle.sheet.specs.Listing.{played};
 use device_states::Device;
 use script::Line;
-use script::Text;
+use texts::Text;
 
 // The number of a line that is neither `t M` nor `r M E`.
 const MISSHAPEN: u8 = 10;

@@ -7,8 +7,8 @@ use checker::Examined;
 use lines::Partial;
 use parties::Parties;
 use places::Places;
-use script::Text;
 use simulation::Answer;
+use texts::Text;
 use wire::Place;
 use wire::Wire;
 
@@ -26,9 +26,7 @@ struct State {
 fn print(t: Text) {
     let bytes = t.bytes;
     let n = t.length;
-    if n <= 208 {
-        io::write_all(1, &bytes[..n]);
-    }
+    io::write_all(1, texts::shown(&bytes, n));
 }
 
 fn print_row(word: &[u8], r: Row) {

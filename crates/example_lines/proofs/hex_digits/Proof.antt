@@ -3,7 +3,7 @@ use mathlib.Core.Path.{_≡_, refl}
 use mathlib.Core.List.{_++_, append-nil}
 use Prim.Native.Nat.{_≤_}
 use lib.ListN.{length, drop}
-use Rattle.example_lines.specs.Digits.{hexDigits}
+use Rattle.texts.specs.Digits.{hexDigits}
 use Rattle.example_lines.proofs.Words.{hex-again, hex-done, long-again}
 use Rattle.example_lines.proofs.hex_digits.Statement.{statement}
 use Rattle.example_lines.proofs.hex_digits.Tie as tie

@@ -1,9 +1,9 @@
 use borrow.Author.Needs.{needs}
 use native.Mathlib.Nat.{le-refl}
 use native.Mathlib.Omega.{arith}
-use Rattle.script.specs.Ascii.{ascii}
+use Rattle.texts.specs.Ascii.{ascii}
 use Rattle.script.specs.SimulationLines.{nothingLine}
-use Rattle.script.proofs.Texts.{so-empty, so-all}
+use Rattle.texts.proofs.Texts.{so-empty, so-all}
 use Rattle.script.proofs.nothing_line.Statement.{statement}
 use Rattle.script.proofs.nothing_line.Tie as tie
 

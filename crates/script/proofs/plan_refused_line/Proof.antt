@@ -6,11 +6,12 @@ use native.Mathlib.Nat.{le-refl}
 use native.Mathlib.Omega.{arith}
 use mir.Syntax.{w8, w64}
 use mir.Val.{Fits}
-use Rattle.script.specs.declared.Text.{Text}
-use Rattle.script.specs.Ascii.{ascii}
-use Rattle.script.specs.Text.{textOf, pushed, appended}
-use Rattle.script.specs.Answers.{spaced, planRefusedLine}
-use Rattle.script.proofs.Texts.{so-empty, so-all, so-field, so-wide, so-push}
+use Rattle.texts.specs.declared.Text.{Text}
+use Rattle.texts.specs.Ascii.{ascii}
+use Rattle.texts.specs.Text.{textOf, pushed, appended}
+use Rattle.texts.specs.Numbers.{spaced}
+use Rattle.script.specs.Answers.{planRefusedLine}
+use Rattle.texts.proofs.Texts.{so-empty, so-all, so-field, so-wide, so-push}
 use Rattle.script.proofs.plan_refused_line.Statement.{statement}
 use Rattle.script.proofs.plan_refused_line.Tie as tie
 

@@ -1,13 +1,14 @@
 use mathlib.Core.Path.{_≡_, sym}
 use mathlib.Core.List.{List}
-use Prim.Native.Nat.{ℕ, _*_, _≤_, _<_}
+use Prim.Native.Nat.{ℕ, _≤_, _<_}
 use native.Mathlib.Omega.{arith}
-use lib.ListN.{length, take, length-take}
+use lib.ListN.{length, take}
 use lib.Seq.{take-all, length-take-le}
 use borrow.Author.Needs.{needs}
-use Rattle.script.specs.declared.Text.{Text}
-use Rattle.script.specs.Text.{appended}
-use Rattle.script.specs.Answers.{spacedAll}
+use Rattle.texts.specs.declared.Text.{Text}
+use Rattle.texts.specs.Text.{appended}
+use Rattle.texts.specs.Numbers.{spacedAll}
+use Rattle.script.proofs.States.{first-short}
 use Rattle.script.proofs.push_first.Statement.{statement}
 use Rattle.script.proofs.push_first.Tie as tie
 
@@ -15,15 +16,8 @@ module _ (s : List ℕ) (n : ℕ) (e : length s ≡ 32) where
   count : n < 32 → n ≡ length (take n s)
   count h = sym (length-take-le n s (omega arith))
 
-  fewer : {k : ℕ} → k ≤ 4 * length (take n s) → k ≤ 128
-  fewer h = omega (arith, length-take n s)
-
-  module _ (h : 32 ≤ n) where
-    all-of : (t : Text) {r : Text} → r ≡ appended t (spacedAll s) → r ≡ appended t (spacedAll (take n s))
-    all-of t f = rw (take-all n s (omega arith)) f
-
-    as-many : length (spacedAll s) ≤ 4 * length s → length (spacedAll (take n s)) ≤ 128
-    as-many f = rw (take-all n s (omega arith)) (omega arith)
+  all-of : 32 ≤ n → (t : Text) {r : Text} → r ≡ appended t (spacedAll s) → r ≡ appended t (spacedAll (take n s))
+  all-of h t f = rw (take-all n s (omega arith)) f
 
 array-share-prefix-states : tie.Need-array-share-prefix-states
 array-share-prefix-states c = search needs
@@ -41,10 +35,10 @@ push-numbers-requires-2 : tie.Need-push-numbers-requires-2
 push-numbers-requires-2 c κs = search needs
 
 returns : tie.Need-returns
-returns c = (c .push-numbers .ensures .0, search fewer)
+returns c = (c .push-numbers .ensures, first-short (c .before .before .before .args .t2) (c .before .before .before .args .n) (search needs) (λ i. search needs))
 
 returns-2 : tie.Need-returns-2
-returns-2 c = (search all-of, search as-many)
+returns-2 c = (search all-of, first-short (c .before .before .before .args .t2) (c .before .before .before .args .n) (search needs) (λ i. search needs))
 
 pub push-first-spec : {M : Type 1} → statement M
 push-first-spec =

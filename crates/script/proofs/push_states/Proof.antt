@@ -3,18 +3,18 @@ use Prim.Native.Nat.{_-_}
 use lib.ListN.{take}
 use borrow.Author.Needs.{needs}
 use Rattle.script.specs.Answers.{statesOf}
-use Rattle.script.proofs.Texts.{Listed, listed-first, states-again, states-done, states-short}
+use Rattle.script.proofs.States.{Passed, passed-first, states-again, states-done, states-short}
 use Rattle.script.proofs.push_states.Statement.{statement}
 use Rattle.script.proofs.push_states.Tie as tie
 
 abbrev Inv-loop : tie.InvT-loop
-Inv-loop n modules next₀ i₀ next i = Listed next₀ (take n (statesOf modules)) next i
+Inv-loop n modules next₀ i₀ next i = Passed next₀ (take n (statesOf modules)) next i
 
 abbrev μ-loop : tie.MeasureT-loop
 μ-loop n modules next₀ i₀ next i = n - i
 
 loop-holds : tie.Need-loop-holds Inv-loop μ-loop
-loop-holds c = search listed-first
+loop-holds c = search passed-first
 
 returns : tie.Need-returns Inv-loop μ-loop
 returns c = (search (states-done, inl), search (states-short, inl))

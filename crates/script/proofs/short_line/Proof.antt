@@ -7,10 +7,10 @@ use native.Mathlib.Omega.{arith}
 use lib.ListN.{length}
 use mir.Syntax.{w8}
 use mir.Val.{Fits}
-use Rattle.script.specs.declared.Text.{Text}
-use Rattle.script.specs.Text.{textOf, appended}
-use Rattle.script.specs.Answers.{spaced}
-use Rattle.script.proofs.Texts.{so-empty, so-all, so-field}
+use Rattle.texts.specs.declared.Text.{Text}
+use Rattle.texts.specs.Text.{textOf, appended}
+use Rattle.texts.specs.Numbers.{spaced}
+use Rattle.texts.proofs.Texts.{so-empty, so-all, so-field}
 use Rattle.script.proofs.short_line.Statement.{statement}
 use Rattle.script.proofs.short_line.Tie as tie
 

@@ -5,11 +5,12 @@ use Prim.Native.Nat.{ℕ, _≤_}
 use native.Mathlib.Omega.{arith}
 use lib.ListN.{length, take}
 use Rattle.device_states.specs.declared.Device.{Device}
-use Rattle.script.specs.declared.Text.{Text}
-use Rattle.script.specs.Ascii.{ascii}
-use Rattle.script.specs.Text.{textOf, pushed, appended}
-use Rattle.script.specs.Answers.{spacedAll, statesOf, statesRow}
-use Rattle.script.proofs.Texts.{so-empty, so-all, so-push}
+use Rattle.texts.specs.declared.Text.{Text}
+use Rattle.texts.specs.Ascii.{ascii}
+use Rattle.texts.specs.Text.{textOf, pushed, appended}
+use Rattle.texts.specs.Numbers.{spacedAll}
+use Rattle.script.specs.Answers.{statesOf, statesRow}
+use Rattle.texts.proofs.Texts.{so-empty, so-all, so-push}
 use Rattle.script.proofs.states_row.Statement.{statement}
 use Rattle.script.proofs.states_row.Tie as tie
 

@@ -2,10 +2,11 @@ use borrow.Author.Needs.{needs}
 use mathlib.Core.Path.{_≡_, sym, ap, _∙_}
 use mathlib.Core.List.{_++_}
 use Prim.Native.Nat.{ℕ}
-use Rattle.script.specs.declared.Text.{Text}
-use Rattle.script.specs.Ascii.{ascii}
-use Rattle.script.specs.Text.{textOf}
-use Rattle.script.specs.Answers.{spaced, refusedLine}
+use Rattle.texts.specs.declared.Text.{Text}
+use Rattle.texts.specs.Ascii.{ascii}
+use Rattle.texts.specs.Text.{textOf}
+use Rattle.texts.specs.Numbers.{spaced}
+use Rattle.script.specs.Answers.{refusedLine}
 use Rattle.script.specs.SimulationLines.{steppedLine}
 use Rattle.modules.specs.declared.Turn.{Turn}
 use Rattle.modules.specs.declared.Turn.the-variants.{Event, Stray, Nothing}

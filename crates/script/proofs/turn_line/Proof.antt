@@ -1,5 +1,5 @@
 use borrow.Author.Needs.{needs}
-use Rattle.script.specs.Ascii.{ascii}
+use Rattle.texts.specs.Ascii.{ascii}
 use Rattle.script.specs.Answers.{turnLine}
 use mathlib.Core.Path.{_≡_, sym, ap, _∙_}
 use mathlib.Core.List.{_++_}
@@ -8,9 +8,10 @@ use Rattle.modules.specs.declared.Turn.{Turn}
 use Rattle.modules.specs.declared.Turn.the-variants.{Event, Stray, Nothing}
 use Rattle.device.specs.declared.Turning.{Turning}
 use Rattle.device.specs.declared.Turning.the-variants.{Turned, Refused}
-use Rattle.script.specs.declared.Text.{Text}
-use Rattle.script.specs.Text.{textOf}
-use Rattle.script.specs.Answers.{spaced, refusedLine}
+use Rattle.texts.specs.declared.Text.{Text}
+use Rattle.texts.specs.Text.{textOf}
+use Rattle.texts.specs.Numbers.{spaced}
+use Rattle.script.specs.Answers.{refusedLine}
 use Rattle.script.proofs.turn_line.Statement.{statement}
 use Rattle.script.proofs.turn_line.Tie as tie
 

@@ -1,9 +1,9 @@
 use Prim.Native.Nat.{_-_}
 use lib.ListN.{length}
 use borrow.Author.Needs.{needs}
-use Rattle.script.proofs.Texts.{Listed, listed-first, slice-again, listed-done, listed-short}
-use Rattle.script.proofs.push_numbers.Statement.{statement}
-use Rattle.script.proofs.push_numbers.Tie as tie
+use Rattle.texts.proofs.Texts.{Listed, listed-first, slice-again, listed-done}
+use Rattle.texts.proofs.push_numbers.Statement.{statement}
+use Rattle.texts.proofs.push_numbers.Tie as tie
 
 abbrev Inv-loop : tie.InvT-loop
 Inv-loop s next₀ i₀ next i = Listed next₀ s next i
@@ -30,7 +30,7 @@ loop-again : tie.Need-loop-again Inv-loop μ-loop
 loop-again c = search slice-again
 
 returns : tie.Need-returns Inv-loop μ-loop
-returns c = (search listed-done, search listed-short)
+returns c = search listed-done
 
 pub push-numbers-spec : {M : Type 1} → statement M
 push-numbers-spec =

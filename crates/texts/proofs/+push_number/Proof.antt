@@ -3,13 +3,13 @@ use native.Mathlib.Omega.{arith}
 use borrow.Author.Needs.{needs}
 use borrow.Fn.Kinds.{In}
 use borrow.Fn.PlainCycle.{Measures, is, falls, and}
-use Rattle.script.proofs.Texts.{number-small, number-longer}
-use Rattle.script.proofs.push_number.Reads as push-number
-use Rattle.script.proofs.push_number.Kinds as push-number-kinds
-use Rattle.script.proofs.+push_number.Lts-push_number as push-number-lts
-use Rattle.script.proofs.push.Reads as push-reads
-use Rattle.script.proofs.+push_number.{statement}
-use Rattle.script.proofs.+push_number.Tie.{close}
+use Rattle.texts.proofs.Texts.{number-small, number-longer}
+use Rattle.texts.proofs.push_number.Reads as push-number
+use Rattle.texts.proofs.push_number.Kinds as push-number-kinds
+use Rattle.texts.proofs.+push_number.Lts-push_number as push-number-lts
+use Rattle.texts.proofs.push.Reads as push-reads
+use Rattle.texts.proofs.+push_number.{statement}
+use Rattle.texts.proofs.+push_number.Tie.{close}
 
 abbrev μ-push-number : Measures 0 push-number-kinds.ps ℕ
 μ-push-number κs a = a .1 .0

@@ -2,11 +2,11 @@ use mathlib.Core.Path.{_≡_, refl}
 use Prim.Native.Nat.{_-_}
 use lib.ListN.{length, drop}
 use borrow.Author.Needs.{needs}
-use Rattle.script.specs.Text.{appended}
-use Rattle.script.specs.SimulationLines.{hexes}
-use Rattle.script.proofs.Bytes.{hexes-again, hexes-done}
-use Rattle.script.proofs.push_hexes.Statement.{statement}
-use Rattle.script.proofs.push_hexes.Tie as tie
+use Rattle.texts.specs.Text.{appended}
+use Rattle.texts.specs.Digits.{hexes}
+use Rattle.texts.proofs.Texts.{hexes-again, hexes-done}
+use Rattle.texts.proofs.push_hexes.Statement.{statement}
+use Rattle.texts.proofs.push_hexes.Tie as tie
 
 abbrev Inv-loop : tie.InvT-loop
 Inv-loop s next₀ i₀ next i = appended next (hexes (drop i s)) ≡ appended next₀ (hexes s)

@@ -1,7 +1,7 @@
 use borrow.Author.Needs.{needs}
-use Rattle.script.proofs.Texts.{field-by}
-use Rattle.script.proofs.push_field.Statement.{statement}
-use Rattle.script.proofs.push_field.Tie as tie
+use Rattle.texts.proofs.Texts.{field-by}
+use Rattle.texts.proofs.push_field.Statement.{statement}
+use Rattle.texts.proofs.push_field.Tie as tie
 
 wide-requires : tie.Need-wide-requires
 wide-requires c κs = search needs

@@ -2,10 +2,10 @@ use mathlib.Core.Path.{_≡_, refl}
 use Prim.Native.Nat.{_-_}
 use lib.ListN.{length, drop}
 use borrow.Author.Needs.{needs}
-use Rattle.script.specs.Text.{appended}
-use Rattle.script.proofs.Texts.{push-again, push-done}
-use Rattle.script.proofs.push_all.Statement.{statement}
-use Rattle.script.proofs.push_all.Tie as tie
+use Rattle.texts.specs.Text.{appended}
+use Rattle.texts.proofs.Texts.{push-again, push-done}
+use Rattle.texts.proofs.push_all.Statement.{statement}
+use Rattle.texts.proofs.push_all.Tie as tie
 
 abbrev Inv-loop : tie.InvT-loop
 Inv-loop s next₀ i₀ next i = appended next (drop i s) ≡ appended next₀ s

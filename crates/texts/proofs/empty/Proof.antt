@@ -1,7 +1,7 @@
 use mathlib.Core.Path.{refl}
-use Rattle.script.specs.Text.{textOf}
-use Rattle.script.proofs.empty.Statement.{statement}
-use Rattle.script.proofs.empty.Tie as tie
+use Rattle.texts.specs.Text.{textOf}
+use Rattle.texts.proofs.empty.Statement.{statement}
+use Rattle.texts.proofs.empty.Tie as tie
 
 returns : tie.Need-returns
 unfolding textOf

@@ -1,7 +1,7 @@
 use borrow.Author.Needs.{needs}
-use Rattle.script.proofs.Texts.{spaced-by}
-use Rattle.script.proofs.push_spaced.Statement.{statement}
-use Rattle.script.proofs.push_spaced.Tie as tie
+use Rattle.texts.proofs.Texts.{spaced-by}
+use Rattle.texts.proofs.push_spaced.Statement.{statement}
+use Rattle.texts.proofs.push_spaced.Tie as tie
 
 push-requires : tie.Need-push-requires
 push-requires c κs = search needs

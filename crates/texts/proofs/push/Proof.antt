@@ -1,8 +1,8 @@
 use borrow.Author.Needs.{needs}
 use borrow.Author.Tests.{lt-ltb, le-ltb}
-use Rattle.script.specs.Text.{pushed}
-use Rattle.script.proofs.push.Statement.{statement}
-use Rattle.script.proofs.push.Tie as tie
+use Rattle.texts.specs.Text.{pushed}
+use Rattle.texts.proofs.push.Statement.{statement}
+use Rattle.texts.proofs.push.Tie as tie
 
 element-write-next : tie.Need-element-write-next
 element-write-next c = search needs
