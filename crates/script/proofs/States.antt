@@ -37,7 +37,8 @@ module _ (ws : List Own) (n i : ℕ) {t₀ t : Text} (e : length ws ≡ 16) (p :
   counted : length (take n (statesOf ws)) ≡ min n 16
   counted = length-take n (statesOf ws) ∙ ap (min n) (length-states ws ∙ e)
 
-  pub states-again : (d : Own) {b : ℕ} {r : Text} → i < n → i < 16 → b ≡ getD ws i d .state → Fits w8 b → r ≡ appended t (spaced b) → Passed t₀ (take n (statesOf ws)) r (i + 1)
+  pub states-again : (d : Own) {b : ℕ} {r : Text} → i < n → i < 16 → b ≡ getD ws i d .state → Fits w8 b → r ≡ appended t (spaced b)
+      → Passed t₀ (take n (statesOf ws)) r (i + 1)
   states-again d {b} h k g f m =
       let o : i < length (statesOf ws) = omega (arith, length-states ws) in
       let q : b ≡ getD (take n (statesOf ws)) i 0

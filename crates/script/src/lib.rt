@@ -133,10 +133,7 @@ fn short_line(first: &[u8], n: u8, last: &[u8]) -> Text
     requires { ⌜ length (now first) + length (now last) ≤ 100 ⌝ }
     ensures { λ r. ⌜ r ≡ textOf (now (first .entry) ++ spaced n ++ now (last .entry)) ⌝ }
 {
-    texts::push_all(
-        texts::push_field(texts::push_all(texts::empty(), first), n),
-        last,
-    )
+    texts::push_all(texts::push_field(texts::word(first), n), last)
 }
 
 // Two words, each with a number behind it, and the line feed.
@@ -144,7 +141,7 @@ fn long_line(first: &[u8], m: u8, second: &[u8], e: u8) -> Text
     requires { ⌜ length (now first) + length (now second) ≤ 100 ⌝ }
     ensures { λ r. ⌜ r ≡ textOf (now (first .entry) ++ spaced m ++ now (second .entry) ++ spaced e ++ ascii "\n") ⌝ }
 {
-    let t = texts::push_field(texts::push_all(texts::empty(), first), m);
+    let t = texts::push_field(texts::word(first), m);
     texts::push(texts::push_field(texts::push_all(t, second), e), b'\n')
 }
 
@@ -152,7 +149,7 @@ fn long_line(first: &[u8], m: u8, second: &[u8], e: u8) -> Text
 pub fn header_line(modules: u8, supervisors: u8, events: u8) -> Text
     ensures { λ r. ⌜ r ≡ textOf (headerLine modules supervisors events) ⌝ }
 {
-    let t = texts::push_field(texts::push_all(texts::empty(), b"plan"), modules);
+    let t = texts::push_field(texts::word(b"plan"), modules);
     texts::push(
         texts::push_field(texts::push_field(t, supervisors), events),
         b'\n',
@@ -163,7 +160,7 @@ pub fn header_line(modules: u8, supervisors: u8, events: u8) -> Text
 pub fn plan_refused_line(n: u8, at: usize) -> Text
     ensures { λ r. ⌜ r ≡ textOf (planRefusedLine n at) ⌝ }
 {
-    let t = texts::push_field(texts::push_all(texts::empty(), b"plan refused"), n);
+    let t = texts::push_field(texts::word(b"plan refused"), n);
     texts::push(texts::push_spaced(texts::push_all(t, b" at"), at), b'\n')
 }
 
@@ -205,11 +202,7 @@ fn states_row(word: &[u8], d: Device, modules: u8, supervisors: u8) -> Text
 {
     let own = d.modules;
     let states = d.supervisors;
-    let t = push_states(
-        texts::push_all(texts::empty(), word),
-        own,
-        words::wide(modules),
-    );
+    let t = push_states(texts::word(word), own, words::wide(modules));
     let t = push_first(t, states, words::wide(supervisors));
     texts::push(t, b'\n')
 }
@@ -227,10 +220,7 @@ pub fn states_line(d: Device, modules: u8, supervisors: u8) -> Text
 fn bytes_line(word: &[u8], s: &[u8]) -> Text
     ensures { λ r. ⌜ r ≡ cut (now (word .entry) ++ hexes (now (s .entry)) ++ ascii "\n") ⌝ }
 {
-    texts::push(
-        texts::push_hexes(texts::push_all(texts::empty(), word), s),
-        b'\n',
-    )
+    texts::push(texts::push_hexes(texts::word(word), s), b'\n')
 }
 
 // `sent BYTES`.
@@ -295,7 +285,7 @@ pub fn numbers(s: &[u8]) -> Text
 pub fn nothing_line() -> Text
     ensures { λ r. ⌜ r ≡ textOf nothingLine ⌝ }
 {
-    texts::push_all(texts::empty(), b"nothing\n")
+    texts::word(b"nothing\n")
 }
 
 // `device 1 0 0`.

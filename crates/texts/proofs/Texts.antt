@@ -15,8 +15,8 @@ use borrow.Author.Tests.{lt-ltb, le-ltb}
 use Rattle.lines.specs.Hex.{hexDigit}
 use Rattle.texts.specs.declared.Text.{Text}
 use Rattle.texts.specs.Ascii.{digits, decimal}
-use Rattle.texts.specs.Text.{textOf, pushed, appended}
-use Rattle.texts.specs.Digits.{hexDigits, hexes}
+use Rattle.texts.specs.Text.{textOf, pushed, appended, cut}
+use Rattle.texts.specs.Digits.{hexDigits, hexes, bufferText}
 use Rattle.texts.specs.Numbers.{spaced, spacedAll}
 
 pub appended-append : (t : Text) (xs bs : List ℕ) → appended t (xs ++ bs) ≡ appended (appended t xs) bs
@@ -98,7 +98,9 @@ module _ {t₀ : Text} (xs : List ℕ) (t : Text) (i : ℕ) (l : Listed t₀ xs 
       let d : drop i xs ≡ n ∷ drop (i + 1) xs = rw (add-one, e) (drop-cons xs i 0 h) in
       record {
         within = omega arith;
-        rest = ap (λ (u : Text). appended u (spacedAll (drop (i + 1) xs))) g ∙ sym (ap (λ (ys : List ℕ). appended t (spacedAll ys)) d ∙ appended-append t (spaced n) _) ∙ l .rest;
+        rest =
+            ap (λ (u : Text). appended u (spacedAll (drop (i + 1) xs))) g
+            ∙ sym (ap (λ (ys : List ℕ). appended t (spacedAll ys)) d ∙ appended-append t (spaced n) _) ∙ l .rest;
       }
 
   pub slice-again : {r : Text} → i < length xs → r ≡ appended t (spaced (getD xs i 0)) → Listed t₀ xs r (i + 1)
@@ -143,8 +145,8 @@ pub record So (t : Text) (bs : List ℕ) (k : ℕ) : Type 0 where
   pub is : t ≡ textOf bs
   pub short : length bs ≤ k
 
-pub so-empty : {t : Text} → t ≡ textOf [] → So t [] 0
-so-empty e = record { is = e; short = le-refl 0 }
+pub so-word : {t : Text} (cs : List ℕ) (j : ℕ) → length cs ≤ j → j ≤ 328 → t ≡ cut cs → So t cs j
+so-word cs j g h e = record { is = e ∙ appended-text [] cs (omega arith); short = g }
 
 module _ {t : Text} {bs : List ℕ} {k : ℕ} (s : So t bs k) {r : Text} where
   pub so-all : (cs : List ℕ) (j : ℕ) → length cs ≤ j → k + j ≤ 328 → r ≡ appended t cs → So r (bs ++ cs) (k + j)
@@ -180,8 +182,8 @@ pub digits-none : (t : Text) (x : ℕ) {k : ℕ} → k ≡ 0 → t ≡ appended 
 unfolding appended hexDigits
 digits-none t x e = rw e
 
-pub digits-longer : (t : Text) {u r : Text} (k x : ℕ) {d : ℕ} → (k ≡ 0 → ⊥) → u ≡ appended t (hexDigits (k - 1) (x / 16)) → d ≡ hexDigit (x % 16 % 16) → r ≡ pushed u d
-    → r ≡ appended t (hexDigits k x)
+pub digits-longer : (t : Text) {u r : Text} (k x : ℕ) {d : ℕ} → (k ≡ 0 → ⊥) → u ≡ appended t (hexDigits (k - 1) (x / 16))
+    → d ≡ hexDigit (x % 16 % 16) → r ≡ pushed u d → r ≡ appended t (hexDigits k x)
 unfolding appended hexDigits
 digits-longer t {u} {r} k x {d} n e f g =
     let o : k ≡ suc (k - 1) = omega arith in
@@ -190,3 +192,15 @@ digits-longer t {u} {r} k x {d} n e f g =
     ∙ ap (λ (v : Text). pushed v d) e
     ∙ ap (pushed (appended t (hexDigits (k - 1) (x / 16)))) (f ∙ ap hexDigit m)
     ∙ sym (ap (λ (j : ℕ). appended t (hexDigits j x)) o ∙ appended-append t (hexDigits (k - 1) (x / 16)) (hexDigit (x % 16) ∷ []))
+
+-- a buffer
+module _ (t : Text) {r : Text} where
+  pub buffer-none : (s : List ℕ) → length s ≡ 0 → r ≡ pushed t 45 → r ≡ appended t (bufferText s)
+  unfolding appended bufferText
+  buffer-none [] h e = e
+  buffer-none (b ∷ s) h e = absurd (omega arith)
+
+  pub buffer-some : (s : List ℕ) → (length s ≡ 0 → ⊥) → r ≡ appended t (hexes s) → r ≡ appended t (bufferText s)
+  unfolding bufferText
+  buffer-some [] h e = absurd (h refl)
+  buffer-some (b ∷ s) h e = e

@@ -1,5 +1,6 @@
 -- Numbers and bytes in hexadecimal digits, as they are printed.
 use Prim.Native.Nat.{ℕ, zero, suc, _/_, _%_}
+use Prim.Native.Char.{code}
 use mathlib.Core.List.{List, [], _∷_, _++_}
 use Rattle.lines.specs.Hex.{hexDigit}
 
@@ -12,3 +13,8 @@ hexDigits (suc k) x = hexDigits k (x / 16) ++ (hexDigit (x % 16) ∷ [])
 unfoldable pub hexes : List ℕ → List ℕ
 hexes [] = []
 hexes (b ∷ bs) = hexDigits 2 b ++ hexes bs
+
+-- a buffer's bytes, or `-` for none
+unfoldable pub bufferText : List ℕ → List ℕ
+bufferText [] = code "-" ∷ []
+bufferText (b ∷ bs) = hexes (b ∷ bs)

@@ -4,9 +4,9 @@ ghost use mathlib.Core.Path.{_≡_};
 ghost use mathlib.Core.List.{[]};
 ghost use lib.ListN.{take};
 ghost use Rattle.texts.specs.Ascii.{decimal};
-ghost use Rattle.texts.specs.Digits.{hexDigits, hexes};
+ghost use Rattle.texts.specs.Digits.{hexDigits, hexes, bufferText};
 ghost use Rattle.texts.specs.Numbers.{spaced, spacedAll};
-ghost use Rattle.texts.specs.Text.{textOf, pushed, appended};
+ghost use Rattle.texts.specs.Text.{textOf, pushed, appended, cut};
 
 // A line of output: its bytes, zeros after them, and how many they are. A buffer of 160 bytes has room in hexadecimal digits, behind a space.
 pub struct Text {
@@ -55,6 +55,13 @@ pub fn push_all(t: Text, s: &[u8]) -> Text
         i += 1;
     }
     next
+}
+
+// The text of a word.
+pub fn word(s: &[u8]) -> Text
+    ensures { λ r. ⌜ r ≡ cut (now (s .entry)) ⌝ }
+{
+    push_all(empty(), s)
 }
 
 // The text with a number in decimal behind it.
@@ -118,4 +125,15 @@ pub fn push_hexes(t: Text, s: &[u8]) -> Text
         i += 1;
     }
     next
+}
+
+// The same, and `-` for no bytes.
+pub fn push_buffer(t: Text, s: &[u8]) -> Text
+    ensures { λ r. ⌜ r ≡ appended t (bufferText (now (s .entry))) ⌝ }
+{
+    if s.len() == 0 {
+        push(t, b'-')
+    } else {
+        push_hexes(t, s)
+    }
 }

@@ -3,11 +3,8 @@ use Rattle.script.proofs.Bytes.{bytes-by}
 use Rattle.script.proofs.bytes_line.Statement.{statement}
 use Rattle.script.proofs.bytes_line.Tie as tie
 
-empty-requires : tie.Need-empty-requires
-empty-requires c κs = search needs
-
-push-all-requires : tie.Need-push-all-requires
-push-all-requires c κs = search needs
+word-requires : tie.Need-word-requires
+word-requires c κs = search needs
 
 push-hexes-requires : tie.Need-push-hexes-requires
 push-hexes-requires c κs = search needs
@@ -20,4 +17,4 @@ returns c = search bytes-by
 
 pub bytes-line-spec : {M : Type 1} → statement M
 bytes-line-spec =
-    tie.close (tie.spec empty-requires push-all-requires push-hexes-requires push-requires returns)
+    tie.close (tie.spec word-requires push-hexes-requires push-requires returns)

@@ -1,5 +1,4 @@
 use borrow.Author.Needs.{needs}
-use Rattle.script.proofs.Bytes.{numbers-by}
 use Rattle.script.proofs.numbers.Statement.{statement}
 use Rattle.script.proofs.numbers.Tie as tie
 
@@ -10,7 +9,7 @@ push-numbers-requires : tie.Need-push-numbers-requires
 push-numbers-requires c κs = search needs
 
 returns : tie.Need-returns
-returns c = search numbers-by
+returns c = cc
 
 pub numbers-spec : {M : Type 1} → statement M
 numbers-spec = tie.close (tie.spec empty-requires push-numbers-requires returns)

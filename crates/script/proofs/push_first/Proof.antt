@@ -35,10 +35,16 @@ push-numbers-requires-2 : tie.Need-push-numbers-requires-2
 push-numbers-requires-2 c κs = search needs
 
 returns : tie.Need-returns
-returns c = (c .push-numbers .ensures, first-short (c .before .before .before .args .t2) (c .before .before .before .args .n) (search needs) (λ i. search needs))
+returns c = (
+  c .push-numbers .ensures,
+  first-short (c .before .before .before .args .t2) (c .before .before .before .args .n) (search needs) (λ i. search needs),
+)
 
 returns-2 : tie.Need-returns-2
-returns-2 c = (search all-of, first-short (c .before .before .before .args .t2) (c .before .before .before .args .n) (search needs) (λ i. search needs))
+returns-2 c = (
+  search all-of,
+  first-short (c .before .before .before .args .t2) (c .before .before .before .args .n) (search needs) (λ i. search needs),
+)
 
 pub push-first-spec : {M : Type 1} → statement M
 push-first-spec =

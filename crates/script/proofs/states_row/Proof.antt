@@ -1,33 +1,30 @@
 use borrow.Author.Needs.{needs}
 use mathlib.Core.Path.{_≡_}
-use mathlib.Core.List.{List, []}
+use mathlib.Core.List.{List}
 use Prim.Native.Nat.{ℕ, _≤_}
 use native.Mathlib.Omega.{arith}
 use lib.ListN.{length, take}
 use Rattle.device_states.specs.declared.Device.{Device}
 use Rattle.texts.specs.declared.Text.{Text}
 use Rattle.texts.specs.Ascii.{ascii}
-use Rattle.texts.specs.Text.{textOf, pushed, appended}
+use Rattle.texts.specs.Text.{textOf, pushed, appended, cut}
 use Rattle.texts.specs.Numbers.{spacedAll}
 use Rattle.script.specs.Answers.{statesOf, statesRow}
-use Rattle.texts.proofs.Texts.{so-empty, so-all, so-push}
+use Rattle.texts.proofs.Texts.{so-word, so-all, so-push}
 use Rattle.script.proofs.states_row.Statement.{statement}
 use Rattle.script.proofs.states_row.Tie as tie
 
-module _ (word : List ℕ) (d : Device) (m v a b : ℕ) {t u w x r : Text} where
+module _ (word : List ℕ) (d : Device) (m v a b : ℕ) {u w x r : Text} where
   states-by : r ≡ pushed x 10 → x ≡ appended w (spacedAll (take b (d .supervisors))) → length (spacedAll (take b (d .supervisors))) ≤ 128 → b ≡ v
       → w ≡ appended u (spacedAll (take a (statesOf (d .modules)))) → length (spacedAll (take a (statesOf (d .modules)))) ≤ 64 → a ≡ m
-      → u ≡ appended t word → length word ≤ 15 → t ≡ textOf [] → r ≡ textOf (statesRow word d m v)
+      → u ≡ cut word → length word ≤ 15 → r ≡ textOf (statesRow word d m v)
   unfolding ascii statesRow
-  states-by o i j q h k p g z f =
-      let s = so-all (so-all (so-empty f) word 15 z (omega arith) g) (spacedAll (take a (statesOf (d .modules)))) 64 k (omega arith) h in
+  states-by o i j q h k p g z =
+      let s = so-all (so-word word 15 z (omega arith) g) (spacedAll (take a (statesOf (d .modules)))) 64 k (omega arith) h in
       rw (← p, ← q) (so-push (so-all s (spacedAll (take b (d .supervisors))) 128 j (omega arith) i) 10 (omega arith) o .is)
 
-empty-requires : tie.Need-empty-requires
-empty-requires c κs = search needs
-
-push-all-requires : tie.Need-push-all-requires
-push-all-requires c κs = search needs
+word-requires : tie.Need-word-requires
+word-requires c κs = search needs
 
 wide-requires : tie.Need-wide-requires
 wide-requires c κs = search needs
@@ -51,8 +48,7 @@ pub states-row-spec : {M : Type 1} → statement M
 states-row-spec =
     tie.close
     (tie.spec
-    empty-requires
-    push-all-requires
+    word-requires
     wide-requires
     push-states-requires
     wide-requires-2
