@@ -8,14 +8,14 @@ ghost use Rattle.fields.specs.Fields.{halfBytes, halfAt, flagByte, float
 // ---- read
 
 // Whether bits are those of a NaN.
-fn is_nan(bits: u64) -> bool
+pub fn is_nan(bits: u64) -> bool
     ensures { λ r. ⌜ r ≡ nanBits binary64 bits ⌝ }
 {
     0x7ff0_0000_0000_0000 < bits % 0x8000_0000_0000_0000
 }
 
 // The f64 of bits, a NaN's too.
-fn float_of(bits: u64) -> f64
+pub fn float_of(bits: u64) -> f64
     ensures { λ r. ⌜ r ≡ ofBits binary64 bits ⌝ }
 {
     if is_nan(bits) {
@@ -26,7 +26,7 @@ fn float_of(bits: u64) -> f64
 }
 
 // The bits of an f64, for a NaN those of the quiet one.
-fn bits_of(x: f64) -> u64
+pub fn bits_of(x: f64) -> u64
     ensures { λ r. ⌜ r ≡ toBits binary64 x ⌝ }
 {
     if x == x {
