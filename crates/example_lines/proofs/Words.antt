@@ -1,20 +1,18 @@
 -- Laws of words and numbers.
 use mathlib.Core.Path.{_≡_, refl, sym, ap, _∙_}
-use mathlib.Core.List.{List, [], _∷_, _++_, append-assoc}
+use mathlib.Core.List.{List, [], _∷_}
 use mathlib.Core.Bool.{Bool, true, false, cond}
-use Prim.Native.Nat.{ℕ, suc, _+_, _-_, _*_, _/_, _%_, _≤_, _<_}
+use Prim.Native.Nat.{ℕ, suc, _+_, _-_, _*_, _/_, _≤_, _<_}
 use native.Mathlib.Nat.{add-zero, add-assoc, div-lt-iff-lt-mul}
 use native.Mathlib.Numerals.{add-one}
 use native.Mathlib.Omega.{arith}
-use lib.ListN.{length, getD, take, drop, set, drop-of-length-le, length-drop, length-set}
-use lib.Seq.{drop-cons, length-take-le, take-all, take-length, drop-set-lt, getD-set-same}
+use lib.ListN.{length, getD, take, drop, drop-of-length-le, length-drop}
+use lib.Seq.{drop-cons, length-take-le, take-all, take-length}
 use lib.Dec.{eqb, ltb}
 use borrow.Author.Tests.{le-leb, lt-leb, eq-eqb, ne-eqb, lt-ltb, le-ltb, ltb-true, ltb-false}
 use Rattle.bytes.specs.Bytes.{indexOf, indexAfter, slice}
 use Rattle.lines.specs.Number.{spaceIn}
-use Rattle.example_lines.specs.Words.{lineEnd, spaceOf, spacesIn, wordFrom, digitOf, longer, numberFrom}
-use Rattle.lines.specs.Hex.{hexDigit}
-use Rattle.texts.specs.Digits.{hexDigits}
+use Rattle.example_lines.specs.Words.{lineEnd, lineAt, spaceOf, spacesIn, wordFrom, digitOf, longer, numberFrom}
 
 -- ---- the end of a line
 
@@ -35,13 +33,17 @@ index-within b (x ∷ s) = go (eqb x b) (index-within b s)
     go true h = omega arith
     go false h = omega arith
 
--- a caller's line stands in the text
+-- a line stands in the text
 module _ (s : List ℕ) (from : ℕ) {r : ℕ} (e : r ≡ lineEnd s from) where
-  pub end-behind : from ≤ r
-  end-behind = omega arith
-
   pub end-within : from ≤ length s → r ≤ length s
   end-within h = let g = index-within 10 (drop from s) in omega (arith, length-drop from s)
+
+  pub line-by : take (r - from) (drop from s) ≡ lineAt s from
+  line-by = let n : r - from ≡ indexOf 10 (drop from s) = omega arith in rw n
+
+pub line-past : (s : List ℕ) (from : ℕ) → length s ≤ from → [] ≡ lineAt s from
+unfolding indexOf
+line-past s from h = simp (drop-of-length-le s h)
 
 -- ---- spaces and words
 
@@ -166,32 +168,3 @@ module _ (base : ℕ) (s : List ℕ) (i n : ℕ) {x : ℕ} (f : numberFrom base 
     pub number-again : {r : ℕ} → d < base → r ≡ longer base n d → numberFrom base r (drop (i + 1) s) ≡ x
     unfolding numberFrom
     number-again g m = rw (m, add-one) (simp (drop-cons s i 0 h, ← e, lt-ltb d base g) at f)
-
--- ---- digits printed
-
--- what is written stands behind what is still to come
-module _ (ds : List ℕ) (i rest : ℕ) {x : List ℕ} (f : hexDigits i rest ++ drop i ds ≡ x) where
-  pub hex-done : i ≤ 0 → ds ≡ x
-  unfolding hexDigits
-  hex-done h = let e : i ≡ 0 = omega arith in rw e at f
-
-  pub hex-again : {g : ℕ} → 0 < i → i ≤ 16 → length ds ≡ 16 → g ≡ hexDigit (rest % 16 % 16) → hexDigits (i - 1) (rest / 16) ++ drop (i - 1) (set ds (i - 1) g) ≡ x
-  unfolding hexDigits
-  hex-again {g} z l n e = go (i - 1) (omega arith)
-    where
-      next : (j : ℕ) → hexDigits (suc j) rest ++ drop (suc j) ds ≡ x → hexDigits j (rest / 16) ++ (hexDigit (rest % 16) ∷ drop (suc j) ds) ≡ x
-      next j f = rw append-assoc at f
-
-      more : (j : ℕ) → i ≡ suc j → hexDigits j (rest / 16) ++ (hexDigit (rest % 16) ∷ drop (suc j) ds) ≡ x
-      more j k = next j (rw k at f)
-
-      go : (j : ℕ) → i ≡ suc j → hexDigits j (rest / 16) ++ drop j (set ds j g) ≡ x
-      go j k =
-          let o : j < length ds = omega arith in
-          let w : j < length (set ds j g) = simp length-set o in
-          let t : drop j (set ds j g) ≡ g ∷ drop (suc j) ds = drop-cons (set ds j g) j 0 w ∙ rw (getD-set-same ds j g 0 o, drop-set-lt (suc j) ds j g (omega arith)) in
-          let d : rest % 16 % 16 ≡ rest % 16 = omega arith in
-          rw (t, e, d) (more j k)
-
-pub long-again : (ds : List ℕ) (i g : ℕ) → length ds ≡ 16 → length (set ds i g) ≡ 16
-long-again ds i g n = length-set ds i g ∙ n

@@ -4,13 +4,17 @@ use Prim.Native.Nat.{ℕ, _+_, _*_, _-_, _^_}
 use Prim.Native.Char.{code}
 use mathlib.Core.List.{List, [], _∷_}
 use mathlib.Core.Bool.{cond, _&&_}
-use lib.ListN.{getD, drop}
+use lib.ListN.{getD, take, drop}
 use lib.Dec.{eqb, ltb, leb}
 use Rattle.bytes.specs.Bytes.{indexOf}
 
 -- where the line ends that begins at an offset of a text: at its line feed, or at the text's end
 abbrev pub lineEnd : List ℕ → ℕ → ℕ
 lineEnd s from = from + indexOf (code "\n") (drop from s)
+
+-- and that line, without its line feed
+abbrev pub lineAt : List ℕ → ℕ → List ℕ
+lineAt s from = take (indexOf (code "\n") (drop from s)) (drop from s)
 
 -- how many spaces a byte is, and a line has
 unfoldable pub spaceOf : ℕ → ℕ

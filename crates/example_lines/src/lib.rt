@@ -1,12 +1,11 @@
-// The lines of the stored examples, read and printed: specs/Words.antt says what a line is, specs/Image.antt what an image in it is.
+// The lines of the stored examples: specs/Words.antt says what a line is, specs/Image.antt what an image in it is.
 ghost use mathlib.Core.Path.{_≡_};
 ghost use mathlib.Core.List.{[], _∷_, _++_};
 ghost use Prim.Native.Nat.{_+_, _*_, _-_, _%_, _≤_, _<_};
 ghost use lib.ListN.{length, take, drop};
 ghost use lib.Seq.{paste};
 ghost use Rattle.example_lines.specs.Words as Words;
-ghost use Rattle.example_lines.specs.Words.{lineEnd, spaceOf, spacesIn, wordFrom, letterIn, digitOf, numberFrom, numberIn, bitsIn};
-ghost use Rattle.texts.specs.Digits.{hexDigits};
+ghost use Rattle.example_lines.specs.Words.{lineEnd, lineAt, spaceOf, spacesIn, wordFrom, letterIn, digitOf, numberFrom, numberIn, bitsIn};
 ghost use Rattle.example_lines.specs.Image.{grown, copyOf, closed, withDigit, withByte, imageFrom, imageIn, piece, partOf, Put, Stands, Kept};
 
 // ---- words and numbers
@@ -19,6 +18,18 @@ pub fn line_end(text: &[u8], from: usize) -> usize
         bytes::scan::find(text, from, text.len(), b'\n')
     } else {
         from
+    }
+}
+
+// The line that begins there, without its line feed.
+pub fn line_at(text: &[u8], from: usize) -> &[u8]
+    ensures { λ r. ⌜ now r ≡ lineAt (now (text .entry)) from ⌝ }
+{
+    if from < text.len() {
+        let end = line_end(text, from);
+        &text[from..end]
+    } else {
+        &text[..0]
     }
 }
 
@@ -131,21 +142,6 @@ pub fn bits_in(s: &[u8], k: usize) -> u64
 {
     let at = word_at(s, k);
     number_of(&s[at..], 16)
-}
-
-// The sixteen hexadecimal digits of a number.
-pub fn hex_digits(x: u64) -> [u8; 16]
-    ensures { λ r. ⌜ r ≡ hexDigits 16 x ⌝ }
-{
-    let mut digits = [0u8; 16];
-    let mut rest = x;
-    let mut i: usize = 16;
-    while i > 0 {
-        i -= 1;
-        digits[i] = lines::hex_digit((rest % 16) as u8);
-        rest /= 16;
-    }
-    digits
 }
 
 // ---- images

@@ -1,10 +1,9 @@
 // Runs the calls of the distributed controller on the lines of standard input, and prints what each gives.
-// tests/reference/many_vectors.py says which lines there are, and prints the same; crate example_lines reads them.
+// tests/reference/many_vectors.py says which lines there are, and prints the same; crate example_lines reads them, crate
+// example_states the own part of a module, and crate texts makes what is printed.
 use messages::Message;
 use messages::Parsed;
 use modules::Called;
-use modules::Own;
-use modules::Procedure;
 use modules::Turn;
 use permits::Holder;
 use permits::Module;
@@ -13,311 +12,122 @@ use permits::Served;
 use permits::Stepped;
 use permits::Supervisor;
 use permits::SupervisorCalled;
-use water::Flow;
+use texts::Text;
 
-fn print(text: &[u8]) {
-    io::write_all(1, text);
+fn say(s: &[u8]) {
+    io::write_all(1, s);
 }
 
-// A field, with the space before it.
-fn print_field(n: u64) {
-    print(b" ");
-    io::print_decimal(1, n);
-}
-
-fn print_small(n: u8) {
-    print_field(n as u64);
-}
-
-fn print_fields(s: &[u8]) {
-    let mut i: usize = 0;
-    while i < s.len() {
-        print_small(s[i]);
-        i += 1;
-    }
-}
-
-// A number in sixteen hexadecimal digits, and one in eight.
-fn print_bits(x: u64) {
-    let digits = example_lines::hex_digits(x);
-    print(b" ");
-    print(&digits);
-}
-
-fn print_mask(x: u32) {
-    let digits = example_lines::hex_digits(x as u64);
-    print(b" ");
-    print(&digits[8..]);
-}
-
-// The float whose bits stand behind k spaces of the line, a NaN for `nan` and for a NaN's bits.
-fn float_in(s: &[u8], k: usize) -> f64 {
-    let bits = if example_lines::letter_in(s, k, 0) == b'n' {
-        0xffff_ffff_ffff_ffff
-    } else {
-        example_lines::bits_in(s, k)
-    };
-    if bits % 0x8000_0000_0000_0000 <= 0x7ff0_0000_0000_0000 {
-        f64::from_bits(bits)
-    } else {
-        0.0 / 0.0
-    }
-}
-
-// The reading that stands behind k spaces of the line: `none`, `nan` or bits.
-fn flow_in(s: &[u8], k: usize) -> Flow {
-    if example_lines::letter_in(s, k, 1) == b'o' {
-        Flow::NoSensor
-    } else {
-        Flow::Litres(float_in(s, k))
-    }
+fn print(t: Text) {
+    let bytes = t.bytes;
+    let n = t.length;
+    say(texts::shown(&bytes, n));
 }
 
 // ---- what is printed
 
-fn print_refused(number: u8, offset: usize) {
-    print(b"refused");
-    print_small(number);
-    print(b" at");
-    print_field(offset as u64);
+fn refused(number: u8, offset: usize) -> Text {
+    let t = texts::push_field(texts::word(b"refused"), number);
+    texts::push_spaced(texts::push_all(t, b" at"), offset)
 }
 
 fn print_called(answer: Called) {
     match answer {
-        Called::Done => print(b"done"),
-        Called::Refused(number, offset) => print_refused(number, offset),
+        Called::Done => say(b"done\n"),
+        Called::Refused(number, offset) => print(texts::push(refused(number, offset), b'\n')),
     }
-    print(b"\n");
 }
 
 // A word, a number and the bytes written.
-fn print_wrote(what: &[u8], x: u8, n: usize) {
-    print(what);
-    print_small(x);
-    print_field(n as u64);
+fn wrote(what: &[u8], x: u8, n: usize) -> Text {
+    texts::push_spaced(texts::push_field(texts::word(what), x), n)
 }
 
-fn print_turn(turn: Turn, n: usize) {
+fn turn_text(turn: Turn, n: usize) -> Text {
     match turn {
-        Turn::Event(e) => print_wrote(b"event", e, n),
-        Turn::Stray(e) => print_wrote(b"stray", e, n),
-        Turn::Nothing => {
-            print(b"none");
-            print_field(n as u64);
-        }
+        Turn::Event(e) => wrote(b"event", e, n),
+        Turn::Stray(e) => wrote(b"stray", e, n),
+        Turn::Nothing => texts::push_spaced(texts::word(b"none"), n),
     }
 }
 
-fn print_stepped(answer: Stepped) {
+fn stepped_text(answer: Stepped) -> Text {
     match answer {
-        Stepped::Turned(turn, n) => print_turn(turn, n),
-        Stepped::Bids(v, n) => print_wrote(b"bids", v, n),
-        Stepped::Waits => print(b"waits"),
-        Stepped::Refused(number, offset) => print_refused(number, offset),
+        Stepped::Turned(turn, n) => turn_text(turn, n),
+        Stepped::Bids(v, n) => wrote(b"bids", v, n),
+        Stepped::Waits => texts::word(b"waits"),
+        Stepped::Refused(number, offset) => refused(number, offset),
     }
 }
 
-fn print_served(answer: Served) {
+fn served_text(answer: Served) -> Text {
     match answer {
-        Served::Sends(m, n) => print_wrote(b"sends", m, n),
-        Served::Waits => print(b"waits"),
-        Served::Refused(number, offset) => print_refused(number, offset),
+        Served::Sends(m, n) => wrote(b"sends", m, n),
+        Served::Waits => texts::word(b"waits"),
+        Served::Refused(number, offset) => refused(number, offset),
     }
 }
 
-// A byte as two hexadecimal digits.
-fn print_byte(b: u8) {
-    let digits = example_lines::hex_digits(b as u64);
-    print(&digits[14..]);
-}
-
-// The buffer in hexadecimal digits, or `-` for an empty one, behind a step's answer.
+// The buffer behind an answer.
 fn print_buffer(s: &[u8]) {
-    print(b" ");
-    if s.len() == 0 {
-        print(b"-");
-    }
-    let mut i: usize = 0;
-    while i < s.len() {
-        print_byte(s[i]);
-        i += 1;
-    }
-    print(b"\n");
-}
-
-// The modules noted, in four hexadecimal digits.
-fn print_noted(x: u16) {
-    let digits = example_lines::hex_digits(x as u64);
-    print(b" ");
-    print(&digits[12..]);
-}
-
-fn print_float(x: f64) {
-    if x == x {
-        print_bits(f64::to_bits(x));
-    } else {
-        print(b" nan");
-    }
-}
-
-fn print_procedure(p: Procedure) {
-    print(b" procedure");
-    print_small(if p.running { 1 } else { 0 });
-    print_small(p.event);
-    print_small(p.index);
-    print_field(p.count as u64);
-    print(b" water");
-    print_float(p.water.target);
-    print_float(p.water.total);
-}
-
-fn print_own(own: Own) {
-    print(b" state");
-    print_small(own.state);
-    print(b" queue");
-    print_small(own.length);
-    print_fields(&own.queue);
-    print_procedure(own.procedure);
-    print(b" outputs");
-    print_mask(own.outputs);
+    print(texts::push(texts::push_buffer(texts::word(b" "), s), b'\n'));
 }
 
 fn print_module(x: Module) {
-    print(b"held");
-    print_mask(x.held);
-    print(b" received");
-    print_bits(x.received);
-    print(b" bid");
-    print_small(if x.bid { 1 } else { 0 });
-    print_own(x.own);
-    print(b"\n");
+    let own = x.own;
+    let t = texts::push_digits(texts::word(b"held "), x.held as u64, 8);
+    let t = texts::push_digits(texts::push_all(t, b" received "), x.received, 16);
+    let t = texts::push_field(texts::push_all(t, b" bid"), fields::flag_of(x.bid));
+    let t = example_states::push_own(texts::push(t, b' '), own);
+    print(texts::push(t, b'\n'));
 }
 
-fn print_holder(holder: Holder) {
+fn push_holder(t: Text, holder: Holder) -> Text {
     match holder {
-        Holder::Home => print(b" home"),
-        Holder::Out(m) => print_small(m),
+        Holder::Home => texts::push_all(t, b" home"),
+        Holder::Out(m) => texts::push_field(t, m),
     }
 }
 
 fn print_supervisor(y: Supervisor) {
-    print(b"state");
-    print_small(y.state);
-    print(b" noted");
-    print_noted(y.noted);
-    print(b" holder");
     let holder = y.holder;
-    print_holder(holder);
-    print(b" last");
-    print_small(y.last);
-    print(b"\n");
+    let t = texts::push_field(texts::word(b"state"), y.state);
+    let t = texts::push_digits(texts::push_all(t, b" noted "), y.noted as u64, 4);
+    let t = push_holder(texts::push_all(t, b" holder"), holder);
+    let t = texts::push_field(texts::push_all(t, b" last"), y.last);
+    print(texts::push(t, b'\n'));
 }
 
-fn print_message(g: Message) {
+fn message_text(g: Message) -> Text {
     match g {
-        Message::Bid { owner, supervisor } => {
-            print(b"bid");
-            print_small(owner);
-            print_small(supervisor);
-        }
+        Message::Bid { owner, supervisor } => texts::push_numbers(
+            texts::word(b"bid"),
+            &[owner, supervisor],
+        ),
         Message::Permit {
             supervisor,
             owner,
             mask,
         } => {
-            print(b"permit");
-            print_small(supervisor);
-            print_small(owner);
-            print_bits(mask);
+            let t = texts::push_numbers(texts::word(b"permit"), &[supervisor, owner]);
+            texts::push_digits(texts::push(t, b' '), mask, 16)
         }
         Message::Release {
             owner,
             supervisor,
             event,
-        } => {
-            print(b"release");
-            print_small(owner);
-            print_small(supervisor);
-            print_small(event);
-        }
+        } => texts::push_numbers(texts::word(b"release"), &[owner, supervisor, event]),
     }
 }
 
 fn print_parsed(p: Parsed) {
     match p {
-        Parsed::Whole(g) => print_message(g),
-        Parsed::Misshapen => print(b"misshapen"),
+        Parsed::Whole(g) => print(texts::push(message_text(g), b'\n')),
+        Parsed::Misshapen => say(b"misshapen\n"),
     }
-    print(b"\n");
 }
 
 // ---- damage
-
-fn with_water(mut p: Procedure, s: &[u8]) -> Procedure {
-    let x = float_in(s, 2);
-    let mut water = p.water;
-    if example_lines::letter_in(s, 1, 1) == b'a' {
-        water.target = x;
-    } else {
-        water.total = x;
-    }
-    p.water = water;
-    p
-}
-
-// The procedure with another field: `running`, `event`, `index`, `count`, or `target` or `total`.
-fn with_place(mut p: Procedure, s: &[u8]) -> Procedure {
-    match example_lines::letter_in(s, 1, 0) {
-        b'r' => {
-            p.running = example_lines::number_in(s, 2) == 1;
-            p
-        }
-        b'e' => {
-            p.event = example_lines::byte_in(s, 2);
-            p
-        }
-        b'i' => {
-            p.index = example_lines::byte_in(s, 2);
-            p
-        }
-        b'c' => {
-            p.count = (example_lines::number_in(s, 2) % 65536) as u16;
-            p
-        }
-        _ => with_water(p, s),
-    }
-}
-
-fn with_queued(mut own: Own, s: &[u8]) -> Own {
-    let k = example_lines::number_in(s, 2) as usize;
-    if k < 8 {
-        own.queue[k] = example_lines::byte_in(s, 3);
-    }
-    own
-}
-
-// The own part with another field: `state`, `length`, `place`, `outputs`, or one of the procedure.
-fn with_field(mut own: Own, s: &[u8]) -> Own {
-    match example_lines::letter_in(s, 1, 0) {
-        b's' => {
-            own.state = example_lines::byte_in(s, 2);
-            own
-        }
-        b'l' => {
-            own.length = example_lines::byte_in(s, 2);
-            own
-        }
-        b'p' => with_queued(own, s),
-        b'o' => {
-            own.outputs = (example_lines::bits_in(s, 2) % 0x1_0000_0000) as u32;
-            own
-        }
-        _ => {
-            own.procedure = with_place(own.procedure, s);
-            own
-        }
-    }
-}
 
 // The module with another field: `held`, `received`, `bid`, or one of its own part.
 fn with_part(mut x: Module, s: &[u8]) -> Module {
@@ -335,7 +145,7 @@ fn with_part(mut x: Module, s: &[u8]) -> Module {
             if example_lines::letter_in(s, 1, 2) == b'c' {
                 x.received = example_lines::bits_in(s, 2);
             } else {
-                x.own = with_field(x.own, s);
+                x.own = example_states::with_field(x.own, s, 1);
             }
             x
         }
@@ -396,7 +206,7 @@ fn supervisor_called(c: SupervisorCalled) -> Supervisor {
 fn module_step(image: &[u8], m: u8, x: Module, buf: &mut [u8]) -> Module {
     let t = module_steps::step(image, m, x, &mut *buf);
     let answer = t.answer;
-    print_stepped(answer);
+    print(stepped_text(answer));
     print_buffer(buf);
     t.state
 }
@@ -404,7 +214,7 @@ fn module_step(image: &[u8], m: u8, x: Module, buf: &mut [u8]) -> Module {
 fn supervisor_step(image: &[u8], v: u8, y: Supervisor, buf: &mut [u8]) -> Supervisor {
     let t = supervisor_steps::step(image, v, y, &mut *buf);
     let answer = t.answer;
-    print_served(answer);
+    print(served_text(answer));
     print_buffer(buf);
     t.state
 }
@@ -452,7 +262,7 @@ fn run_module(image: &[u8], bytes: &[u8], x: Module, s: &[u8]) -> Module {
         b'o' => module_called(module_calls::start(image, m)),
         b'd' => module_called(module_deliveries::deliver(image, m, x, bytes)),
         b'r' => module_called(module_calls::respond(image, m, x, example_lines::byte_in(s, 2))),
-        b't' => module_called(module_calls::tick(image, m, x, flow_in(s, 2))),
+        b't' => module_called(module_calls::tick(image, m, x, example_states::flow_in(s, 2))),
         b'e' => {
             print_parsed(messages::read(bytes));
             x
@@ -539,8 +349,8 @@ fn run_line(img: &mut [u8], r: Held, s: &[u8]) -> Held {
     let n = r.n;
     match words::byte_at(s, 0) {
         b'#' => {
-            print(s);
-            print(b"\n");
+            say(s);
+            say(b"\n");
             r
         }
         b'p' => Held {
@@ -566,7 +376,7 @@ fn run(text: &[u8]) {
     let mut at: usize = 0;
     while at < text.len() {
         let end = example_lines::line_end(text, at);
-        r = run_line(&mut *img, r, &text[at..end]);
+        r = run_line(&mut *img, r, example_lines::line_at(text, at));
         if text.len() <= end {
             return;
         }

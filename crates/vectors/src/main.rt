@@ -1,175 +1,128 @@
 // Runs the plan check, the reader, the writer and the copy of a plan on the lines of standard input, and prints what each gives.
-// tests/reference/plan_check.py says which lines there are, and prints the same; crate example_lines reads them.
+// tests/reference/plan_check.py says which lines there are, and prints the same; crate example_lines reads them and crate texts makes
+// what is printed.
 use reader::Read;
 use records::Record;
 use rewrite::Rewritten;
 use rules::Verdict;
+use texts::Text;
 use writer::Written;
 
-fn print(text: &[u8]) {
-    io::write_all(1, text);
+fn say(s: &[u8]) {
+    io::write_all(1, s);
 }
 
-fn print_number(n: u64) {
-    io::print_decimal(1, n);
+fn print(t: Text) {
+    let bytes = t.bytes;
+    let n = t.length;
+    say(texts::shown(&bytes, n));
 }
 
-// A field, with the space before it.
-fn print_field(n: u64) {
-    print(b" ");
-    print_number(n);
-}
-
-fn print_small(n: u8) {
-    print_field(n as u64);
-}
-
-fn print_fields(s: &[u8]) {
-    let mut i: usize = 0;
-    while i < s.len() {
-        print_small(s[i]);
-        i += 1;
-    }
-}
-
-// A byte as two hexadecimal digits.
-fn print_byte(b: u8) {
-    let digits = example_lines::hex_digits(b as u64);
-    print(&digits[14..]);
-}
-
-// The buffer in hexadecimal digits, or `-` for an empty one, behind an answer.
+// The buffer behind an answer.
 fn print_buffer(s: &[u8]) {
-    print(b" ");
-    if s.len() == 0 {
-        print(b"-");
-    }
-    let mut i: usize = 0;
-    while i < s.len() {
-        print_byte(s[i]);
-        i += 1;
-    }
-    print(b"\n");
+    print(texts::push(texts::push_buffer(texts::word(b" "), s), b'\n'));
 }
 
 fn print_verdict(v: Verdict) {
     match v {
-        Verdict::Accepted => print(b"accepted\n"),
+        Verdict::Accepted => say(b"accepted\n"),
         Verdict::Refused(number, offset) => {
-            print_number(number as u64);
-            print(b" at");
-            print_field(offset as u64);
-            print(b"\n");
+            let t = texts::push_number(texts::empty(), words::wide(number));
+            let t = texts::push_spaced(texts::push_all(t, b" at"), offset);
+            print(texts::push(t, b'\n'));
         }
     }
 }
 
 // The fields of a record that has eight bytes in one of them.
-fn print_long(r: Record) {
+fn push_long(t: Text, r: Record) -> Text {
     match r {
         Record::Supervisor {
             number,
             states,
             initial,
             alphabet,
-        } => {
-            print_fields(&[number, states, initial]);
-            print_field(alphabet);
-        }
+        } => texts::push_spaced(
+            texts::push_numbers(t, &[number, states, initial]),
+            alphabet as usize,
+        ),
         Record::Disabling {
             supervisor,
             state,
             mask,
-        } => {
-            print_fields(&[supervisor, state]);
-            print_field(mask);
-        }
+        } => texts::push_spaced(texts::push_numbers(t, &[supervisor, state]), mask as usize),
         Record::Step {
             event,
             index,
             operation,
             operand,
-        } => {
-            print_fields(&[event, index, operation]);
-            print_field(operand);
-        }
-        _ => {}
+        } => texts::push_spaced(
+            texts::push_numbers(t, &[event, index, operation]),
+            operand as usize,
+        ),
+        _ => t,
     }
 }
 
-fn print_record(r: Record) {
+fn push_record(t: Text, r: Record) -> Text {
     match r {
         Record::Head {
             modules,
             supervisors,
             events,
-        } => print_fields(&[modules, supervisors, events]),
+        } => texts::push_numbers(t, &[modules, supervisors, events]),
         Record::Event {
             number,
             owner,
             class,
-        } => print_fields(&[number, owner, class]),
+        } => texts::push_numbers(t, &[number, owner, class]),
         Record::Module {
             number,
             states,
             initial,
-        } => print_fields(&[number, states, initial]),
+        } => texts::push_numbers(t, &[number, states, initial]),
         Record::ModuleMove {
             owner,
             from,
             event,
             to,
-        } => print_fields(&[owner, from, event, to]),
+        } => texts::push_numbers(t, &[owner, from, event, to]),
         Record::SupervisorMove {
             supervisor,
             from,
             event,
             to,
-        } => print_fields(&[supervisor, from, event, to]),
-        _ => print_long(r),
+        } => texts::push_numbers(t, &[supervisor, from, event, to]),
+        _ => push_long(t, r),
     }
 }
 
 fn print_read(r: Read) {
     match r {
         Read::Whole(record, next) => {
-            print(b"record ");
-            print_byte(records::kind_of(record));
-            print_record(record);
-            print(b" next");
-            print_field(next as u64);
-            print(b"\n");
+            let t = texts::push_hexes(texts::word(b"record "), &[records::kind_of(record)]);
+            let t = texts::push_all(push_record(t, record), b" next");
+            print(texts::push(texts::push_spaced(t, next), b'\n'));
         }
-        Read::Unknown => print(b"unknown\n"),
-        Read::Cut => print(b"cut\n"),
-        Read::Nothing => print(b"nothing\n"),
+        Read::Unknown => say(b"unknown\n"),
+        Read::Cut => say(b"cut\n"),
+        Read::Nothing => say(b"nothing\n"),
     }
 }
 
 fn print_written(w: Written) {
     match w {
-        Written::Length(n) => {
-            print(b"length");
-            print_field(n as u64);
-        }
-        Written::Refused(number, _) => {
-            print(b"refused");
-            print_field(number as u64);
-        }
+        Written::Length(n) => print(texts::push_spaced(texts::word(b"length"), n)),
+        Written::Refused(number, _) => print(texts::push_field(texts::word(b"refused"), number)),
     }
 }
 
 fn print_rewritten(r: Rewritten) {
     match r {
-        Rewritten::Length(n) => {
-            print(b"length");
-            print_field(n as u64);
-        }
+        Rewritten::Length(n) => print(texts::push_spaced(texts::word(b"length"), n)),
         Rewritten::Refused(number, offset) => {
-            print(b"refused");
-            print_field(number as u64);
-            print(b" at");
-            print_field(offset as u64);
+            let t = texts::push_field(texts::word(b"refused"), number);
+            print(texts::push_spaced(texts::push_all(t, b" at"), offset));
         }
     }
 }
@@ -288,8 +241,8 @@ fn run_copy(img: &mut [u8], s: &[u8]) {
 fn run_line(img: &mut [u8], s: &[u8]) {
     match words::byte_at(s, 0) {
         b'#' => {
-            print(s);
-            print(b"\n");
+            say(s);
+            say(b"\n");
         }
         b'c' => {
             if words::byte_at(s, 1) == b'h' {
@@ -300,7 +253,7 @@ fn run_line(img: &mut [u8], s: &[u8]) {
         }
         b'r' => run_read(img, s),
         b'w' => run_write(s),
-        _ => print(b"?\n"),
+        _ => say(b"?\n"),
     }
 }
 
@@ -311,7 +264,7 @@ fn run(text: &[u8]) {
     let mut at: usize = 0;
     while at < text.len() {
         let end = example_lines::line_end(text, at);
-        run_line(&mut *img, &text[at..end]);
+        run_line(&mut *img, example_lines::line_at(text, at));
         if text.len() <= end {
             return;
         }

@@ -1,13 +1,12 @@
-use borrow.Author.Needs.{needs}
-use Prim.Native.Nat.{_≤_, _-_}
 use mathlib.Core.Path.{_≡_}
+use Prim.Native.Nat.{_-_}
 use lib.ListN.{length}
-use Rattle.example_lines.proofs.Words.{end-behind, end-within}
+use borrow.Author.Needs.{needs}
 use Rattle.many_vectors.proofs.run.Statement.{statement}
 use Rattle.many_vectors.proofs.run.Tie as tie
 
 abbrev Inv-loop : tie.InvT-loop
-Inv-loop text img₀ r₀ at₀ img r at = (at ≤ length text) × (length img₀ ≡ length img)
+Inv-loop text img₀ r₀ at₀ img r at = length img₀ ≡ length img
 
 abbrev μ-loop : tie.MeasureT-loop
 μ-loop text img₀ r₀ at₀ img r at = length text - at
@@ -24,14 +23,8 @@ loop-holds c = search needs
 line-end-requires : tie.Need-line-end-requires Inv-loop μ-loop
 line-end-requires c κs = search needs
 
-sub-run-line : tie.Need-sub-run-line Inv-loop μ-loop
-sub-run-line c = search end-behind
-
-part-run-line-start : tie.Need-part-run-line-start Inv-loop μ-loop
-part-run-line-start c = search (end-behind, needs)
-
-part-run-line-end : tie.Need-part-run-line-end Inv-loop μ-loop
-part-run-line-end c = search (end-within, needs)
+line-at-requires : tie.Need-line-at-requires Inv-loop μ-loop
+line-at-requires c κs = search needs
 
 run-line-requires : tie.Need-run-line-requires Inv-loop μ-loop
 run-line-requires c κs = search needs
@@ -43,7 +36,7 @@ add-at : tie.Need-add-at Inv-loop μ-loop
 add-at c = search needs
 
 loop-less : tie.Need-loop-less Inv-loop μ-loop
-loop-less c = search (end-behind, needs)
+loop-less c = search needs
 
 loop-again : tie.Need-loop-again Inv-loop μ-loop
 loop-again c = search needs
@@ -61,9 +54,7 @@ run-spec =
     fresh-requires
     loop-holds
     line-end-requires
-    sub-run-line
-    part-run-line-start
-    part-run-line-end
+    line-at-requires
     run-line-requires
     returns
     add-at
