@@ -3,20 +3,18 @@ use mathlib.Core.Path.{_≡_, refl, sym, ap, ap₂, _∙_}
 use mathlib.Core.List.{List, [], _∷_, _++_, append-nil}
 use mathlib.Core.Bool.{Bool, true, false, cond, not}
 use Prim.Native.Nat.{ℕ, zero, suc, _+_, _*_, _/_, _^_, _≤_, _<_}
-use native.Mathlib.Nat.{div-lt-iff-lt-mul}
 use native.Mathlib.Decide.{le-ind}
 use native.Mathlib.Numerals.{add-one}
 use native.Mathlib.Omega.{arith}
 use lib.Count.{ones, onesIn}
 use lib.Dec.{lit≤}
-use lib.Pow.{pow-pos}
 use lib.ListN.{length, drop, length-append, length-drop}
 use lib.Seq.{take-append-seam, drop-append-add, drop-drop}
 use borrow.Author.Tests.{lt-ltb, le-ltb}
 use types.Run.{OneOf, miss}
 use denote.Enum.Declared.{tagOf}
 use Rattle.bits.specs.Bit.{bit}
-use Rattle.bits.proofs.Laws.{bit-above, ones-in}
+use Rattle.bits.proofs.Laws.{bit-above, shr-none, ones-in}
 use Rattle.records.specs.declared.Record.{Record}
 use Rattle.plan.specs.Plan.{inAlphabet}
 use Rattle.modules.specs.declared.Turn.{Turn}
@@ -134,10 +132,7 @@ module _ (rs : List Record) (m mask : ℕ) (t : Turn) where
     done-by h = g .bytes ∙ ap (λ (k : ℕ). written (sent k) b₀) (let e : v ≡ 32 = omega arith in e)
 
     pub rest-by : mask / 2 ^ v ≡ 0 → b ≡ written (sent 32) b₀
-    rest-by z =
-        let w : mask / 2 ^ v < 1 = omega arith in
-        let u : mask < 1 * 2 ^ v = div-lt-iff-lt-mul (pow-pos v) .0 w in
-        g .bytes ∙ ap (λ (l : List ℕ). written l b₀) (sym (sent-rest v 32 (g .below) (omega arith)))
+    rest-by z = g .bytes ∙ ap (λ (l : List ℕ). written l b₀) (sym (sent-rest v 32 (g .below) (shr-none mask v z)))
 
     -- a says whether the mask has v
     module _ {a : Bool} (f : a ≡ bit mask v) (l : v < 32) where
