@@ -26,7 +26,7 @@ use Rattle.rules.proofs.Valid.{both}
 use Rattle.plan.specs.Plan.{moduleMove, ownUncontrollable, stepIn, operationOf, operandOf}
 use Rattle.accepted.specs.Plan.{Sound}
 use Rattle.roundtrip.specs.Fits.{Byte, Bytes}
-use Rattle.water.specs.Water.{flowOk, noWater, waterOf, added, reached, waterZero, running}
+use Rattle.water.specs.Water.{flowOk, noWater, waterOf, added, reached, running}
 use Rattle.water.specs.declared.Water.{Water}
 use Rattle.water.specs.declared.Flow.{Flow}
 use Rattle.water.specs.declared.Flow.the-variants.{Litres, NoSensor}
@@ -39,8 +39,7 @@ use Rattle.modules.specs.declared.Procedure.{Procedure}
 use Rattle.modules.specs.declared.Replied.{Replied}
 use Rattle.modules.specs.declared.Turn.the-variants.{Nothing}
 use Rattle.modules.proofs.Steps.{step-counts, on-small}
-use Rattle.turn_laws.specs.Laws.{operationAt, operandAt}
-use Rattle.turn_laws.proofs.Procedure.{parts, step-parts, at-step}
+use Rattle.turn_laws.proofs.Procedure.{parts, at-step}
 use Rattle.turn_laws.proofs.Queue.{responses, queue-places}
 use Rattle.turn_laws.proofs.Own.{sizes, start-fits}
 use Rattle.turn_laws.proofs.Turn.{turn-places, turn-fits}
@@ -48,6 +47,7 @@ use Rattle.turn_laws.proofs.Respond.{respond-places, respond-fits}
 use Rattle.turn_laws.proofs.Tick.{tick-places, tick-fits}
 use Rattle.fields.specs.Fields.{Number}
 use Rattle.own_bytes.specs.Own.{OwnEncodable}
+use Rattle.own_bytes.proofs.Reading.{fits-whole}
 use Rattle.interface_laws.proofs.ByteLists.{bytes-none, bytes-more, bytes-joined, bytes-zeros}
 
 -- what holds of both sides of a choice holds of the choice
@@ -198,23 +198,11 @@ module _ (rs : List Record) (plan : Sound rs) (m : ℕ) where
             let c : p .count ≡ 0 = eqb→eq (p .count) 0 (search both) in
             record { event = omega arith; index = omega arith; count = omega arith }
 
-    whole-eighths : T (isEighths (p .water .target)) × T (isEighths (p .water .total))
-    unfolding idleFits
-    whole-eighths = go (p .running) refl
-      where
-        pours : (b : Bool) → T (cond b (running (operandAt rs p) (p .water)) (waterZero (p .water))) → T (isEighths (p .water .target)) × T (isEighths (p .water .total))
-        pours true w = (search both, search both)
-        pours false w = (search both, search both)
-
-        go : (b : Bool) → p .running ≡ b → T (isEighths (p .water .target)) × T (isEighths (p .water .total))
-        go true r = pours (eqb (operationAt rs p) 4) (step-parts rs m p r t .water)
-        go false r = let z : T (idleFits p) = is-idle r in (search both, search both)
-
   pub encodable : (own : Own) → length (own .queue) ≡ 8 → Rest own → T (ownFits rs m own) → OwnEncodable own
   encodable own n r t =
       let a = parts rs m own t in
       let s = small (own .procedure) (a .procedure) in
-      let w = whole-eighths (own .procedure) (a .procedure) in
+      let w = fits-whole (own .procedure) rs m (a .procedure) in
       record {
         state = omega (arith, sizes rs plan m own t .state);
         queued = omega (arith, sizes rs plan m own t .responses);

@@ -1,7 +1,7 @@
 -- Masks made bit by bit from below, and what their bits mean.
 use mathlib.Core.Path.{_≡_, refl, sym, ap, ap₂, _∙_, subst}
 use mathlib.Core.List.{List}
-use mathlib.Core.Bool.{Bool, true, false, cond, not, _&&_}
+use mathlib.Core.Bool.{Bool, true, false, cond, not, _&&_, and-comm, and-false}
 use Prim.Native.Nat.{ℕ, zero, suc, _+_, _-_, _/_, _^_, _≤_, _<_}
 use native.Mathlib.Numerals.{add-one}
 use native.Mathlib.Omega.{arith}
@@ -57,12 +57,6 @@ unfolding found target
 found-target (It r) = refl
 found-target Missing = refl
 
-swapped : (a b : Bool) → (a && b) ≡ (b && a)
-swapped true true = refl
-swapped true false = refl
-swapped false true = refl
-swapped false false = refl
-
 -- a test of which the second part is asked for only where the first is passed
 module _ {a x : Bool} (e : a ≡ x) (y : Bool) where
   pub second-asked : {b : Bool} → a ≡ true → b ≡ y → b ≡ (x && y)
@@ -81,13 +75,13 @@ module _ (rs : List Record) (m st : ℕ) {k : ℕ} (f : k ≡ movesOf rs m st) w
   pub command-bit : (e : ℕ) {x y : ℕ} {b : Bool} → x ≡ maskOf (hasCommand rs m st) e → e < 64 → b ≡ (bit k e && controllable rs e)
       → y ≡ cond b (bitOr x (2 ^ e)) x → y ≡ maskOf (hasCommand rs m st) (e + 1)
   command-bit e q l g h =
-      one-bit (hasCommand rs m st) e q (g ∙ swapped (bit k e) (controllable rs e) ∙ ap (λ (t : Bool). controllable rs e && t) (move-bit e l)) h
+      one-bit (hasCommand rs m st) e q (g ∙ and-comm (bit k e) (controllable rs e) ∙ ap (λ (t : Bool). controllable rs e && t) (move-bit e l)) h
 
   -- none past the last move
   pub commands-end : (e : ℕ) {x : ℕ} → k / 2 ^ e ≡ 0 → e ≤ 64 → x ≡ maskOf (hasCommand rs m st) e → x ≡ commands rs m st
   commands-end e z h g =
       rest-bits (hasCommand rs m st) 64 e g h
-      (λ j l v. ap (λ (t : Bool). controllable rs j && t) (sym (move-bit j v) ∙ bit-above e k j (shr-none k e z) l) ∙ swapped (controllable rs j) false)
+      (λ j l v. ap (λ (t : Bool). controllable rs j && t) (sym (move-bit j v) ∙ bit-above e k j (shr-none k e z) l) ∙ and-false (controllable rs j))
 
 -- ---- a module's events
 

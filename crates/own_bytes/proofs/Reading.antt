@@ -85,14 +85,14 @@ module _ (b : List ℕ) where
 -- ---- an own part that fits, or is empty, has no NaN
 
 module _ (p : Procedure) where
-  abbrev Whole : Type 0
+  abbrev pub Whole : Type 0
   Whole = T (isEighths (p .water .target)) × T (isEighths (p .water .total))
 
   idle-whole : T (idleFits p) → Whole
   unfolding idleFits
   idle-whole t = (search both, search both)
 
-  fits-whole : (rs : List Record) (m : ℕ) → T (procedureFits rs m p) → Whole
+  pub fits-whole : (rs : List Record) (m : ℕ) → T (procedureFits rs m p) → Whole
   unfolding procedureFits stepFits
   fits-whole rs m = go (p .running)
     where
