@@ -14,9 +14,11 @@ use Rattle.texts.specs.Numbers.{spaced, spacedAll}
 unfoldable pub bitsText : ℕ → List ℕ
 bitsText b = cond (nanBits binary64 b) (ascii " nan") (ascii " " ++ hexDigits 16 b)
 
+-- a target or a total
 abbrev pub floatText : Float → List ℕ
 floatText x = bitsText (toBits binary64 x)
 
+-- a procedure, from the space before its word on
 unfoldable pub placeText : Procedure → List ℕ
 placeText p =
     ascii " procedure"
@@ -28,6 +30,7 @@ placeText p =
     ++ floatText (p .water .target)
     ++ floatText (p .water .total)
 
+-- the whole, from its first word on
 unfoldable pub ownText : Own → List ℕ
 ownText own =
     ascii "state"

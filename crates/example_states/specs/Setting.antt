@@ -27,12 +27,14 @@ flowIn k s = cond (eqb (letterIn k 1 s) (code "o")) NoSensor (Litres (floatIn k 
 abbrev pub named : ℕ → List ℕ → ℕ → Bool
 named k s letter = eqb (letterIn k 0 s) letter
 
+-- the water with its `target` or its `total` set
 unfoldable pub withWater : ℕ → List ℕ → Water → Water
 withWater k s w =
     cond (eqb (letterIn k 1 s) (code "a"))
     (record { target = floatIn (k + 1) s; total = w .total })
     (record { target = w .target; total = floatIn (k + 1) s })
 
+-- the procedure with the field set that a line names, if it is one of its own
 unfoldable pub withPlace : ℕ → List ℕ → Procedure → Procedure
 withPlace k s p =
     record {
@@ -43,10 +45,11 @@ withPlace k s p =
       water = cond (named k s (code "t")) (withWater k s (p .water)) (p .water);
     }
 
--- a place past the last is none
+-- the queue with a place set; a place past the last is none
 abbrev pub withQueued : ℕ → List ℕ → List ℕ → List ℕ
 withQueued k s queue = set queue (numberIn (k + 1) s) (numberIn (k + 2) s % 256)
 
+-- the own part with the field set that a line names
 unfoldable pub withField : ℕ → List ℕ → Own → Own
 withField k s own =
     record {

@@ -8,6 +8,7 @@ use Rattle.texts.specs.Ascii.{decimal}
 abbrev pub spaced : ℕ → List ℕ
 spaced n = code " " ∷ decimal n
 
+-- several, each with its own
 unfoldable pub spacedAll : List ℕ → List ℕ
 spacedAll [] = []
 spacedAll (n ∷ ns) = spaced n ++ spacedAll ns

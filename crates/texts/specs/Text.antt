@@ -6,6 +6,7 @@ use lib.ListN.{length, set, replicate}
 use lib.Dec.{ltb}
 use Rattle.texts.specs.declared.Text.{Text}
 
+-- the text of bytes for which there is room
 unfoldable pub textOf : List ℕ → Text
 textOf bs = record { bytes = bs ++ replicate (328 - length bs) 0; length = length bs }
 

@@ -14,6 +14,7 @@ pub struct Text {
     pub length: usize,
 }
 
+// The text of no bytes.
 pub fn empty() -> Text
     ensures { λ r. ⌜ r ≡ textOf [] ⌝ }
 {
@@ -45,6 +46,7 @@ pub fn push(t: Text, b: u8) -> Text
     }
 }
 
+// The text with bytes behind it.
 pub fn push_all(t: Text, s: &[u8]) -> Text
     ensures { λ r. ⌜ r ≡ appended t (now (s .entry)) ⌝ }
 {
@@ -83,12 +85,14 @@ pub fn push_spaced(t: Text, n: usize) -> Text
     push_number(push(t, b' '), n)
 }
 
+// The same of a byte.
 pub fn push_field(t: Text, n: u8) -> Text
     ensures { λ r. ⌜ r ≡ appended t (spaced n) ⌝ }
 {
     push_spaced(t, words::wide(n))
 }
 
+// The text with the numbers of a slice behind it, each with its space.
 pub fn push_numbers(t: Text, s: &[u8]) -> Text
     ensures { λ r. ⌜ r ≡ appended t (spacedAll (now (s .entry))) ⌝ }
 {
