@@ -5,7 +5,7 @@ use native.Mathlib.Omega.{arith}
 use mathlib.Core.Path.{_≡_, refl, sym, ap, _∙_, subst}
 use mathlib.Core.Logic.{_⊎_, inl, inr}
 use mathlib.Core.List.{List, _++_, Memᴰ·append-left, List·Memᴰ·append-cases}
-use mathlib.Core.Bool.{Bool, true, false, _&&_, _||_}
+use mathlib.Core.Bool.{Bool, true, false, cond, _&&_, _||_}
 use lib.ListN.{length}
 use lib.Dec.{eqb, ltb}
 use borrow.Author.Tests.{le-leb, le-ltb, eq-eqb}
@@ -136,10 +136,15 @@ module _ (s : List ℕ) (accepted : IsPlan s) (k : ℕ) (begins : Begins s k) wh
       pub by-halving : numbered k ≡ false → (i : ℕ) → i < kind-run .count → positionOf s (placesOf s) (keyAt s k i) ≡ i
       unfolding positionOf firstOf recordBy
       by-halving e i h =
+          let p = placesOf s in
           let n : ℕ = kind-run .count in
-          let t : ℕ → Bool = λ j. precedes (keyAt s k j) (keyAt s k i) in
-          let u : ℕ → Bool = λ j. precedes (keyAt s k j) (keyBy k (keyAt s k i .first) (keyAt s k i .second) 0) in
-          let w : halved u n 0 n ≤ i = halving-within u i n (λ j l g. not-least (keyAt s k j) (keyAt s k i) k (kept _) (not-before i j l g)) n 0 n (omega arith) (omega arith) in
-          simp (kept, e)
-          (ap (λ (x : ℕ). onward t (x - halved u x 0 x) (halved u x 0 x)) counts
-          ∙ onward-leads t i (λ j l. precedes-true _ _ (ordered j i l h)) (not-before i i (omega arith) h) (n - halved u n 0 n) (halved u n 0 n) w (omega arith))
+          let q : RecordKey = keyAt s k i in
+          let before : ℕ → RecordKey → ℕ → Bool = λ x y j. precedes (keyOf (recordBy s p x j)) y in
+          let first : ℕ → ℕ = λ x. halved (before x (keyBy x (q .first) (q .second) 0)) (countOf s p x) 0 (countOf s p x) in
+          let place : ℕ → ℕ = λ x. cond (numbered x) (q .first) (onward (before x q) (countOf s p x - first x) (first x)) in
+          let u : ℕ → Bool = before k (keyBy k (q .first) (q .second) 0) in
+          let w : halved u n 0 n ≤ i = halving-within u i n (λ j l g. not-least (keyAt s k j) q k (kept _) (not-before i j l g)) n 0 n (omega arith) (omega arith) in
+          ap place (kept _)
+          ∙ simp e
+          (ap (λ (x : ℕ). onward (before k q) (x - halved u x 0 x) (halved u x 0 x)) counts
+          ∙ onward-leads (before k q) i (λ j l. precedes-true _ _ (ordered j i l h)) (not-before i i (omega arith) h) (n - halved u n 0 n) (halved u n 0 n) w (omega arith))

@@ -2,11 +2,10 @@
 use mathlib.Core.Path.{_≡_, refl, sym, ap, _∙_, subst}
 use mathlib.Core.List.{List, [], _∷_, _++_}
 use mathlib.Core.Bool.{Bool, true, false, cond, not, _&&_, _||_}
-use Prim.Native.Nat.{ℕ, zero, suc, _+_, _-_, _*_, _/_, _≤_, _<_}
-use native.Mathlib.Nat.{zero-div, add-zero}
+use Prim.Native.Nat.{ℕ, zero, suc, _+_, _-_, _/_, _≤_, _<_}
+use native.Mathlib.Nat.{zero-div}
 use native.Mathlib.Omega.{arith}
-use lib.ListN.{length, drop, getD}
-use lib.Seq.{getD-drop}
+use lib.ListN.{length}
 use lib.Dec.{T, T-not, leb, eqb, eqb→eq}
 use lib.Ieee.Fits.{and-l, and-r}
 use borrow.Author.Tests.{eq-eqb, ne-eqb, eqb-true, eqb-false}
@@ -15,7 +14,6 @@ use Rattle.records.specs.Kinds.{bodyLen, noLen}
 use Rattle.records.specs.Key.{keyBy, keyOf, sameKey}
 use Rattle.records.specs.declared.Record.{Record}
 use Rattle.records.specs.declared.RecordKey.{RecordKey}
-use Rattle.reader.specs.Read.{recordOf}
 use Rattle.reader.specs.Find.{findIn}
 use Rattle.reader.specs.declared.Found.{Found}
 use Rattle.reader.specs.declared.Found.the-variants.{It, Missing}
@@ -24,7 +22,6 @@ use Rattle.places.specs.Places.{beginOf, endOf, countOf, recordBy, halve
 use Rattle.places.specs.Runs.{runBy, runOf, keyed, before}
 use Rattle.places.specs.declared.Places.{Places}
 use Rattle.places.specs.declared.Run.{Run}
-use Rattle.places.proofs.Counting.{counts, inside-by}
 use Rattle.places.proofs.Keys.{keyed-other}
 
 -- the first of two answers that is a record
@@ -227,75 +224,6 @@ module _ (s : List ℕ) (p : Places) (q : RecordKey) where
       (g
       ∙ ap (λ (y : ℕ). onward (before s r q) (r .count - y) y) f
       ∙ ap (λ (y : Run). onward (before s y q) (y .count - halved (before s y (leastKey q)) (y .count) 0 (y .count)) (halved (before s y (leastKey q)) (y .count) 0 (y .count))) e)
-
-  module _ {r : Run} {i : ℕ} (e : r ≡ runOf s p (q .kind)) (f : i ≡ positionOf s p q) where
-    pub missing-past : r .count ≤ i → Missing ≡ findIn q (recordsBy s p)
-    missing-past l =
-        let w : r .count ≡ countOf s p (q .kind) = counts s p (q .kind) e in
-        sym (missing s p q (λ m. absurd (omega arith)))
-
-    module _ (l : i < r .count) {a : ℕ} (g : a ≡ suc (r .begin + i * r .size)) {x : RecordKey} (h : x ≡ keyOf (recordOf (q .kind) (drop a s))) where
-      there : recordOf (q .kind) (drop a s) ≡ recordBy s p (q .kind) (positionOf s p q)
-      unfolding recordBy runOf runBy
-      there =
-          ap (λ (y : ℕ). recordOf (q .kind) (drop y s))
-          (g ∙ ap (λ (y : Run). suc (y .begin + i * y .size)) e ∙ ap (λ (j : ℕ). suc (beginOf p (q .kind) + j * suc (bodyLen (q .kind)))) f)
-
-      same-there : {t : Bool} → t ≡ sameKey x q → t ≡ sameKey (keyOf (recordBy s p (q .kind) (positionOf s p q))) q
-      same-there u = u ∙ ap (λ (y : RecordKey). sameKey y q) (h ∙ ap keyOf there)
-
-      pub missing-there : {t : Bool} → t ≡ sameKey x q → t ≡ false → Missing ≡ findIn q (recordsBy s p)
-      missing-there u w = sym (missing s p q (λ m. sym (same-there u) ∙ w))
-
-      pub it-there : {t : Bool} {v : Record} → t ≡ sameKey x q → t ≡ true → v ≡ recordOf (q .kind) (drop a s) → It v ≡ findIn q (recordsBy s p)
-      it-there u w z =
-          let c : r .count ≡ countOf s p (q .kind) = counts s p (q .kind) e in
-          ap It (z ∙ there) ∙ sym (it s p q (omega arith) (sym (same-there u) ∙ w))
-
--- what holds of the kinds whose records have the number of their place holds of a kind that is one of them
-pub of-numbered : (P : ℕ → Type 0) (k : ℕ) → numbered k ≡ true → P 0x11 → P 0x12 → P 0x14 → P k
-unfolding numbered
-of-numbered P k e p1 p2 p4 = go (eqb k 0x11) (eqb k 0x12) refl refl e
-  where
-    go : (a b : Bool) → eqb k 0x11 ≡ a → eqb k 0x12 ≡ b → (a || b || eqb k 0x14) ≡ true → P k
-    go true b f g h = subst P (sym (eqb-true k 0x11 f)) p1
-    go false true f g h = subst P (sym (eqb-true k 0x12 g)) p2
-    go false false f g h = subst P (sym (eqb-true k 0x14 h)) p4
-
--- a record of such a kind has the key of one number if its first byte is the number
-module _ (s : List ℕ) (p : Places) (k x : ℕ) (n : numbered k ≡ true) {r : Run} {i : ℕ} (e : r ≡ runOf s p k) (f : i ≡ x) where
-  pub number-past : r .count ≤ i → Missing ≡ findIn (keyBy k x 0 0) (recordsBy s p)
-  number-past l = missing-past s p (keyBy k x 0 0) e (numbered-by s p (keyBy k x 0 0) n f) l
-
-  module _ (l : i < r .count) {a : ℕ} (g : a ≡ suc (r .begin + i * r .size)) where
-    pub number-room : a + 3 ≤ length s
-    unfolding bodyLen
-    number-room =
-        let w : 3 ≤ bodyLen k = of-numbered (λ (m : ℕ). 3 ≤ bodyLen m) k n (omega arith) (omega arith) (omega arith) in
-        let t = inside-by s p k e in
-        omega (arith, t .size, t .within i l)
-
-    pub number-inside : a < length s
-    number-inside = omega (arith, number-room)
-
-    same-number : sameKey (keyOf (recordOf k (drop a s))) (keyBy k x 0 0) ≡ eqb (getD s a 0) x
-    unfolding recordOf keyOf sameKey
-    same-number = of-numbered (λ (m : ℕ). sameKey (keyOf (recordOf m (drop a s))) (keyBy m x 0 0) ≡ eqb (getD s a 0) x) k n byte byte byte
-      where
-        alone : (b : Bool) → (b && true && true) ≡ b
-        alone true = refl
-        alone false = refl
-
-        byte : (eqb (getD (drop a s) 0 0) x && true && true) ≡ eqb (getD s a 0) x
-        byte = alone (eqb (getD (drop a s) 0 0) x) ∙ ap (λ (y : ℕ). eqb y x) (simp (getD-drop, add-zero))
-
-    pub number-it : {v : Record} → getD s a 0 ≡ x → v ≡ recordOf k (drop a s) → It v ≡ findIn (keyBy k x 0 0) (recordsBy s p)
-    number-it h z =
-        it-there s p (keyBy k x 0 0) e (numbered-by s p (keyBy k x 0 0) n f) l g refl refl (same-number ∙ eq-eqb _ _ h) z
-
-    pub number-other : (getD s a 0 ≡ x → ⊥) → Missing ≡ findIn (keyBy k x 0 0) (recordsBy s p)
-    number-other h =
-        missing-there s p (keyBy k x 0 0) e (numbered-by s p (keyBy k x 0 0) n f) l g refl refl (same-number ∙ ne-eqb _ _ h)
 
 -- no event, module or supervisor is found past the count of its kind
 pub number-missing : (s : List ℕ) (p : Places) (k x : ℕ) → numbered k ≡ true → countOf s p k ≤ x → findIn (keyBy k x 0 0) (recordsBy s p) ≡ Missing

@@ -1,25 +1,57 @@
 -- How the bytes of a record are its key, and which keys stand alone.
-use mathlib.Core.Path.{_≡_, refl, sym, subst}
+use mathlib.Core.Path.{_≡_, refl, sym, ap, _∙_, subst}
 use mathlib.Core.List.{List}
-use mathlib.Core.Bool.{Bool, true, false, cond, _||_}
+use mathlib.Core.Bool.{Bool, true, false, cond, _||_, true≢false}
 use Prim.Native.Nat.{ℕ, suc, _+_, _*_, _≤_, _<_}
 use native.Mathlib.Nat.{add-zero}
 use native.Mathlib.Omega.{arith}
 use lib.ListN.{length, drop, getD}
 use lib.Seq.{getD-drop}
 use lib.Dec.{eqb}
-use borrow.Author.Tests.{eqb-true}
+use borrow.Author.Tests.{ne-eqb, eqb-true}
 use Rattle.records.specs.Kinds.{bodyLen}
-use Rattle.words.specs.Word.{wordAt}
 use Rattle.records.specs.Key.{keyBy, keyOf}
-use Rattle.records.specs.declared.Record.{Record}
-use Rattle.records.specs.declared.Record.the-variants.{Head, Event, Module, ModuleMove, Supervisor, SupervisorMove, Disabling, Step, End}
 use Rattle.reader.specs.Read.{recordOf}
-use Rattle.places.specs.Places.{numbered}
-use Rattle.places.specs.Runs.{Inside, isMove, keyed}
+use Rattle.places.specs.Places.{beginOf, endOf, numbered}
+use Rattle.places.specs.Runs.{runBy, runOf, Inside, isMove, keyed}
+use Rattle.places.specs.declared.Places.{Places}
 use Rattle.places.specs.declared.Run.{Run}
 
--- what holds of moves, and of disablings and steps, holds of a kind that is one of them
+-- a kind that is none of those whose keys have numbers
+record Others (k : ℕ) : Type 0 where
+  k11 : eqb k 0x11 ≡ false
+  k12 : eqb k 0x12 ≡ false
+  k13 : eqb k 0x13 ≡ false
+  k14 : eqb k 0x14 ≡ false
+  k15 : eqb k 0x15 ≡ false
+  k16 : eqb k 0x16 ≡ false
+  k17 : eqb k 0x17 ≡ false
+
+others : (k : ℕ) → numbered k ≡ false → keyed k ≡ false → Others k
+unfolding numbered keyed isMove
+others k n m =
+    let a = neither (eqb k 0x11 || eqb k 0x12) (eqb k 0x14) n in
+    let b = neither (eqb k 0x11) (eqb k 0x12) (a .0) in
+    let c = neither (eqb k 0x13 || eqb k 0x15) (eqb k 0x16 || eqb k 0x17) m in
+    let d = neither (eqb k 0x13) (eqb k 0x15) (c .0) in
+    let e = neither (eqb k 0x16) (eqb k 0x17) (c .1) in
+    record { k11 = b .0; k12 = b .1; k13 = d .0; k14 = a .1; k15 = d .1; k16 = e .0; k17 = e .1 }
+  where
+    neither : (a b : Bool) → (a || b) ≡ false → (a ≡ false) × (b ≡ false)
+    neither true b e = absurd (true≢false e)
+    neither false b e = (refl, e)
+
+-- what holds of the kinds whose records have the number of their place holds of a kind that is one of them
+pub of-numbered : (P : ℕ → Type 0) (k : ℕ) → numbered k ≡ true → P 0x11 → P 0x12 → P 0x14 → P k
+unfolding numbered
+of-numbered P k e p1 p2 p4 = go (eqb k 0x11) (eqb k 0x12) refl refl e
+  where
+    go : (a b : Bool) → eqb k 0x11 ≡ a → eqb k 0x12 ≡ b → (a || b || eqb k 0x14) ≡ true → P k
+    go true b f g h = subst P (sym (eqb-true k 0x11 f)) p1
+    go false true f g h = subst P (sym (eqb-true k 0x12 g)) p2
+    go false false f g h = subst P (sym (eqb-true k 0x14 h)) p4
+
+-- of moves, and of disablings and steps
 pub of-moves : (P : ℕ → Type 0) (k : ℕ) → isMove k ≡ true → P 0x13 → P 0x15 → P k
 unfolding isMove
 of-moves P k e p3 p5 = go (eqb k 0x13) refl e
@@ -43,6 +75,33 @@ of-keyed P k e p3 p5 p6 p7 = go (isMove k) refl
     go : (b : Bool) → isMove k ≡ b → P k
     go true f = of-moves P k f p3 p5
     go false f = of-pairs P k e f p6 p7
+
+-- the last of these kinds, where the code has ruled out the others
+pub last-numbered : (k : ℕ) → numbered k ≡ true → (k ≡ 0x11 → ⊥) → (k ≡ 0x12 → ⊥) → k ≡ 0x14
+last-numbered k n =
+    of-numbered (λ (m : ℕ). (m ≡ 0x11 → ⊥) → (m ≡ 0x12 → ⊥) → m ≡ 0x14) k n (λ a b. absurd (a refl)) (λ a b. absurd (b refl)) (λ a b. refl)
+
+last-keyed : (k : ℕ) → keyed k ≡ true → (k ≡ 0x13 → ⊥) → (k ≡ 0x15 → ⊥) → (k ≡ 0x16 → ⊥) → k ≡ 0x17
+last-keyed k n =
+    of-keyed (λ (m : ℕ). (m ≡ 0x13 → ⊥) → (m ≡ 0x15 → ⊥) → (m ≡ 0x16 → ⊥) → m ≡ 0x17) k n
+    (λ a b c. absurd (a refl)) (λ a b c. absurd (b refl)) (λ a b c. absurd (c refl)) (λ a b c. refl)
+
+-- the records of a kind that is known, and of a kind that is none
+module _ (s : List ℕ) (p : Places) (k : ℕ) {r : Run} where
+  pub run-by-kind : (j : ℕ) → k ≡ j → r ≡ runOf s p j → r ≡ runOf s p k
+  run-by-kind j e f = f ∙ sym (ap (runOf s p) e)
+
+  pub run-numbered : numbered k ≡ true → (k ≡ 0x11 → ⊥) → (k ≡ 0x12 → ⊥) → r ≡ runOf s p 0x14 → r ≡ runOf s p k
+  run-numbered n a b f = run-by-kind 0x14 (last-numbered k n a b) f
+
+  pub run-keyed : keyed k ≡ true → (k ≡ 0x13 → ⊥) → (k ≡ 0x15 → ⊥) → (k ≡ 0x16 → ⊥) → r ≡ runOf s p 0x17 → r ≡ runOf s p k
+  run-keyed n a b c f = run-by-kind 0x17 (last-keyed k n a b c) f
+
+  pub run-of-none : numbered k ≡ false → keyed k ≡ false → (k ≡ 0x10 → ⊥) → (k ≡ 0x1f → ⊥) → r ≡ runBy s 0 0 256 → r ≡ runOf s p k
+  unfolding runOf beginOf endOf bodyLen
+  run-of-none n m a b f =
+      let o = others k n m in
+      simp (ne-eqb k 0x10 a, ne-eqb k 0x1f b, o .k11, o .k12, o .k13, o .k14, o .k15, o .k16, o .k17) f
 
 pub keyed-other : (k : ℕ) → keyed k ≡ true → numbered k ≡ false
 unfolding numbered
@@ -70,28 +129,10 @@ key-room s r k i e n l g =
 
 -- the records of any other kind that has no numbers all have one key, without numbers
 pub alone : (k : ℕ) → numbered k ≡ false → keyed k ≡ false → (b : List ℕ) → keyOf (recordOf k b) ≡ keyBy (cond (eqb k 0x10) 0x10 0x1f) 0 0 0
-unfolding numbered keyed isMove recordOf keyOf
-alone k n m b = go (eqb k 0x10) (eqb k 0x11) (eqb k 0x12) (eqb k 0x13) (eqb k 0x14) (eqb k 0x15) (eqb k 0x16) (eqb k 0x17) n m
+unfolding recordOf keyOf
+alone k n m b =
+    go (eqb k 0x10) refl (others k n m)
   where
-    read : Bool → Bool → Bool → Bool → Bool → Bool → Bool → Bool → Record
-    read a0 a1 a2 a3 a4 a5 a6 a7 =
-        cond a0 (Head (getD b 0 0) (getD b 1 0) (getD b 2 0))
-        (cond a1 (Event (getD b 0 0) (getD b 1 0) (getD b 2 0))
-        (cond a2 (Module (getD b 0 0) (getD b 1 0) (getD b 2 0))
-        (cond a3 (ModuleMove (getD b 0 0) (getD b 1 0) (getD b 2 0) (getD b 3 0))
-        (cond a4 (Supervisor (getD b 0 0) (getD b 1 0) (getD b 2 0) (wordAt b 3))
-        (cond a5 (SupervisorMove (getD b 0 0) (getD b 1 0) (getD b 2 0) (getD b 3 0))
-        (cond a6 (Disabling (getD b 0 0) (getD b 1 0) (wordAt b 2))
-        (cond a7 (Step (getD b 0 0) (getD b 1 0) (getD b 2 0) (wordAt b 3)) End)))))))
-
-    go : (a0 a1 a2 a3 a4 a5 a6 a7 : Bool) → (a1 || a2 || a4) ≡ false → ((a3 || a5) || (a6 || a7)) ≡ false
-        → keyOf (read a0 a1 a2 a3 a4 a5 a6 a7) ≡ keyBy (cond a0 0x10 0x1f) 0 0 0
-    go true a1 a2 a3 a4 a5 a6 a7 e f = refl
-    go false true a2 a3 a4 a5 a6 a7 e f = let z : _≡_ {A = ℕ} 0 1 = cc in absurd (omega arith)
-    go false false true a3 a4 a5 a6 a7 e f = let z : _≡_ {A = ℕ} 0 1 = cc in absurd (omega arith)
-    go false false false true a4 a5 a6 a7 e f = let z : _≡_ {A = ℕ} 0 1 = cc in absurd (omega arith)
-    go false false false false true a5 a6 a7 e f = let z : _≡_ {A = ℕ} 0 1 = cc in absurd (omega arith)
-    go false false false false false true a6 a7 e f = let z : _≡_ {A = ℕ} 0 1 = cc in absurd (omega arith)
-    go false false false false false false true a7 e f = let z : _≡_ {A = ℕ} 0 1 = cc in absurd (omega arith)
-    go false false false false false false false true e f = let z : _≡_ {A = ℕ} 0 1 = cc in absurd (omega arith)
-    go false false false false false false false false e f = refl
+    go : (t : Bool) → eqb k 0x10 ≡ t → Others k → keyOf (recordOf k b) ≡ keyBy (cond (eqb k 0x10) 0x10 0x1f) 0 0 0
+    go true e o = simp e
+    go false e o = simp (e, o .k11, o .k12, o .k13, o .k14, o .k15, o .k16, o .k17)

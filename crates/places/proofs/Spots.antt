@@ -33,7 +33,7 @@ module _ (s : List ℕ) (p : Places) (q : RecordKey) where
   -- whether it is there, and has the key
   data Ends : ℕ → Type 0 where
     at-it : positionOf s p q < countOf s p (q .kind) → sameKey (keyOf here) q ≡ true → Ends spot
-    nowhere : (positionOf s p q < countOf s p (q .kind) → sameKey (keyOf here) q ≡ false) → Ends 0
+    not-there : (positionOf s p q < countOf s p (q .kind) → sameKey (keyOf here) q ≡ false) → Ends 0
 
   ends : Ends (spotOf s p q)
   unfolding spotOf
@@ -41,8 +41,8 @@ module _ (s : List ℕ) (p : Places) (q : RecordKey) where
     where
       go : (t u : Bool) → ltb (positionOf s p q) (countOf s p (q .kind)) ≡ t → sameKey (keyOf here) q ≡ u → Ends (cond (t && u) spot 0)
       go true true l e = at-it (ltb-true _ _ l) e
-      go true false l e = nowhere (λ m. e)
-      go false u l e = nowhere (λ m. absurd (false≢true (sym l ∙ lt-ltb _ _ m)))
+      go true false l e = not-there (λ m. e)
+      go false u l e = not-there (λ m. absurd (false≢true (sym l ∙ lt-ltb _ _ m)))
 
   pub spot-it : positionOf s p q < countOf s p (q .kind) → sameKey (keyOf here) q ≡ true → spot ≡ spotOf s p q
   unfolding spotOf
@@ -65,7 +65,7 @@ module _ (s : List ℕ) (p : Places) (q : RecordKey) where
           let c : runOf s p (q .kind) .count ≡ countOf s p (q .kind) = counts s p (q .kind) refl in
           let t : Inside s (runOf s p (q .kind)) (q .kind) = inside-by s p (q .kind) refl in
           omega (arith, t .within (positionOf s p q) (omega arith))
-      go (nowhere h) w = omega arith
+      go (not-there h) w = omega arith
 
   -- what a look-up finds
   module _ {a : ℕ} (e : a ≡ spotOf s p q) where
@@ -74,7 +74,7 @@ module _ (s : List ℕ) (p : Places) (q : RecordKey) where
       where
         go : {x : ℕ} → Ends x → x ≡ 0 → Missing ≡ findIn q (recordsBy s p)
         go (at-it l m) w = absurd (omega arith)
-        go (nowhere h) w = sym (missing s p q h)
+        go (not-there h) w = sym (missing s p q h)
 
     pub look-it : {v : Record} → (a ≡ 0 → ⊥) → v ≡ recordOf (q .kind) (drop a s) → It v ≡ findIn q (recordsBy s p)
     unfolding recordBy
@@ -82,7 +82,7 @@ module _ (s : List ℕ) (p : Places) (q : RecordKey) where
       where
         go : {x : ℕ} → Ends x → a ≡ x → It v ≡ findIn q (recordsBy s p)
         go (at-it l m) w = ap It (f ∙ ap (λ (y : ℕ). recordOf (q .kind) (drop y s)) w) ∙ sym (it s p q l m)
-        go (nowhere h) w = absurd (z w)
+        go (not-there h) w = absurd (z w)
 
   pub found-is : found (findIn q (recordsBy s p)) ≡ (ltb (positionOf s p q) (countOf s p (q .kind)) && sameKey (keyOf here) q)
   unfolding found
@@ -154,10 +154,10 @@ module _ (s : List ℕ) (p : Places) (q : RecordKey) (n : numbered (q .kind) ≡
   first-place : q ≡ theirs → 0 ≡ positionOf s p q
   unfolding positionOf firstOf theirs
   first-place z =
-      let f : (i : ℕ) → isBefore s p (q .kind) (leastKey q) i ≡ false = λ i. ap₂ precedes (only i) (ap leastKey z) ∙ none-before in
-      let g : (i : ℕ) → isBefore s p (q .kind) q i ≡ false = λ i. ap₂ precedes (only i) z ∙ none-before in
+      let f : (i : ℕ) → isBefore s p (leastKey q) i ≡ false = λ i. ap₂ precedes (only i) (ap leastKey z) ∙ none-before in
+      let g : (i : ℕ) → isBefore s p q i ≡ false = λ i. ap₂ precedes (only i) z ∙ none-before in
       let c : ℕ = countOf s p (q .kind) in
-      simp n (sym (ap (λ (y : ℕ). onward (isBefore s p (q .kind) q) (c - y) y) (halved-first _ c c f) ∙ onward-first _ (c - 0) 0 (g 0)))
+      simp n (sym (ap (λ (y : ℕ). onward (isBefore s p q) (c - y) y) (halved-first _ c c f) ∙ onward-first _ (c - 0) 0 (g 0)))
 
 -- of the kinds whose keys have at most one number, from what the code is told
 module _ (s : List ℕ) (p : Places) (q : RecordKey) (k : keyed (q .kind) ≡ false) {r : Run} {i : ℕ} (e : r ≡ runOf s p (q .kind)) (f : i ≡ cond (numbered (q .kind)) (q .first) 0) where

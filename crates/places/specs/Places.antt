@@ -104,19 +104,19 @@ numbered k = eqb k 0x11 || eqb k 0x12 || eqb k 0x14
 abbrev pub leastKey : RecordKey → RecordKey
 leastKey q = keyBy (q .kind) (q .first) (q .second) 0
 
--- whether the i-th record of a kind precedes a key
-abbrev pub isBefore : List ℕ → Places → ℕ → RecordKey → ℕ → Bool
-isBefore s p k q i = precedes (keyOf (recordBy s p k i)) q
+-- whether the i-th record of a key's kind precedes the key
+abbrev pub isBefore : List ℕ → Places → RecordKey → ℕ → Bool
+isBefore s p q i = precedes (keyOf (recordBy s p (q .kind) i)) q
 
--- where the records begin that have the first two numbers of a key: found by halving
+-- where the records begin, if they ascend, that have the first two numbers of a key
 unfoldable pub firstOf : List ℕ → Places → RecordKey → ℕ
-firstOf s p q = halved (isBefore s p (q .kind) (leastKey q)) (countOf s p (q .kind)) 0 (countOf s p (q .kind))
+firstOf s p q = halved (isBefore s p (leastKey q)) (countOf s p (q .kind)) 0 (countOf s p (q .kind))
 
--- of the other kinds the place is found from there on, one record after the other
+-- an event, a module or a supervisor stands at its number; a record of another kind is looked for from the first of those on, one after the other
 unfoldable pub positionOf : List ℕ → Places → RecordKey → ℕ
 positionOf s p q =
     cond (numbered (q .kind)) (q .first)
-    (onward (isBefore s p (q .kind) q) (countOf s p (q .kind) - firstOf s p q) (firstOf s p q))
+    (onward (isBefore s p q) (countOf s p (q .kind) - firstOf s p q) (firstOf s p q))
 
 -- where the body of the record with a key begins, and 0 if that record is not at its place
 unfoldable pub spotOf : List ℕ → Places → RecordKey → ℕ
@@ -146,6 +146,8 @@ kinds = 0x10 ∷ 0x11 ∷ 0x12 ∷ 0x13 ∷ 0x14 ∷ 0x15 ∷ 0x16 ∷ 0x17 ∷ 
 unfoldable pub recordsBy : List ℕ → Places → List Record
 recordsBy s p = recordsOfKinds s p kinds
 
--- the events by which a module has a move from a state
+-- ---- the moves of a state
+
+-- the events by which a module has a move from a state; no event of 64 or above is in a mask
 abbrev pub movesOf : List Record → ℕ → ℕ → ℕ
 movesOf rs m st = maskOf (λ e. found (findIn (keyBy 0x13 m st e) rs)) 64

@@ -33,6 +33,6 @@ isMove k = eqb k 0x13 || eqb k 0x15
 unfoldable pub keyed : ℕ → Bool
 keyed k = isMove k || (eqb k 0x16 || eqb k 0x17)
 
--- whether the i-th of the key's kind precedes the key
+-- the same as `isBefore`, by the run that the code holds: whether the i-th of the key's kind precedes the key
 unfoldable pub before : List ℕ → Run → RecordKey → ℕ → Bool
 before s r q i = precedes (keyOf (recordOf (q .kind) (drop (suc (r .begin + i * r .size)) s))) q

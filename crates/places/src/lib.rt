@@ -89,22 +89,54 @@ fn run_by(image: &[u8], begin: usize, end: usize, size: usize) -> Run
     Run { begin, size, count }
 }
 
-// Those of a kind. Sizes that are constants make the division cheap.
+// Those of a kind whose number is their place, and those of a kind whose keys have several numbers: small, so that with a known kind they are
+// inlined. Sizes that are constants make the division cheap.
+fn numbered_run(image: &[u8], p: Places, kind: u8) -> Run
+    requires { ⌜ numbered kind ≡ true ⌝ }
+    ensures { λ r. ⌜ r ≡ runOf (now (image .entry)) p kind ⌝ }
+{
+    if kind == 0x11 {
+        return run_by(image, p.k11 as usize, p.k12 as usize, 4);
+    }
+    if kind == 0x12 {
+        return run_by(image, p.k12 as usize, p.k13 as usize, 4);
+    }
+    run_by(image, p.k14 as usize, p.k15 as usize, 12)
+}
+
+fn keyed_run(image: &[u8], p: Places, kind: u8) -> Run
+    requires { ⌜ keyed kind ≡ true ⌝ }
+    ensures { λ r. ⌜ r ≡ runOf (now (image .entry)) p kind ⌝ }
+{
+    if kind == 0x13 {
+        return run_by(image, p.k13 as usize, p.k14 as usize, 5);
+    }
+    if kind == 0x15 {
+        return run_by(image, p.k15 as usize, p.k16 as usize, 5);
+    }
+    if kind == 0x16 {
+        return run_by(image, p.k16 as usize, p.k17 as usize, 11);
+    }
+    run_by(image, p.k17 as usize, p.k1f as usize, 12)
+}
+
+// Those of a kind.
 fn run_of(image: &[u8], p: Places, kind: u8) -> Run
     ensures { λ r. ⌜ r ≡ runOf (now (image .entry)) p kind ⌝ }
 {
-    match kind {
-        0x10 => run_by(image, 0, p.k11 as usize, 4),
-        0x11 => run_by(image, p.k11 as usize, p.k12 as usize, 4),
-        0x12 => run_by(image, p.k12 as usize, p.k13 as usize, 4),
-        0x13 => run_by(image, p.k13 as usize, p.k14 as usize, 5),
-        0x14 => run_by(image, p.k14 as usize, p.k15 as usize, 12),
-        0x15 => run_by(image, p.k15 as usize, p.k16 as usize, 5),
-        0x16 => run_by(image, p.k16 as usize, p.k17 as usize, 11),
-        0x17 => run_by(image, p.k17 as usize, p.k1f as usize, 12),
-        0x1f => run_by(image, p.k1f as usize, p.k1f as usize + 1, 1),
-        _ => run_by(image, 0, 0, 256),
+    if (kind == 0x11) | (kind == 0x12) | (kind == 0x14) {
+        return numbered_run(image, p, kind);
     }
+    if (kind == 0x13) | (kind == 0x15) | ((kind == 0x16) | (kind == 0x17)) {
+        return keyed_run(image, p, kind);
+    }
+    if kind == 0x10 {
+        return run_by(image, 0, p.k11 as usize, 4);
+    }
+    if kind == 0x1f {
+        return run_by(image, p.k1f as usize, p.k1f as usize + 1, 1);
+    }
+    run_by(image, 0, 0, 256)
 }
 
 // How many records of a kind stand there.
@@ -189,23 +221,6 @@ fn go_on(image: &[u8], run: Run, key: RecordKey, from: usize) -> usize
         }
     }
     i
-}
-
-// Those of a kind whose keys have several numbers.
-fn keyed_run(image: &[u8], p: Places, kind: u8) -> Run
-    requires { ⌜ keyed kind ≡ true ⌝ }
-    ensures { λ r. ⌜ r ≡ runOf (now (image .entry)) p kind ⌝ }
-{
-    if kind == 0x13 {
-        return run_by(image, p.k13 as usize, p.k14 as usize, 5);
-    }
-    if kind == 0x15 {
-        return run_by(image, p.k15 as usize, p.k16 as usize, 5);
-    }
-    if kind == 0x16 {
-        return run_by(image, p.k16 as usize, p.k17 as usize, 11);
-    }
-    run_by(image, p.k17 as usize, p.k1f as usize, 12)
 }
 
 // The place of such a record among those of its kind.
@@ -293,20 +308,7 @@ pub fn look(image: &[u8], p: Places, key: RecordKey) -> Found
     }
 }
 
-// The records of a kind whose number is their place, and the one whose body begins at an offset: small, so that with a known kind they are inlined.
-fn numbered_run(image: &[u8], p: Places, kind: u8) -> Run
-    requires { ⌜ numbered kind ≡ true ⌝ }
-    ensures { λ r. ⌜ r ≡ runOf (now (image .entry)) p kind ⌝ }
-{
-    if kind == 0x11 {
-        return run_by(image, p.k11 as usize, p.k12 as usize, 4);
-    }
-    if kind == 0x12 {
-        return run_by(image, p.k12 as usize, p.k13 as usize, 4);
-    }
-    run_by(image, p.k14 as usize, p.k15 as usize, 12)
-}
-
+// The record of such a kind whose body begins at an offset: small, so that with a known kind it is inlined.
 fn numbered_record(image: &[u8], kind: u8, at: usize) -> Record
     requires { ⌜ (numbered kind ≡ true) × (at + 3 ≤ length (now image)) ⌝ }
     ensures { λ r. ⌜ r ≡ recordOf kind (drop at (now (image .entry))) ⌝ }
@@ -387,7 +389,8 @@ pub fn look_number(image: &[u8], p: Places, kind: u8, first: u8) -> Found
     look(image, p, key)
 }
 
-// The events by which a module has a move from a state. Its moves stand one after the other; `floor` is the least key that may still be found.
+// The events by which a module has a move from a state. Its moves stand one after the other; `floor` is the rank of the least key that
+// may still be found.
 pub fn moves_of(image: &[u8], p: Places, owner: u8, from: u8) -> u64
     ensures { λ r. ⌜ r ≡ movesOf (recordsBy (now (image .entry)) p) owner from ⌝ }
 {

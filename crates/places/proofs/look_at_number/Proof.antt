@@ -1,5 +1,5 @@
 use Rattle.places.proofs.Counting.{inside-by}
-use Rattle.places.proofs.Finding.{number-past, number-room, number-inside, number-it, number-other}
+use Rattle.places.proofs.Numbered.{number-past, number-room, number-inside, number-it, number-other}
 use borrow.Author.Needs.{needs}
 use Rattle.places.proofs.look_at_number.Statement.{statement}
 use Rattle.places.proofs.look_at_number.Tie as tie
