@@ -12,7 +12,7 @@ use Rattle.rules.specs.LookUp.{supervisorsOf, supervisorState}
 use Rattle.rules.specs.Check.{verdictOf}
 use Rattle.rules.specs.declared.Verdict.{Verdict}
 use Rattle.rules.specs.declared.Verdict.the-variants.{Accepted, Refused}
-use Rattle.plan.specs.Plan.{supervisorMove, supervisorInitial, shown, stateBy}
+use Rattle.plan.specs.Plan.{supervisorMoved, supervisorInitial, shown}
 use Rattle.modules.specs.declared.Called.the-variants.{Done, Refused as CallRefused}
 use Rattle.messages.specs.Message.{noEvent, short, written, parse, parsedNumber}
 use Rattle.messages.specs.declared.Message.{Message}
@@ -102,7 +102,7 @@ afterNote y m = record { state = y .state; noted = putBit (y .noted) m true; hol
 
 -- "A release, due only from the holder, applies its event and brings the permit home"; a supervisor without a listed move stays
 unfoldable pub applied : List Record → ℕ → ℕ → ℕ → ℕ
-applied rs v st e = cond (eqb e noEvent) st (stateBy (supervisorMove rs v st e) st)
+applied rs v st e = cond (eqb e noEvent) st (supervisorMoved rs v st e)
 
 abbrev pub afterRelease : List Record → ℕ → Supervisor → ℕ → Supervisor
 afterRelease rs v y e = record { state = applied rs v (y .state) e; noted = y .noted; holder = Home; last = y .last }

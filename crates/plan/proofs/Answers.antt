@@ -9,7 +9,6 @@ use lib.Seq.{getD-drop}
 use lib.Dec.{eqb, ltb}
 use Rattle.bits.specs.Bit.{optionOf}
 use Rattle.bits.specs.declared.Maybe.{Maybe}
-use Rattle.bits.specs.declared.Maybe.the-variants.{Just, Nothing}
 use Rattle.words.specs.Word.{wordAt}
 use Rattle.words.proofs.Laws.{word-drop}
 use Rattle.records.specs.Key.{keyBy}
@@ -26,14 +25,14 @@ use Rattle.places.proofs.Keys.{of-moves}
 use Rattle.places.proofs.Spots.{look-missing, look-it}
 use Rattle.rules.specs.LookUp.{wordField, fieldOf}
 use Rattle.plan.specs.declared.Fields.{Fields}
-use Rattle.plan.specs.Plan.{field4, target, stateBy, inAlphabet, shown, supervisorMove, supervisorAfter, counts, counting}
+use Rattle.plan.specs.Plan.{field4, target, stateBy, inAlphabet, shown, supervisorMoved, supervisorAfter, counts, counting}
 use Rattle.plan.specs.Fields.{fieldsOf, FieldsFound}
 
 module _ {x y : Found} (p : y ≡ x) where
-  pub fields-none : {f : Fields} → y ≡ Missing → f ≡ record { first = 0; second = 0; third = 0; fourth = 0; word = 0 } → FieldsFound x f
+  pub fields-none : {f : Fields} → y ≡ Missing → f ≡ record { first = 0; second = 0; third = 0; word = 0 } → FieldsFound x f
   unfolding fieldOf
   fields-none {f} q e =
-      subst (λ (z : Found). FieldsFound z f) (sym q ∙ p) (subst (FieldsFound Missing) (sym e) (record { first = refl; second = refl; third = refl; fourth = refl; word = refl }))
+      subst (λ (z : Found). FieldsFound z f) (sym q ∙ p) (subst (FieldsFound Missing) (sym e) (record { first = refl; second = refl; third = refl; word = refl }))
 
   pub step-none : y ≡ Missing → Missing ≡ counting x
   unfolding counting
@@ -43,7 +42,7 @@ module _ {x y : Found} (p : y ≡ x) where
     pub fields-it : FieldsFound x f
     unfolding fieldOf
     fields-it =
-        subst (λ (z : Found). FieldsFound z f) (sym q ∙ p) (subst (FieldsFound (It r)) (sym e) (record { first = refl; second = refl; third = refl; fourth = refl; word = refl }))
+        subst (λ (z : Found). FieldsFound z f) (sym q ∙ p) (subst (FieldsFound (It r)) (sym e) (record { first = refl; second = refl; third = refl; word = refl }))
 
     module _ {t : Bool} (i : t ≡ inRange r) where
       tested : (t && (not (eqb (f .third) 5) || ltb (f .word) 64)) ≡ counts r
@@ -79,22 +78,16 @@ module _ (s : List ℕ) (p : Places) {a : ℕ} where
         fourth : (j : ℕ) → isMove j ≡ true → field4 (recordOf j (drop a s)) ≡ getD s (a + 3) 0
         fourth j n = of-moves (λ (i : ℕ). field4 (recordOf i (drop a s)) ≡ getD s (a + 3) 0) j n (simp getD-drop) (simp getD-drop)
 
--- a supervisor's move
-module _ (st : ℕ) {o : Option ℕ} {y : Maybe} (m : optionOf y ≡ o) where
-  pub move-stays : y ≡ Nothing → st ≡ stateBy o st
-  unfolding stateBy
-  move-stays q = ap (λ (x : Option ℕ). stateBy x st) (ap optionOf (sym q) ∙ m)
-
-  pub move-leads : {t : ℕ} → y ≡ Just t → t ≡ stateBy o st
-  unfolding stateBy
-  move-leads q = ap (λ (x : Option ℕ). stateBy x st) (ap optionOf (sym q) ∙ m)
+-- a supervisor's move, as it is listed or not
+pub moved-by : (st : ℕ) {o : Option ℕ} {x y : Maybe} {t : ℕ} → optionOf y ≡ o → y ≡ x → t ≡ stateBy (optionOf x) st → t ≡ stateBy o st
+moved-by st m q e = e ∙ ap (λ (z : Option ℕ). stateBy z st) (ap optionOf (sym q) ∙ m)
 
 -- a supervisor after an event
 module _ (rs : List Record) (v st e : ℕ) {b : Bool} (a : b ≡ inAlphabet rs v e) where
   pub after-outside : b ≡ false → st ≡ supervisorAfter rs v st e
   unfolding supervisorAfter
-  after-outside h = ap (λ (z : Bool). cond z (stateBy (supervisorMove rs v st e) st) st) (sym h ∙ a)
+  after-outside h = ap (λ (z : Bool). cond z (supervisorMoved rs v st e) st) (sym h ∙ a)
 
-  pub after-inside : {t : ℕ} → b ≡ true → t ≡ stateBy (supervisorMove rs v st e) st → t ≡ supervisorAfter rs v st e
+  pub after-inside : {t : ℕ} → b ≡ true → t ≡ supervisorMoved rs v st e → t ≡ supervisorAfter rs v st e
   unfolding supervisorAfter
-  after-inside h m = m ∙ ap (λ (z : Bool). cond z (stateBy (supervisorMove rs v st e) st) st) (sym h ∙ a)
+  after-inside h m = m ∙ ap (λ (z : Bool). cond z (supervisorMoved rs v st e) st) (sym h ∙ a)

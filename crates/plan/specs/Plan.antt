@@ -45,6 +45,10 @@ unfoldable pub stateBy : Option ℕ → ℕ → ℕ
 stateBy none st = st
 stateBy (some t) st = t
 
+-- a supervisor by its listed move
+abbrev pub supervisorMoved : List Record → ℕ → ℕ → ℕ → ℕ
+supervisorMoved rs v st e = stateBy (supervisorMove rs v st e) st
+
 -- initial states
 abbrev pub moduleInitial : List Record → ℕ → ℕ
 moduleInitial rs m = fieldOf field3 (moduleIn rs m)
@@ -68,7 +72,7 @@ inAlphabet rs v e = bit (alphabetOf rs v) e
 
 -- "Firing moves .. every supervisor with the event in its alphabet; a supervisor without a listed move stays."
 unfoldable pub supervisorAfter : List Record → ℕ → ℕ → ℕ → ℕ
-supervisorAfter rs v st e = cond (inAlphabet rs v e) (stateBy (supervisorMove rs v st e) st) st
+supervisorAfter rs v st e = cond (inAlphabet rs v e) (supervisorMoved rs v st e) st
 
 -- the controllable events that have a move from a module's state; no event is numbered 64 or above
 abbrev pub hasCommand : List Record → ℕ → ℕ → ℕ → Bool

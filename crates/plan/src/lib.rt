@@ -7,7 +7,7 @@ ghost use Rattle.places.specs.Runs.{isMove};
 ghost use Rattle.records.specs.Key.{keyBy};
 ghost use Rattle.reader.specs.Find.{findIn};
 ghost use Rattle.rules.specs.LookUp.{modulesOf, supervisorsOf, eventsOf, moduleState, supervisorState, ownerOf, controllable, alphabetOf};
-ghost use Rattle.plan.specs.Plan.{target, stateBy, moduleInitial, supervisorInitial, ownEvent, ownUncontrollable, inAlphabet, shown, moduleMove, supervisorMove, supervisorAfter, stepIn};
+ghost use Rattle.plan.specs.Plan.{target, moduleInitial, supervisorInitial, ownEvent, ownUncontrollable, inAlphabet, shown, moduleMove, supervisorMoved, supervisorAfter, stepIn};
 ghost use Rattle.plan.specs.Fields.{fieldsOf, FieldsFound};
 use bits::Maybe;
 use places::Places;
@@ -15,28 +15,26 @@ use reader::Found;
 use records::Record;
 use records::RecordKey;
 
-// The fields of a record in their order, the one of eight bytes last, and 0 for those that it lacks.
-pub struct Fields {
-    pub first: u8,
-    pub second: u8,
-    pub third: u8,
-    pub fourth: u8,
-    pub word: u64,
+// The first fields of a record in their order, the one of eight bytes last, and 0 for those that it lacks.
+struct Fields {
+    first: u8,
+    second: u8,
+    third: u8,
+    word: u64,
 }
 
-fn fields_by(first: u8, second: u8, third: u8, fourth: u8, word: u64) -> Fields
-    ensures { λ f. ⌜ f ≡ record { first = first; second = second; third = third; fourth = fourth; word = word } ⌝ }
+fn fields_by(first: u8, second: u8, third: u8, word: u64) -> Fields
+    ensures { λ f. ⌜ f ≡ record { first = first; second = second; third = third; word = word } ⌝ }
 {
     Fields {
         first,
         second,
         third,
-        fourth,
         word,
     }
 }
 
-pub fn fields_of(r: Record) -> Fields
+fn fields_of(r: Record) -> Fields
     ensures { λ f. ⌜ f ≡ fieldsOf r ⌝ }
 {
     match r {
@@ -44,47 +42,47 @@ pub fn fields_of(r: Record) -> Fields
             modules,
             supervisors,
             events,
-        } => fields_by(modules, supervisors, events, 0, 0),
+        } => fields_by(modules, supervisors, events, 0),
         Record::Event {
             number,
             owner,
             class,
-        } => fields_by(number, owner, class, 0, 0),
+        } => fields_by(number, owner, class, 0),
         Record::Module {
             number,
             states,
             initial,
-        } => fields_by(number, states, initial, 0, 0),
+        } => fields_by(number, states, initial, 0),
         Record::ModuleMove {
             owner,
             from,
             event,
-            to,
-        } => fields_by(owner, from, event, to, 0),
+            to: _,
+        } => fields_by(owner, from, event, 0),
         Record::Supervisor {
             number,
             states,
             initial,
             alphabet,
-        } => fields_by(number, states, initial, 0, alphabet),
+        } => fields_by(number, states, initial, alphabet),
         Record::SupervisorMove {
             supervisor,
             from,
             event,
-            to,
-        } => fields_by(supervisor, from, event, to, 0),
+            to: _,
+        } => fields_by(supervisor, from, event, 0),
         Record::Disabling {
             supervisor,
             state,
             mask,
-        } => fields_by(supervisor, state, 0, 0, mask),
+        } => fields_by(supervisor, state, 0, mask),
         Record::Step {
             event,
             index,
             operation,
             operand,
-        } => fields_by(event, index, operation, 0, operand),
-        Record::End => fields_by(0, 0, 0, 0, 0),
+        } => fields_by(event, index, operation, operand),
+        Record::End => fields_by(0, 0, 0, 0),
     }
 }
 
@@ -93,7 +91,7 @@ fn numbered_fields(image: &[u8], places: Places, kind: u8, first: u8) -> Fields
     ensures { λ f. ⌜ FieldsFound (findIn (keyBy kind first 0 0) (recordsBy (now (image .entry)) places)) f ⌝ }
 {
     let Found::It(r) = places::look_number(image, places, kind, first) else {
-        return fields_by(0, 0, 0, 0, 0);
+        return fields_by(0, 0, 0, 0);
     };
     fields_of(r)
 }
@@ -225,8 +223,8 @@ pub fn module_move(image: &[u8], places: Places, m: u8, st: u8, e: u8) -> Maybe
 }
 
 // Where a supervisor's listed move leads; without one it stays.
-pub fn supervisor_move(image: &[u8], places: Places, v: u8, st: u8, e: u8) -> u8
-    ensures { λ r. ⌜ r ≡ stateBy (supervisorMove (recordsBy (now (image .entry)) places) v st e) st ⌝ }
+pub fn supervisor_moved(image: &[u8], places: Places, v: u8, st: u8, e: u8) -> u8
+    ensures { λ r. ⌜ r ≡ supervisorMoved (recordsBy (now (image .entry)) places) v st e ⌝ }
 {
     let Maybe::Just(t) = target_of(image, places, 0x15, v, st, e) else {
         return st;
@@ -239,7 +237,7 @@ pub fn supervisor_after(image: &[u8], places: Places, v: u8, st: u8, e: u8) -> u
     ensures { λ r. ⌜ r ≡ supervisorAfter (recordsBy (now (image .entry)) places) v st e ⌝ }
 {
     if in_alphabet(image, places, v, e) {
-        supervisor_move(image, places, v, st, e)
+        supervisor_moved(image, places, v, st, e)
     } else {
         st
     }

@@ -20,7 +20,7 @@ use Rattle.checker.specs.declared.Examined.{Examined}
 use Rattle.checker.specs.declared.Examined.the-variants.{Accepted, Refused}
 use Rattle.checker.proofs.Examining.{accepted-by, records-by, call-by, refused-call}
 use Rattle.accepted.proofs.Accepted.{every-plan}
-use Rattle.plan.specs.Plan.{stateBy, neighbour, supervisorMove}
+use Rattle.plan.specs.Plan.{neighbour, supervisorMoved}
 use Rattle.modules.specs.declared.Called.the-variants.{Done}
 use Rattle.messages.specs.Message.{noEvent, parse}
 use Rattle.messages.specs.declared.Message.{Message}
@@ -94,7 +94,7 @@ module _ (rs : List Record) (v st e : ℕ) where
   unfolding applied
   applied-none h = simp (eq-eqb e 255 h)
 
-  pub applied-moves : {s : ℕ} → (e ≡ 255 → ⊥) → s ≡ stateBy (supervisorMove rs v st e) st → s ≡ applied rs v st e
+  pub applied-moves : {s : ℕ} → (e ≡ 255 → ⊥) → s ≡ supervisorMoved rs v st e → s ≡ applied rs v st e
   unfolding applied
   applied-moves h f = f ∙ simp (ne-eqb e 255 h)
 

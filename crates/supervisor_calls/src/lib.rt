@@ -87,7 +87,7 @@ fn apply(image: &[u8], places: Places, v: u8, st: u8, e: u8) -> u8
     if e == 255 {
         st
     } else {
-        plan::supervisor_move(image, places, v, st, e)
+        plan::supervisor_moved(image, places, v, st, e)
     }
 }
 

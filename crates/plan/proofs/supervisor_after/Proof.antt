@@ -6,8 +6,8 @@ use Rattle.plan.proofs.supervisor_after.Tie as tie
 in-alphabet-requires : tie.Need-in-alphabet-requires
 in-alphabet-requires c κs = search needs
 
-supervisor-move-requires : tie.Need-supervisor-move-requires
-supervisor-move-requires c κs = search needs
+supervisor-moved-requires : tie.Need-supervisor-moved-requires
+supervisor-moved-requires c κs = search needs
 
 returns : tie.Need-returns
 returns c = search after-inside
@@ -17,4 +17,4 @@ returns-2 c = search after-outside
 
 pub supervisor-after-spec : {M : Type 1} → statement M
 supervisor-after-spec =
-    tie.close (tie.spec in-alphabet-requires supervisor-move-requires returns returns-2)
+    tie.close (tie.spec in-alphabet-requires supervisor-moved-requires returns returns-2)

@@ -1,9 +1,10 @@
 use mathlib.Core.Path.{refl}
 use Rattle.places.specs.Runs.{isMove}
-use Rattle.plan.proofs.Answers.{move-stays, move-leads}
+use Rattle.plan.specs.Plan.{stateBy}
+use Rattle.plan.proofs.Answers.{moved-by}
 use borrow.Author.Needs.{needs}
-use Rattle.plan.proofs.supervisor_move.Statement.{statement}
-use Rattle.plan.proofs.supervisor_move.Tie as tie
+use Rattle.plan.proofs.supervisor_moved.Statement.{statement}
+use Rattle.plan.proofs.supervisor_moved.Tie as tie
 
 target-of-requires : tie.Need-target-of-requires
 unfolding isMove
@@ -16,11 +17,13 @@ enum-told : tie.Need-enum-told
 enum-told c = search needs
 
 returns : tie.Need-returns
-returns c = search move-stays
+unfolding stateBy
+returns c = search moved-by
 
 returns-2 : tie.Need-returns-2
-returns-2 c = search move-leads
+unfolding stateBy
+returns-2 c = search moved-by
 
-pub supervisor-move-spec : {M : Type 1} → statement M
-supervisor-move-spec =
+pub supervisor-moved-spec : {M : Type 1} → statement M
+supervisor-moved-spec =
     tie.close (tie.spec target-of-requires enum-known-t enum-told returns returns-2)
