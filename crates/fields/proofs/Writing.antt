@@ -1,5 +1,5 @@
 -- Laws of bytes put one after the other.
-use mathlib.Core.Path.{_≡_, refl, sym, ap, _∙_}
+use mathlib.Core.Path.{_≡_, sym, ap, _∙_}
 use mathlib.Core.List.{List, [], _∷_, _++_}
 use Prim.Native.Nat.{ℕ, suc, _+_, _≤_}
 use native.Mathlib.Nat.{add-zero, add-suc, suc-add}
@@ -9,7 +9,7 @@ use lib.Seq.{sets, length-sets}
 use lib.Ieee.{Float, binary64, toBits}
 use Rattle.words.specs.Word.{putAt, wordBytes}
 use Rattle.words.proofs.Laws.{put-sets}
-use Rattle.fields.specs.Fields.{halfBytes, floatBytes}
+use Rattle.fields.specs.Fields.{floatBytes}
 
 pub join : (l a b : List ℕ) (i j : ℕ) → j ≡ i + length a → sets (sets l i a) j b ≡ sets l i (a ++ b)
 join l [] b i j e = ap (λ (k : ℕ). sets l k b) (e ∙ add-zero i)
@@ -22,10 +22,6 @@ module _ (l : List ℕ) (o : ℕ) where
       let n : length s ≡ length l = ap length e ∙ length-sets l o a in
       let k : j + length b ≤ length s = omega (arith, length-append a b) in
       w ∙ put-sets b j s k ∙ ap (λ (x : List ℕ). sets x j b) e ∙ join l a b o j at
-
-pub length-half : (x : ℕ) → length (halfBytes x) ≡ 2
-unfolding halfBytes
-length-half x = refl
 
 -- the eight bytes of an f64
 pub float-put : (l : List ℕ) (o : ℕ) (x : Float) {b : ℕ} {s : List ℕ} → b ≡ toBits binary64 x → s ≡ putAt (wordBytes b) o l → s ≡ putAt (floatBytes x) o l

@@ -274,13 +274,6 @@ pub fn served_line(v: u8, a: Served) -> Text
     }
 }
 
-// Numbers, each with the space before it.
-pub fn numbers(s: &[u8]) -> Text
-    ensures { λ r. ⌜ r ≡ cut (spacedAll (now (s .entry))) ⌝ }
-{
-    texts::push_numbers(texts::empty(), s)
-}
-
 // `nothing`.
 pub fn nothing_line() -> Text
     ensures { λ r. ⌜ r ≡ textOf nothingLine ⌝ }

@@ -26,7 +26,7 @@ struct State {
 fn print(t: Text) {
     let bytes = t.bytes;
     let n = t.length;
-    io::write_all(1, texts::shown(&bytes, n));
+    io::write_all(1, texts::first(&bytes, n));
 }
 
 fn print_row(word: &[u8], r: Row) {
@@ -34,8 +34,7 @@ fn print_row(word: &[u8], r: Row) {
     let mut i: usize = 0;
     while i < 1024 {
         if i < r.count {
-            let one = [r.numbers[i]];
-            print(script::numbers(&one));
+            print(texts::push_field(texts::empty(), r.numbers[i]));
         }
         i += 1;
     }
