@@ -24,7 +24,8 @@ fn slot_of(s: &[u8], i: usize) -> Own
     own_bytes::own_of(&s[o..])
 }
 
-// Whether what stands in the slot of module m fits, of a plan of n modules. A NaN neither fits nor is 0, so that only the flag is judged beside.
+// Whether what stands in the slot of module m fits, of a plan of n modules. A NaN neither fits nor is 0, so that beside the own part only
+// its flag, byte 10, is judged.
 fn slot_fits(image: &[u8], places: Places, n: u8, s: &[u8], m: u8) -> bool
     requires { ⌜ (length (now s) ≡ 592) × (m < 16) ⌝ }
     ensures { λ r. ⌜ r ≡ slotFits (recordsBy (now (image .entry)) places) n (now (s .entry)) m ⌝ }

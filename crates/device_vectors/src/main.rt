@@ -17,7 +17,7 @@ fn say(s: &[u8]) {
 fn print(t: Text) {
     let bytes = t.bytes;
     let n = t.length;
-    say(texts::shown(&bytes, n));
+    say(texts::first(&bytes, n));
 }
 
 fn print_refused(number: u8, offset: usize) {

@@ -24,8 +24,8 @@ flowIn k s = cond (eqb (letterIn k 1 s) (code "o")) NoSensor (Litres (floatIn k 
 
 -- whether the field's name, which stands behind k spaces of a line, begins with a letter: each name has its own but `target` and `total`, which
 -- differ in their second
-abbrev pub named : ℕ → List ℕ → ℕ → Bool
-named k s letter = eqb (letterIn k 0 s) letter
+abbrev pub hasLetter : ℕ → List ℕ → ℕ → Bool
+hasLetter k s letter = eqb (letterIn k 0 s) letter
 
 -- the water with its `target` or its `total` set
 unfoldable pub withWater : ℕ → List ℕ → Water → Water
@@ -38,11 +38,11 @@ withWater k s w =
 unfoldable pub withPlace : ℕ → List ℕ → Procedure → Procedure
 withPlace k s p =
     record {
-      running = cond (named k s (code "r")) (eqb (numberIn (k + 1) s) 1) (p .running);
-      event = cond (named k s (code "e")) (numberIn (k + 1) s % 256) (p .event);
-      index = cond (named k s (code "i")) (numberIn (k + 1) s % 256) (p .index);
-      count = cond (named k s (code "c")) (numberIn (k + 1) s % 65536) (p .count);
-      water = cond (named k s (code "t")) (withWater k s (p .water)) (p .water);
+      running = cond (hasLetter k s (code "r")) (eqb (numberIn (k + 1) s) 1) (p .running);
+      event = cond (hasLetter k s (code "e")) (numberIn (k + 1) s % 256) (p .event);
+      index = cond (hasLetter k s (code "i")) (numberIn (k + 1) s % 256) (p .index);
+      count = cond (hasLetter k s (code "c")) (numberIn (k + 1) s % 65536) (p .count);
+      water = cond (hasLetter k s (code "t")) (withWater k s (p .water)) (p .water);
     }
 
 -- the queue with a place set; a place past the last is none
@@ -53,9 +53,9 @@ withQueued k s queue = set queue (numberIn (k + 1) s) (numberIn (k + 2) s % 256)
 unfoldable pub withField : ℕ → List ℕ → Own → Own
 withField k s own =
     record {
-      state = cond (named k s (code "s")) (numberIn (k + 1) s % 256) (own .state);
-      queue = cond (named k s (code "p")) (withQueued k s (own .queue)) (own .queue);
-      length = cond (named k s (code "l")) (numberIn (k + 1) s % 256) (own .length);
+      state = cond (hasLetter k s (code "s")) (numberIn (k + 1) s % 256) (own .state);
+      queue = cond (hasLetter k s (code "p")) (withQueued k s (own .queue)) (own .queue);
+      length = cond (hasLetter k s (code "l")) (numberIn (k + 1) s % 256) (own .length);
       procedure = withPlace k s (own .procedure);
-      outputs = cond (named k s (code "o")) (bitsIn (k + 1) s % 2 ^ 32) (own .outputs);
+      outputs = cond (hasLetter k s (code "o")) (bitsIn (k + 1) s % 2 ^ 32) (own .outputs);
     }

@@ -13,7 +13,7 @@ const ROOM: usize = 49153;
 fn print(t: Text) {
     let bytes = t.bytes;
     let n = t.length;
-    io::write_all(1, texts::shown(&bytes, n));
+    io::write_all(1, texts::first(&bytes, n));
 }
 
 // Plays a line, prints what it got, and gives the device after it.

@@ -21,7 +21,7 @@ fn say(s: &[u8]) {
 fn print(t: Text) {
     let bytes = t.bytes;
     let n = t.length;
-    say(texts::shown(&bytes, n));
+    say(texts::first(&bytes, n));
 }
 
 // ---- what is printed

@@ -44,15 +44,15 @@ fn release_all(image: &[u8], places: Places, m: u8, mask: u32, t: Turn, buffer: 
     requires { ⌜ length (releaseBytes (recordsBy (now image) places) m mask t) ≤ length (now buffer) ⌝ }
     ensures { λ r. ⌜ now (buffer .exit) ≡ written (releaseBytes (recordsBy (now (image .entry)) places) m mask t) (now (buffer .entry)) ⌝ }
 {
-    let wide = mask as u64;
+    let mask_bits = mask as u64;
     let mut at: usize = 0;
     let mut v: u8 = 0;
     while v < 32 {
         // Past the last of them nothing is left to write.
-        if wide >> v == 0 {
+        if mask_bits >> v == 0 {
             return;
         }
-        if bits::has(wide, v) {
+        if bits::has(mask_bits, v) {
             release_to(image, places, m, v, t, &mut *buffer, at);
             at += 4;
         }

@@ -1,5 +1,5 @@
 // A line of output as a value: specs/Text.antt says what a text is, and the other files of specs/ what is put behind one. A program prints a text
-// by one call, `io::write_all(1, texts::shown(&bytes, n))`.
+// by one call, `io::write_all(1, texts::first(&bytes, n))`.
 ghost use mathlib.Core.Path.{_≡_};
 ghost use mathlib.Core.List.{[]};
 ghost use lib.ListN.{take};
@@ -25,7 +25,7 @@ pub fn empty() -> Text
 }
 
 // What is to be written of a text: the first n of its bytes, or all.
-pub fn shown(bytes: &[u8], n: usize) -> &[u8]
+pub fn first(bytes: &[u8], n: usize) -> &[u8]
     ensures { λ r. ⌜ now r ≡ take n (now (bytes .entry)) ⌝ }
 {
     if n < bytes.len() { &bytes[..n] } else { bytes }

@@ -15,7 +15,7 @@ fn say(s: &[u8]) {
 fn print(t: Text) {
     let bytes = t.bytes;
     let n = t.length;
-    say(texts::shown(&bytes, n));
+    say(texts::first(&bytes, n));
 }
 
 // The buffer behind an answer.

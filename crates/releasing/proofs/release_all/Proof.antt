@@ -8,10 +8,10 @@ use Rattle.releasing.proofs.release_all.Statement.{statement}
 use Rattle.releasing.proofs.release_all.Tie as tie
 
 abbrev Inv-loop : tie.InvT-loop
-Inv-loop image places m mask t buffer₀ wide at₀ v₀ buffer at v = Going (recordsBy image places) m mask t buffer₀ buffer at v
+Inv-loop image places m mask t buffer₀ mask-bits at₀ v₀ buffer at v = Going (recordsBy image places) m mask t buffer₀ buffer at v
 
 abbrev μ-loop : tie.MeasureT-loop
-μ-loop image places m mask t buffer₀ wide at₀ v₀ buffer at v = 32 - v
+μ-loop image places m mask t buffer₀ mask-bits at₀ v₀ buffer at v = 32 - v
 
 loop-holds : tie.Need-loop-holds Inv-loop μ-loop
 loop-holds c = search begins

@@ -2,8 +2,8 @@ use mathlib.Core.Path.{sym}
 use native.Mathlib.Omega.{arith}
 use lib.Seq.{length-take-le, take-all}
 use borrow.Author.Needs.{needs}
-use Rattle.texts.proofs.shown.Statement.{statement}
-use Rattle.texts.proofs.shown.Tie as tie
+use Rattle.texts.proofs.first.Statement.{statement}
+use Rattle.texts.proofs.first.Tie as tie
 
 slice-aggregate-result : tie.Need-slice-aggregate-result
 slice-aggregate-result c = sym (length-take-le _ _ (omega arith))
@@ -14,5 +14,5 @@ returns c = search needs
 returns-2 : tie.Need-returns-2
 returns-2 c = sym (take-all _ _ (c .if1 .left))
 
-pub shown-spec : {M : Type 1} → statement M
-shown-spec = tie.close (tie.spec slice-aggregate-result returns returns-2)
+pub first-spec : {M : Type 1} → statement M
+first-spec = tie.close (tie.spec slice-aggregate-result returns returns-2)
