@@ -112,7 +112,8 @@ isBefore s p q i = precedes (keyOf (recordBy s p (q .kind) i)) q
 unfoldable pub firstOf : List ℕ → Places → RecordKey → ℕ
 firstOf s p q = halved (isBefore s p (leastKey q)) (countOf s p (q .kind)) 0 (countOf s p (q .kind))
 
--- an event, a module or a supervisor stands at its number; a record of another kind is looked for from the first of those on, one after the other
+-- an event, a module or a supervisor stands at its number; a record of another kind is looked for one after the other, from the first on that has
+-- the first two numbers of the key
 unfoldable pub positionOf : List ℕ → Places → RecordKey → ℕ
 positionOf s p q =
     cond (numbered (q .kind)) (q .first)

@@ -223,7 +223,7 @@ fn go_on(image: &[u8], run: Run, key: RecordKey, from: usize) -> usize
     i
 }
 
-// The place of such a record among those of its kind.
+// The place of the record with a key of several numbers among those of its kind.
 fn keyed_place(image: &[u8], p: Places, run: Run, key: RecordKey) -> usize
     requires { ⌜ (keyed (key .kind) ≡ true) × (run ≡ runOf (now image) p (key .kind)) ⌝ }
     ensures { λ r. ⌜ r ≡ positionOf (now (image .entry)) p key ⌝ }
@@ -238,7 +238,7 @@ fn keyed_place(image: &[u8], p: Places, run: Run, key: RecordKey) -> usize
     go_on(image, run, key, first)
 }
 
-// Where its body begins, or 0.
+// Where the body of that record begins, or 0.
 fn seek_keyed(image: &[u8], p: Places, key: RecordKey) -> usize
     requires { ⌜ keyed (key .kind) ≡ true ⌝ }
     ensures { λ r. ⌜ r ≡ spotOf (now (image .entry)) p key ⌝ }
@@ -308,7 +308,7 @@ pub fn look(image: &[u8], p: Places, key: RecordKey) -> Found
     }
 }
 
-// The record of such a kind whose body begins at an offset: small, so that with a known kind it is inlined.
+// The record, of a kind whose number is its place, whose body begins at an offset: small, so that with a known kind it is inlined.
 fn numbered_record(image: &[u8], kind: u8, at: usize) -> Record
     requires { ⌜ (numbered kind ≡ true) × (at + 3 ≤ length (now image)) ⌝ }
     ensures { λ r. ⌜ r ≡ recordOf kind (drop at (now (image .entry))) ⌝ }
