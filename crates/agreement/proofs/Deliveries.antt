@@ -13,7 +13,7 @@ use Rattle.records.specs.declared.Record.{Record}
 use Rattle.rules.specs.LookUp.{modulesOf, supervisorsOf, eventsOf, ownerOf}
 use Rattle.rules.specs.declared.Verdict.{Verdict}
 use Rattle.rules.specs.declared.Verdict.the-variants.{Accepted}
-use Rattle.plan.specs.Plan.{inAlphabet, supervisorMove, stateBy}
+use Rattle.plan.specs.Plan.{inAlphabet, supervisorMove, stateOr}
 use Rattle.modules.specs.declared.Called.the-variants.{Done}
 use Rattle.messages.specs.Message.{noEvent, messageBytes, parse}
 use Rattle.messages.specs.declared.Message.{Message}
@@ -124,15 +124,15 @@ module _ (rs : List Record) (L : Laws (planOf rs)) (D : System) (O : R.OneDevice
         rw (a, both-named rs L D O I m v (release-near t), lt-ltb v (supervisorsOf rs) (release-supervisor t), supervisor-fits rs L D O I v x (release-supervisor t) s, event-named e (release-names (planOf rs) L D O I t .event), eqb-self v, h)
 
     applied-is : (o : Option ℕ) (st : ℕ) → R.eventOfBoth (planOf rs) m v o ≡ true → S.applied rs v st (eventByte o) ≡ R.applied (planOf rs) v st o
-    unfolding S.applied R.applied eventByte R.eventOfBoth planOf stateBy
+    unfolding S.applied R.applied eventByte R.eventOfBoth planOf stateOr
     applied-is none st h = refl
     applied-is (some n) st h =
         let q = and-true (inAlphabet rs v n) (eqb (ownerOf rs n) m) h in
         let a : n < eventsOf rs = L .alphabet-event v n (q .0) in
         let b : eventsOf rs ≤ 64 = L .few-events in
-        ap (λ (c : Bool). cond c st (stateBy (supervisorMove rs v st n) st)) (ne-eqb n noEvent (λ f. omega arith)) ∙ go (supervisorMove rs v st n)
+        ap (λ (c : Bool). cond c st (stateOr (supervisorMove rs v st n) st)) (ne-eqb n noEvent (λ f. omega arith)) ∙ go (supervisorMove rs v st n)
       where
-        go : (o : Option ℕ) → stateBy o st ≡ Option·getD o st
+        go : (o : Option ℕ) → stateOr o st ≡ Option·getD o st
         go none = refl
         go (some y) = refl
 

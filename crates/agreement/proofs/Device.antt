@@ -18,7 +18,7 @@ use Rattle.records.specs.declared.Record.{Record}
 use Rattle.rules.specs.LookUp.{modulesOf, supervisorsOf, supervisorState}
 use Rattle.rules.specs.declared.Verdict.{Verdict}
 use Rattle.rules.specs.declared.Verdict.the-variants.{Accepted}
-use Rattle.plan.specs.Plan.{supervisorMove, stateBy, supervisorAfter, shown, inAlphabet}
+use Rattle.plan.specs.Plan.{supervisorMove, stateOr, supervisorAfter, shown, inAlphabet}
 use Rattle.modules.specs.declared.Own.{Own}
 use Rattle.modules.specs.declared.Turn.{Turn}
 use Rattle.modules.specs.declared.Turn.the-variants.{Event, Stray, Nothing}
@@ -81,23 +81,23 @@ module _ (rs : List Record) (few-modules : modulesOf rs ≤ 16) (few : superviso
 
   -- where firing leads a supervisor
   led-same : (v x : ℕ) (t : Turn) → stateAfterTurn rs v x t ≡ R.stateAfter (planOf rs) v x t
-  unfolding stateAfterTurn supervisorAfter R.stateAfter planOf stateBy
+  unfolding stateAfterTurn supervisorAfter R.stateAfter planOf stateOr
   led-same v x (Event e) = ap (λ (y : ℕ). cond (inAlphabet rs v e) y x) (go (supervisorMove rs v x e))
     where
-      go : (o : Option ℕ) → stateBy o x ≡ Option·getD o x
-      go none = unfold stateBy in refl
-      go (some y) = unfold stateBy in refl
+      go : (o : Option ℕ) → stateOr o x ≡ Option·getD o x
+      go none = unfold stateOr in refl
+      go (some y) = unfold stateOr in refl
   led-same v x (Stray e) = refl
   led-same v x Nothing = refl
 
   -- a state stays fit
   led-fits : (v x : ℕ) (t : Turn) → supervisorState rs v x ≡ true → supervisorState rs v (stateAfterTurn rs v x t) ≡ true
-  unfolding stateAfterTurn supervisorAfter stateBy
+  unfolding stateAfterTurn supervisorAfter stateOr
   led-fits v x (Event e) h = go (inAlphabet rs v e) (supervisorMove rs v x e) refl
     where
-      go : (b : Bool) (o : Option ℕ) → supervisorMove rs v x e ≡ o → supervisorState rs v (cond b (stateBy o x) x) ≡ true
-      go true none q = unfold stateBy in h
-      go true (some y) q = unfold stateBy in (kept v x e y q)
+      go : (b : Bool) (o : Option ℕ) → supervisorMove rs v x e ≡ o → supervisorState rs v (cond b (stateOr o x) x) ≡ true
+      go true none q = unfold stateOr in h
+      go true (some y) q = unfold stateOr in (kept v x e y q)
       go false o q = h
   led-fits v x (Stray e) h = h
   led-fits v x Nothing h = h
@@ -107,7 +107,7 @@ module _ (rs : List Record) (few-modules : modulesOf rs ≤ 16) (few : superviso
   unfolding stateAfterTurn supervisorAfter
   led-stays v x (Event e) h = go (inAlphabet rs v e) refl
     where
-      go : (b : Bool) → inAlphabet rs v e ≡ b → cond b (stateBy (supervisorMove rs v x e) x) x ≡ x
+      go : (b : Bool) → inAlphabet rs v e ≡ b → cond b (stateOr (supervisorMove rs v x e) x) x ≡ x
       go true q = let l : v < supervisorsOf rs = watched v e q in absurd (omega arith)
       go false q = refl
   led-stays v x (Stray e) h = refl

@@ -25,7 +25,7 @@ use Rattle.fields.specs.Fields.{bytesFrom}
 use Rattle.fields.proofs.Back.{and-left, and-right, from-all}
 use Rattle.own_bytes.specs.Own.{ownBytes, ownOf, isOwn, unfitOwn, OwnEncodable}
 use Rattle.own_bytes.proofs.Parts.{own-parts}
-use Rattle.device_bytes.specs.Device.{ownsBytes, deviceBytes, slotOf, stateOf, deviceAt, isSlot, isDevice, unfitDevice, OwnsEncodable, DeviceEncodable}
+use Rattle.device_bytes.specs.Device.{ownsBytes, deviceBytes, slotOf, stateByte, deviceAt, isSlot, isDevice, unfitDevice, OwnsEncodable, DeviceEncodable}
 
 -- ---- decoding what was encoded
 
@@ -85,8 +85,8 @@ module _ (d : Device) (h : DeviceEncodable d) where
       subst T (sym (ap (isSlot b) (sym (zero-add k)) ∙ slots-stand (d .supervisors) (d .modules) [] 0 refl (h .owns) k (omega (arith, l, h .modules)))) tt in
       ap₂ _&&_ (eq-eqb (length b) 592 device-size) (is-true (allBelow (isSlot b) 16) (all-of (isSlot b) 16 slot))
 
-  state-back : (v : ℕ) → stateOf (deviceBytes d) v ≡ getD (d .supervisors) v 0
-  unfolding stateOf deviceBytes
+  state-back : (v : ℕ) → stateByte (deviceBytes d) v ≡ getD (d .supervisors) v 0
+  unfolding stateByte deviceBytes
   state-back v = sym (getD-drop 560 (deviceBytes d) v 0) ∙ ap (λ (s : List ℕ). getD s v 0) (drop-at (ownsBytes (d .modules)) (d .supervisors) 560 owns-length)
 
   pub device-back : deviceAt (deviceBytes d) ≡ d
@@ -94,7 +94,7 @@ module _ (d : Device) (h : DeviceEncodable d) where
   device-back =
       ap₂ (λ (x : List Own) (y : List ℕ). record { modules = x; supervisors = y })
       (ap (listFrom (slotOf (deviceBytes d)) 0) (sym (h .modules)) ∙ slots-back (d .supervisors) (d .modules) [] 0 refl (h .owns))
-      (from-same (stateOf (deviceBytes d)) (λ v. getD (d .supervisors) v 0) state-back 0 32 ∙ ap (listFrom (λ v. getD (d .supervisors) v 0) 0) (sym (h .supervisors)) ∙ same-slots 0 (d .supervisors))
+      (from-same (stateByte (deviceBytes d)) (λ v. getD (d .supervisors) v 0) state-back 0 32 ∙ ap (listFrom (λ v. getD (d .supervisors) v 0) 0) (sym (h .supervisors)) ∙ same-slots 0 (d .supervisors))
 
 -- ---- encoding what was decoded
 
@@ -125,8 +125,8 @@ module _ (b : List ℕ) (g : Bytes b) (all : (k : ℕ) → k < 16 → isSlot b k
       ap₂ (λ (x y : List ℕ). x ++ y) (slot-written i (omega arith)) (slots-written n (suc i) (omega arith) ∙ ap (λ (p : ℕ). bytesFrom b p (n * 35)) j)
       ∙ sym (from-add b (i * 35) 35 (n * 35)) ∙ ap (bytesFrom b (i * 35)) k
 
-states-written : (b : List ℕ) → listFrom (stateOf b) 0 32 ≡ bytesFrom b 560 32
-unfolding listFrom stateOf bytesFrom
+states-written : (b : List ℕ) → listFrom (stateByte b) 0 32 ≡ bytesFrom b 560 32
+unfolding listFrom stateByte bytesFrom
 states-written b = refl
 
 pub device-written : (b : List ℕ) → Bytes b → isDevice b ≡ true → deviceBytes (deviceAt b) ≡ b

@@ -28,7 +28,7 @@ use Rattle.own_bytes.specs.Own.{ownBytes, ownOf}
 use Rattle.own_bytes.proofs.Writing.{length-own}
 use Rattle.fields.specs.Fields.{bytesFrom}
 use Rattle.fields.proofs.Back.{and-left}
-use Rattle.device_bytes.specs.Device.{ownsBytes, deviceBytes, devicePut, slotOf, stateOf, deviceAt, isSlot, isDevice, deviceOf, slotFits, statesIn, ownIn, slotPut}
+use Rattle.device_bytes.specs.Device.{ownsBytes, deviceBytes, devicePut, slotOf, stateByte, deviceAt, isSlot, isDevice, deviceOf, slotFits, statesIn, ownIn, slotPut}
 use Rattle.device_bytes.proofs.Laws.{slot-at}
 use Rattle.device_bytes.proofs.Back.{device-written, device-unfit}
 
@@ -92,7 +92,7 @@ module _ (b : List ℕ) (g : Bytes b) (d : isDevice b ≡ true) where
   owns-size : length (ownsBytes (deviceAt b .modules)) ≡ 560
   owns-size =
       let A : List ℕ = ownsBytes (deviceAt b .modules) in
-      omega (arith, size, ap length before, length-append A (deviceAt b .supervisors), from-length (stateOf b) 0 32)
+      omega (arith, size, ap length before, length-append A (deviceAt b .supervisors), from-length (stateByte b) 0 32)
 
   module _ (m : ℕ) (own : Own) (q : length (own .queue) ≡ 8) where
     abbrev after : List ℕ
@@ -144,14 +144,14 @@ module _ (b : List ℕ) (g : Bytes b) (d : isDevice b ≡ true) where
       pub device-moved : devicePut (record { modules = set (deviceAt b .modules) m own; supervisors = states }) b ≡ putAt states 560 (slotPut own m b)
       device-moved =
           let S : List ℕ = deviceAt b .supervisors in
-          let k : length S ≡ 32 = from-length (stateOf b) 0 32 in
+          let k : length S ≡ 32 = from-length (stateByte b) 0 32 in
           let at : 560 ≡ length after + 0 = omega (arith, slot .sized) in
           let room : 560 + length states ≤ length (after ++ S) = omega (arith, slot .sized, length-append after S) in
           device-put ∙ ap (λ (l : List ℕ). after ++ l) (sym (sets-whole S states (n ∙ sym k))) ∙ sym (sets-behind after S 0 560 states at)
           ∙ sym (put-sets states 560 (after ++ S) room) ∙ ap (putAt states 560) (slot .bytes)
 
     pub device-kept : devicePut (withOwn (deviceAt b) m own) b ≡ slotPut own m b
-    device-kept = device-put (deviceAt b .supervisors) (from-length (stateOf b) 0 32) ∙ slot .bytes
+    device-kept = device-put (deviceAt b .supervisors) (from-length (stateByte b) 0 32) ∙ slot .bytes
 
 -- ---- the bytes fit
 
@@ -187,7 +187,7 @@ module _ (rs : List Record) (b : List ℕ) where
     is-device w = ap₂ _&&_ (eq-eqb (length b) 592 l) w
 
     module _ {a : Bool} (w : a ≡ allBelow (slotFits rs n b) 16) where
-      pub fits-by : {x : Bool} {states : List ℕ} → a ≡ true → states ≡ listFrom (stateOf b) 0 32 → x ≡ allBelow (stateSlotFits rs states) 32 → x ≡ deviceFits rs (deviceOf b)
+      pub fits-by : {x : Bool} {states : List ℕ} → a ≡ true → states ≡ listFrom (stateByte b) 0 32 → x ≡ allBelow (stateSlotFits rs states) 32 → x ≡ deviceFits rs (deviceOf b)
       unfolding deviceOf deviceFits
       fits-by t v z =
           let all = all-slots (subst T (sym t ∙ w) tt) in

@@ -28,7 +28,7 @@ use Rattle.fields.proofs.Writing.{join}
 use Rattle.own_bytes.specs.Own.{ownBytes, ownRead}
 use Rattle.own_bytes.proofs.Writing.{length-own}
 use Rattle.own_bytes.proofs.Reading.{read-all, flag-fails, fits-stands, empty-stands, zero-at, zeros-stand, zeros-empty}
-use Rattle.device_bytes.specs.Device.{ownsBytes, deviceBytes, devicePut, slotOf, stateOf, isSlot, slotFits, deviceAt, statesIn, ownIn, slotPut}
+use Rattle.device_bytes.specs.Device.{ownsBytes, deviceBytes, devicePut, slotOf, stateByte, isSlot, slotFits, deviceAt, statesIn, ownIn, slotPut}
 
 -- ---- read
 
@@ -109,19 +109,19 @@ module _ (rs : List Record) (n : ℕ) (s : List ℕ) (m : ℕ) {b : Bool} (e : b
   slot-fails = one-fails (slotFits rs n s) 16 m e
 
 module _ (s : List ℕ) where
-  pub states-on : (i : ℕ) {x : ℕ} {l : List ℕ} → l ≡ filled (stateOf s) 0 32 i → x ≡ getD s (560 + i) 0 → i < 32 → set l i x ≡ filled (stateOf s) 0 32 (i + 1)
-  unfolding stateOf
-  states-on i = fill-on (stateOf s) 0 32 i
+  pub states-on : (i : ℕ) {x : ℕ} {l : List ℕ} → l ≡ filled (stateByte s) 0 32 i → x ≡ getD s (560 + i) 0 → i < 32 → set l i x ≡ filled (stateByte s) 0 32 (i + 1)
+  unfolding stateByte
+  states-on i = fill-on (stateByte s) 0 32 i
 
-  pub states-done : (i : ℕ) {l : List ℕ} → l ≡ filled (stateOf s) 0 32 i → 32 ≤ i → i ≤ 32 → l ≡ listFrom (stateOf s) 0 32
-  states-done i = fill-done (stateOf s) 0 32 i
+  pub states-done : (i : ℕ) {l : List ℕ} → l ≡ filled (stateByte s) 0 32 i → 32 ≤ i → i ≤ 32 → l ≡ listFrom (stateByte s) 0 32
+  states-done i = fill-done (stateByte s) 0 32 i
 
   -- the own part of a module
   pub slot-at : (m : ℕ) → m < 16 → ownAt (deviceAt s) m ≡ slotOf s m
   slot-at m h = from-at (slotOf s) 0 16 m emptyOwn h ∙ ap (slotOf s) (zero-add m)
 
   -- what a call takes
-  pub states-yes : {r : List ℕ} → length s ≡ 592 → r ≡ listFrom (stateOf s) 0 32 → r ≡ statesIn s
+  pub states-yes : {r : List ℕ} → length s ≡ 592 → r ≡ listFrom (stateByte s) 0 32 → r ≡ statesIn s
   unfolding statesIn
   states-yes h e = simp (eq-eqb (length s) 592 h) e
 

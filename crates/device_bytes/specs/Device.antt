@@ -33,11 +33,11 @@ devicePut d s = cond (leb 592 (length s)) (written (deviceBytes d) s) s
 unfoldable pub slotOf : List ℕ → ℕ → Own
 slotOf b m = ownOf (drop (m * 35) b)
 
-unfoldable pub stateOf : List ℕ → ℕ → ℕ
-stateOf b v = getD b (560 + v) 0
+unfoldable pub stateByte : List ℕ → ℕ → ℕ
+stateByte b v = getD b (560 + v) 0
 
 abbrev pub deviceAt : List ℕ → Device
-deviceAt b = record { modules = listFrom (slotOf b) 0 16; supervisors = listFrom (stateOf b) 0 32 }
+deviceAt b = record { modules = listFrom (slotOf b) 0 16; supervisors = listFrom (stateByte b) 0 32 }
 
 -- "Bytes of another length, a flag other than 0 and 1, .. and f64 bits of a NaN stand for no state"
 unfoldable pub isSlot : List ℕ → ℕ → Bool

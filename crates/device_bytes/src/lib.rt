@@ -9,7 +9,7 @@ ghost use Rattle.places.specs.Places.{recordsBy};
 ghost use Rattle.plan.specs.Lists.{listFrom};
 ghost use Rattle.device_states.specs.States.{deviceFits};
 ghost use Rattle.own_bytes.specs.Own.{ownBytes};
-ghost use Rattle.device_bytes.specs.Device.{ownsBytes, devicePut, slotOf, stateOf, slotFits, deviceOf, statesIn, ownIn, slotPut};
+ghost use Rattle.device_bytes.specs.Device.{ownsBytes, devicePut, slotOf, stateByte, slotFits, deviceOf, statesIn, ownIn, slotPut};
 use device_states::Device;
 use modules::Own;
 use places::Places;
@@ -74,7 +74,7 @@ fn slots_fit(image: &[u8], places: Places, n: u8, s: &[u8]) -> bool
 
 fn states_in(s: &[u8]) -> [u8; 32]
     requires { ⌜ length (now s) ≡ 592 ⌝ }
-    ensures { λ r. ⌜ r ≡ listFrom (stateOf (now (s .entry))) 0 32 ⌝ }
+    ensures { λ r. ⌜ r ≡ listFrom (stateByte (now (s .entry))) 0 32 ⌝ }
 {
     let mut next = [0u8; 32];
     let mut i: usize = 0;

@@ -103,7 +103,7 @@ module _ (s : List ℕ) (m : ℕ) (g : Bytes s) (d : isDevice s ≡ true) where
         ∙ ap (λ (y : Device). devicePut y s) (turn-event rs (deviceAt s) m t refl x is)
 
     pub after-none : OneOf (1 ∷ 2 ∷ []) (tagOf the-type (t .turn)) → s1 ≡ devicePut (afterTurn rs (deviceAt s) m t) s
-    after-none o = w ∙ sym (device-kept s g d m (t .own) q) ∙ ap (λ (y : Device). devicePut y s) (turn-none rs (deviceAt s) m t refl o (from-length (bytes.stateOf s) 0 32))
+    after-none o = w ∙ sym (device-kept s g d m (t .own) q) ∙ ap (λ (y : Device). devicePut y s) (turn-none rs (deviceAt s) m t refl o (from-length (bytes.stateByte s) 0 32))
 
   module _ (x : Replied) {a : Called} (e : a ≡ calledBy (x .reply)) {t : Bool} (z : t ≡ eqb (calledNumber a) 0) {r : ℕ} (v : r ≡ calledAnswer a) where
     same : t ≡ eqb (calledNumber (calledBy (x .reply))) 0

@@ -19,7 +19,7 @@ use Rattle.reader.specs.declared.Found.{Found}
 use Rattle.places.specs.declared.Places.{Places}
 use Rattle.places.specs.Places.{countOf, numbered, recordsBy}
 use Rattle.places.proofs.Finding.{number-missing}
-use Rattle.plan.specs.Plan.{shown, supervisorMove, stateBy, supervisorAfter}
+use Rattle.plan.specs.Plan.{shown, supervisorMove, stateOr, supervisorAfter}
 use Rattle.rules.specs.LookUp.{wordField, fieldOf, modulesOf, supervisorsOf, supervisorState}
 use Rattle.modules.specs.declared.Own.{Own}
 use Rattle.modules.specs.declared.Turn.the-variants.{Event}
@@ -253,5 +253,5 @@ pub stays : (s : List ℕ) (p : Places) (states : List ℕ) (e v : ℕ) → coun
 unfolding stateAfterTurn supervisorAfter fieldOf numbered
 stays s p states e v h =
     let st : ℕ = stateOf states v in
-    let by : Bool → ℕ = λ t. cond t (stateBy (supervisorMove (recordsBy s p) v st e) st) st in
+    let by : Bool → ℕ = λ t. cond t (stateOr (supervisorMove (recordsBy s p) v st e) st) st in
     ap (λ (y : Found). by (bit (fieldOf wordField y) e)) (number-missing s p 0x14 v refl h) ∙ ap by (bit-none e)

@@ -22,7 +22,7 @@ use Rattle.own_bytes.specs.Own.{procedureOf, ownOf, isOwn, OwnEncodable}
 use Rattle.party_bytes.specs.Module.{moduleAt, moduleBytes, moduleOf, isModule, unfitModule, ModuleEncodable}
 use Rattle.party_bytes.specs.Supervisor.{holderByte, holderOf, supervisorAt, supervisorBytes, supervisorOf, unfitSupervisor, SupervisorEncodable}
 use Rattle.party_bytes.proofs.Parts.{module-parts, supervisor-parts}
-use Rattle.device_bytes.specs.Device.{slotOf, stateOf, deviceAt, deviceBytes, deviceOf, isSlot, isDevice, unfitDevice, OwnsEncodable, DeviceEncodable}
+use Rattle.device_bytes.specs.Device.{slotOf, stateByte, deviceAt, deviceBytes, deviceOf, isSlot, isDevice, unfitDevice, OwnsEncodable, DeviceEncodable}
 use Rattle.device_bytes.proofs.Parts.{device-parts}
 use Rattle.interface_laws.specs.Exact.{Exact}
 use Rattle.interface_laws.proofs.ByteLists.{bytes-none, bytes-more, bytes-listed}
@@ -97,7 +97,7 @@ device-is b g h =
     let L : Bool = eqb (length b) 592 in
     let A : Bool = allBelow (isSlot b) 16 in
     let all : (k : ℕ) → k < 16 → isSlot b k ≡ true = λ k m. is-true (isSlot b k) (all-at (isSlot b) 16 (subst T (sym (and-right L A h)) tt) k m) in
-    record { owns = slots-encodable b g all 16 0 (omega arith); modules = refl; supervisors = refl; states = bytes-listed (stateOf b) (λ v. unfold stateOf in g (560 + v)) 0 32 }
+    record { owns = slots-encodable b g all 16 0 (omega arith); modules = refl; supervisors = refl; states = bytes-listed (stateByte b) (λ v. unfold stateByte in g (560 + v)) 0 32 }
 
 pub exact : Exact
 exact =

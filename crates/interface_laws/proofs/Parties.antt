@@ -23,7 +23,7 @@ use Rattle.rules.specs.Check.{verdictOf}
 use Rattle.rules.specs.declared.Verdict.{Verdict}
 use Rattle.rules.specs.declared.Verdict.the-variants.{Accepted, Refused as CheckRefused}
 use Rattle.rules.proofs.Valid.{both}
-use Rattle.plan.specs.Plan.{supervisorMove, supervisorInitial, neighbours, stateBy}
+use Rattle.plan.specs.Plan.{supervisorMove, supervisorInitial, neighbours, stateOr}
 use Rattle.accepted.specs.Plan.{Sound}
 use Rattle.accepted.proofs.Accepted.{every-plan}
 use Rattle.roundtrip.specs.Fits.{Byte, Bytes}
@@ -197,11 +197,11 @@ module _ (rs : List Record) (plan : Sound rs) where
         let e : supervisorInitial rs v ≡ r .initial = ap (fieldOf field3) (plan .finds (SupervisorRecord v (r .states) (r .initial) (r .alphabet)) (r .listed)) in
         omega (arith, r .states-most, r .initial-below)
 
-  pub moved-byte : (v st e : ℕ) → Byte st → Byte (stateBy (supervisorMove rs v st e) st)
-  unfolding stateBy
+  pub moved-byte : (v st e : ℕ) → Byte st → Byte (stateOr (supervisorMove rs v st e) st)
+  unfolding stateOr
   moved-byte v st e h = go (supervisorMove rs v st e) refl
     where
-      go : (o : Option ℕ) → supervisorMove rs v st e ≡ o → Byte (stateBy o st)
+      go : (o : Option ℕ) → supervisorMove rs v st e ≡ o → Byte (stateOr o st)
       go none q = h
       go (some y) q = let k = supervisor-move rs plan v st e y q in omega (arith, k .to, states v (k .supervisor))
 

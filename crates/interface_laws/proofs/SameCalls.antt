@@ -44,7 +44,7 @@ use Rattle.packing.specs.Flow.{flowOf}
 use Rattle.device_interface.specs.Calls as DeviceCalls
 use Rattle.module_interface.specs.Calls as ModuleCalls
 use Rattle.supervisor_interface.specs.Calls as SupervisorCalls
-use Rattle.interface_laws.specs.SameCalls.{moduleAnswer, stepAnswer, supervisorAnswer, serveAnswer, deviceAnswer, turnAnswer, startedAnswer, SameCalls}
+use Rattle.interface_laws.specs.SameCalls.{moduleAnswer, stepAnswer, supervisorAnswer, serveAnswer, deviceAnswer, deviceTurnAnswer, startedAnswer, SameCalls}
 use Rattle.interface_laws.proofs.Exact.{exact}
 use Rattle.interface_laws.proofs.InPlace.{over, put-over, put-device}
 use Rattle.interface_laws.proofs.OwnParts.{choose, start-encodable}
@@ -119,7 +119,7 @@ device-called d h call k r =
     ap (λ (y : Device). DeviceCalls.calledOn (call y) (deviceBytes d)) (exact .device-again d h)
     ∙ ap (λ (s : List ℕ). record { number = calledAnswer (call d .answer); state = s; buffer = [] }) (device-left (calledNumber (call d .answer)) d (call d .device) h k r)
 
-device-turned : (image : List ℕ) (d : Device) (m : ℕ) → DeviceEncodable d → DeviceCalls.turnBytes image (deviceBytes d) m ≡ turnAnswer (turnCall image d m)
+device-turned : (image : List ℕ) (d : Device) (m : ℕ) → DeviceEncodable d → DeviceCalls.turnBytes image (deviceBytes d) m ≡ deviceTurnAnswer (turnCall image d m)
 unfolding DeviceCalls.turnBytes
 device-turned image d m h =
     let c : DeviceTurned = turnCall image d m in

@@ -28,7 +28,7 @@ use Rattle.device_interface.specs.Calls as DeviceCalls
 use Rattle.module_interface.specs.Calls as ModuleCalls
 use Rattle.supervisor_interface.specs.Calls as SupervisorCalls
 use Rattle.interface_laws.specs.Laws.{numberOf}
-use Rattle.interface_laws.specs.SameCalls.{moduleAnswer, stepAnswer, supervisorAnswer, serveAnswer, deviceAnswer, turnAnswer}
+use Rattle.interface_laws.specs.SameCalls.{moduleAnswer, stepAnswer, supervisorAnswer, serveAnswer, deviceAnswer, deviceTurnAnswer}
 
 -- the state bytes of all modules and supervisors, and the messages under way
 pub record Memory : Type 0 where
@@ -157,7 +157,7 @@ runAnswers image D [] = []
 runAnswers image D (a ∷ l) = actAnswers image D a ++ runAnswers image (step image D a) l
 
 unfoldable pub deviceActAnswer : List ℕ → Device → DeviceAct → Answer
-deviceActAnswer image d (deviceTurn m) = turnAnswer (turnCall image d m)
+deviceActAnswer image d (deviceTurn m) = deviceTurnAnswer (turnCall image d m)
 deviceActAnswer image d (deviceRespond m e) = deviceAnswer (respondCall image d m e)
 deviceActAnswer image d (deviceTick m f) = deviceAnswer (tickCall image d m f)
 

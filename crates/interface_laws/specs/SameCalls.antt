@@ -44,8 +44,8 @@ serveAnswer c = record { number = servedAnswer (c .answer); state = supervisorBy
 abbrev pub deviceAnswer : DeviceCalled → Answer
 deviceAnswer c = record { number = calledAnswer (c .answer); state = deviceBytes (c .device); buffer = [] }
 
-abbrev pub turnAnswer : DeviceTurned → Answer
-turnAnswer c = record { number = turningAnswer (c .answer); state = deviceBytes (c .device); buffer = [] }
+abbrev pub deviceTurnAnswer : DeviceTurned → Answer
+deviceTurnAnswer c = record { number = turningAnswer (c .answer); state = deviceBytes (c .device); buffer = [] }
 
 -- a start, whose state has so many bytes: they are the first ones of the buffer, and the rest stays; a refused start leaves the buffer
 abbrev pub startedAnswer : ℕ → Called → List ℕ → List ℕ → Answer
@@ -66,7 +66,7 @@ pub record SameCalls : Type 0 where
   pub supervisorDeliver : (image : List ℕ) (v : ℕ) (y : Supervisor) (g : List ℕ) → SupervisorEncodable y
       → SupervisorCalls.deliverBytes image (supervisorBytes y) v g ≡ supervisorAnswer (S.supervisorDeliver image v y g)
   pub deviceTurn : (image : List ℕ) (d : Device) (m : ℕ) → DeviceEncodable d
-      → DeviceCalls.turnBytes image (deviceBytes d) m ≡ turnAnswer (turnCall image d m)
+      → DeviceCalls.turnBytes image (deviceBytes d) m ≡ deviceTurnAnswer (turnCall image d m)
   pub deviceRespond : (image : List ℕ) (d : Device) (m e : ℕ) → DeviceEncodable d
       → DeviceCalls.respondBytes image (deviceBytes d) m e ≡ deviceAnswer (respondCall image d m e)
   pub deviceTick : (image : List ℕ) (d : Device) (m s : ℕ) (l : Float) → DeviceEncodable d

@@ -19,7 +19,7 @@ use Rattle.rules.specs.LookUp.{field1, field2, field3, wordField, fieldOf, step
 use Rattle.rules.specs.Rules.{indexRuns, inOrder, namesDeclared, keepsRules, allDeclared}
 use Rattle.rules.specs.Check.{faultOf, checkWalk, verdictOf}
 use Rattle.rules.specs.declared.Verdict.the-variants.{Accepted, Refused}
-use Rattle.plan.specs.Plan.{field4, target, stateBy, supervisorAfter, counting}
+use Rattle.plan.specs.Plan.{field4, target, stateOr, supervisorAfter, counting}
 use Rattle.water.specs.Water.{flowOk, waterOf, added}
 use Rattle.water.specs.declared.Flow.the-variants.{Litres}
 use Rattle.modules.specs.Procedure.{calledBy, arriveAt, performed, tickOf, respondOf}
@@ -121,7 +121,7 @@ pub record Marked : Type 0 where
   pub reading-more : tickCall planP d0 0 (Litres (f64 513 8)) .answer ≡ NotDone 14 0
 
 pub marked : Marked
-unfolding planP d0 d1 d2 d3 d4 d5 m0 m1 m2 v0 v1 bit allBelow putBit least orElse someBelow maskOf wordAt wordBytes isEighths count eighths round add ofBits bodyLen kindOf inRange operandInRange keyOf sameKey precedes recordOf walkOf recordsIn findIn field1 field2 field3 wordField found fieldOf stepsOf indexRuns inOrder namesDeclared keepsRules allDeclared faultOf checkWalk verdictOf field4 target stateBy supervisorAfter counting waterOf flowOk added arriveAt performed tickOf respondOf byResponse byCommand enabled byChoice turnOn turnOf queuedAny wish startOwn every queueFits idleFits stepFits procedureFits ownFits ownEmpty listFrom ownSlotFits stateSlotFits startSlot startState deviceFits shownBy stateAfterTurn turned afterTurn turnIn turnBy calledBy replyIn replyBy startBy messageBytes parse named M.missingIn M.heldIn M.fitsIn M.choiceOn M.choice M.eventFor M.releasesIn bytesOfMessages M.sentBy M.answerBy M.stateBy M.stepIn M.stepBy M.isFor M.bidWith M.takenBy M.deliverIn M.deliverBy M.startBy S.holderFits S.supervisorFits S.moduleAfter S.nextNoted S.servedOn S.sentTo S.answerBy S.stateAfter S.stepIn S.stepBy S.takenBy S.deliverIn S.deliverBy S.startBy
+unfolding planP d0 d1 d2 d3 d4 d5 m0 m1 m2 v0 v1 bit allBelow putBit least orElse someBelow maskOf wordAt wordBytes isEighths count eighths round add ofBits bodyLen kindOf inRange operandInRange keyOf sameKey precedes recordOf walkOf recordsIn findIn field1 field2 field3 wordField found fieldOf stepsOf indexRuns inOrder namesDeclared keepsRules allDeclared faultOf checkWalk verdictOf field4 target stateOr supervisorAfter counting waterOf flowOk added arriveAt performed tickOf respondOf byResponse byCommand enabled byChoice turnOn turnOf queuedAny wish startOwn every queueFits idleFits stepFits procedureFits ownFits ownEmpty listFrom ownSlotFits stateSlotFits startSlot startState deviceFits shownBy stateAfterTurn turned afterTurn turnIn turnBy calledBy replyIn replyBy startBy messageBytes parse named M.missingIn M.heldIn M.fitsIn M.choiceOn M.choice M.eventFor M.releasesIn bytesOfMessages M.sentBy M.answerBy M.stateBy M.stepIn M.stepBy M.isFor M.bidWith M.takenBy M.deliverIn M.deliverBy M.startBy S.holderFits S.supervisorFits S.moduleAfter S.nextNoted S.servedOn S.sentTo S.answerBy S.stateAfter S.stepIn S.stepBy S.takenBy S.deliverIn S.deliverBy S.startBy
 marked = record {
   p-length = refl;
   p-accepted = refl;

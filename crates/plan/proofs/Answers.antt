@@ -25,7 +25,7 @@ use Rattle.places.proofs.Keys.{of-moves}
 use Rattle.places.proofs.Spots.{look-missing, look-it}
 use Rattle.rules.specs.LookUp.{wordField, fieldOf}
 use Rattle.plan.specs.declared.Fields.{Fields}
-use Rattle.plan.specs.Plan.{field4, target, stateBy, inAlphabet, shown, supervisorMoved, supervisorAfter, counts, counting}
+use Rattle.plan.specs.Plan.{field4, target, stateOr, inAlphabet, shown, supervisorMoved, supervisorAfter, counts, counting}
 use Rattle.plan.specs.Fields.{fieldsOf, FieldsFound}
 
 module _ {x y : Found} (p : y ≡ x) where
@@ -79,8 +79,8 @@ module _ (s : List ℕ) (p : Places) {a : ℕ} where
         fourth j n = of-moves (λ (i : ℕ). field4 (recordOf i (drop a s)) ≡ getD s (a + 3) 0) j n (simp getD-drop) (simp getD-drop)
 
 -- a supervisor's move, as it is listed or not
-pub moved-by : (st : ℕ) {o : Option ℕ} {x y : Maybe} {t : ℕ} → optionOf y ≡ o → y ≡ x → t ≡ stateBy (optionOf x) st → t ≡ stateBy o st
-moved-by st m q e = e ∙ ap (λ (z : Option ℕ). stateBy z st) (ap optionOf (sym q) ∙ m)
+pub moved-by : (st : ℕ) {o : Option ℕ} {x y : Maybe} {t : ℕ} → optionOf y ≡ o → y ≡ x → t ≡ stateOr (optionOf x) st → t ≡ stateOr o st
+moved-by st m q e = e ∙ ap (λ (z : Option ℕ). stateOr z st) (ap optionOf (sym q) ∙ m)
 
 -- a supervisor after an event
 module _ (rs : List Record) (v st e : ℕ) {b : Bool} (a : b ≡ inAlphabet rs v e) where

@@ -41,13 +41,13 @@ abbrev pub supervisorMove : List Record → ℕ → ℕ → ℕ → Option ℕ
 supervisorMove rs v st e = target (findIn (keyBy 0x15 v st e) rs)
 
 -- the state after a move, which stays where none is listed
-unfoldable pub stateBy : Option ℕ → ℕ → ℕ
-stateBy none st = st
-stateBy (some t) st = t
+unfoldable pub stateOr : Option ℕ → ℕ → ℕ
+stateOr none st = st
+stateOr (some t) st = t
 
 -- a supervisor by its listed move
 abbrev pub supervisorMoved : List Record → ℕ → ℕ → ℕ → ℕ
-supervisorMoved rs v st e = stateBy (supervisorMove rs v st e) st
+supervisorMoved rs v st e = stateOr (supervisorMove rs v st e) st
 
 -- initial states
 abbrev pub moduleInitial : List Record → ℕ → ℕ

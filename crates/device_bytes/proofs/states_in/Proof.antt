@@ -1,6 +1,6 @@
 use borrow.Author.Needs.{needs}
 use Rattle.device_bytes.proofs.Laws.{states-on, states-done}
-use Rattle.device_bytes.specs.Device.{stateOf}
+use Rattle.device_bytes.specs.Device.{stateByte}
 use Rattle.device_states.proofs.Slots.{filled}
 use Rattle.plan.specs.Lists.{listFrom}
 use Prim.Native.Nat.{_-_, _≤_}
@@ -9,7 +9,7 @@ use Rattle.device_bytes.proofs.states_in.Statement.{statement}
 use Rattle.device_bytes.proofs.states_in.Tie as tie
 
 abbrev Inv-loop : tie.InvT-loop
-Inv-loop s next₀ i₀ next i = (i ≤ 32) × (next ≡ filled (stateOf s) 0 32 i)
+Inv-loop s next₀ i₀ next i = (i ≤ 32) × (next ≡ filled (stateByte s) 0 32 i)
 
 abbrev μ-loop : tie.MeasureT-loop
 μ-loop s next₀ i₀ next i = 32 - i

@@ -1,6 +1,6 @@
 use mathlib.Core.Path.{refl}
 use Rattle.places.specs.Runs.{isMove}
-use Rattle.plan.specs.Plan.{stateBy}
+use Rattle.plan.specs.Plan.{stateOr}
 use Rattle.plan.proofs.Answers.{moved-by}
 use borrow.Author.Needs.{needs}
 use Rattle.plan.proofs.supervisor_moved.Statement.{statement}
@@ -17,11 +17,11 @@ enum-told : tie.Need-enum-told
 enum-told c = search needs
 
 returns : tie.Need-returns
-unfolding stateBy
+unfolding stateOr
 returns c = search moved-by
 
 returns-2 : tie.Need-returns-2
-unfolding stateBy
+unfolding stateOr
 returns-2 c = search moved-by
 
 pub supervisor-moved-spec : {M : Type 1} → statement M
