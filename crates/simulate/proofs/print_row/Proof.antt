@@ -4,10 +4,10 @@ use Rattle.simulate.proofs.print_row.Statement.{statement}
 use Rattle.simulate.proofs.print_row.Tie as tie
 
 abbrev Inv-loop : tie.InvT-loop
-Inv-loop word r i₀ t6 i = Unit {0}
+Inv-loop word r i₀ t5 i = Unit {0}
 
 abbrev μ-loop : tie.MeasureT-loop
-μ-loop word r i₀ t6 i = 1024 - i
+μ-loop word r i₀ t5 i = 1024 - i
 
 write-all-requires : tie.Need-write-all-requires Inv-loop μ-loop
 write-all-requires c κs = search needs
@@ -15,14 +15,14 @@ write-all-requires c κs = search needs
 loop-holds : tie.Need-loop-holds Inv-loop μ-loop
 loop-holds c = search needs
 
-element-copy-out-t12 : tie.Need-element-copy-out-t12 Inv-loop μ-loop
-element-copy-out-t12 c = search needs
+empty-requires : tie.Need-empty-requires Inv-loop μ-loop
+empty-requires c κs = search needs
 
-slice-aggregate-numbers : tie.Need-slice-aggregate-numbers Inv-loop μ-loop
-slice-aggregate-numbers c = search needs
+element-copy-out-push-field : tie.Need-element-copy-out-push-field Inv-loop μ-loop
+element-copy-out-push-field c = search needs
 
-numbers-requires : tie.Need-numbers-requires Inv-loop μ-loop
-numbers-requires c κs = search needs
+push-field-requires : tie.Need-push-field-requires Inv-loop μ-loop
+push-field-requires c κs = search needs
 
 print-requires : tie.Need-print-requires Inv-loop μ-loop
 print-requires c κs = search needs
@@ -53,9 +53,9 @@ print-row-spec =
     μ-loop
     write-all-requires
     loop-holds
-    element-copy-out-t12
-    slice-aggregate-numbers
-    numbers-requires
+    empty-requires
+    element-copy-out-push-field
+    push-field-requires
     print-requires
     add-i
     loop-less
