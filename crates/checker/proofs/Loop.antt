@@ -3,12 +3,13 @@ use mathlib.Core.Path.{_≡_, refl, sym, ap, _∙_, subst}
 use mathlib.Core.List.{List, [], _∷_}
 use mathlib.Core.Bool.{Bool, true, false, cond, _&&_}
 use Prim.Native.Nat.{ℕ, suc, _+_, _≤_, _<_}
+use native.Mathlib.Nat.{zero-add}
 use native.Mathlib.Omega.{arith}
 use lib.ListN.{length, drop-of-length-le}
 use lib.Dec.{eqb}
 use borrow.Author.Tests.{ne-eqb, eqb-true, lt-ltb, le-ltb}
 use Rattle.bits.specs.Bit.{bit, allBelow}
-use Rattle.records.specs.Kinds.{kindOf, bodyLen}
+use Rattle.records.specs.Kinds.{kindOf, bodyLen, sizeBy}
 use Rattle.records.specs.Key.{keyBy, keyOf, precedes}
 use Rattle.records.specs.Range.{inRange}
 use Rattle.records.specs.declared.Record.{Record}
@@ -37,8 +38,9 @@ use Rattle.checker.specs.declared.Fields.{Fields}
 use Rattle.checker.specs.declared.Examined.{Examined}
 use Rattle.checker.specs.declared.Examined.the-variants.{Accepted, Refused}
 use Rattle.checker.specs.Examined.{examinedBy, examinedOf}
-use Rattle.checker.specs.Stretch.{checkBy, Reached, Stretch, Passed, notedPast, contextBy, eventsBy, modulesBy, supervisorsBy, headed}
-use Rattle.checker.specs.Stretch.{atEvents, atModules, atModuleMoves, atSupervisors, atDisablings, atSteps, standsAt, fieldsAt, endKept}
+use Rattle.checker.specs.Stretch.{Reached, headed, endKept}
+use Rattle.checker.specs.Stretch.{checkBy, Stretch, Passed, notedPast, contextBy, eventsBy, modulesBy, supervisorsBy}
+use Rattle.checker.specs.Stretch.{atEvents, atModules, atModuleMoves, atSupervisors, atDisablings, atSteps, standsAt, fieldsAt}
 use Rattle.judge.proofs.Represents.{both}
 use Rattle.checker.proofs.Stretch.{stands-there, reads-whole, reads-head, noted-past}
 
@@ -128,12 +130,16 @@ pub goes-on-by : (s : List ℕ) (c : Context) (i : ℕ) (p : Places) (d : Contex
 goes-on-by s c i p d {n = n} {q = q} w g e t f l j z h = subst (λ (a : Context). Reached s a n q) (sym w) (goes-on s c i p e g j z f t h l)
 
 -- past a head in its ranges
-pub head-by : (s : List ℕ) {b t : Bool} {f : Fields} → length s < suc limit → b ≡ standsAt s 0 0x10 4 → b ≡ true → f ≡ fieldsAt s 0
-    → t ≡ inRange (Head (f .first) (f .second) (f .third)) → t ≡ true → Reached s (headed (record { modules = f .first; supervisors = f .second; events = f .third })) 4 nowhere
+pub head-by : (s : List ℕ) {b t : Bool} {f : Fields} {n : ℕ} → length s < suc limit → n ≡ sizeBy 0x10 → b ≡ standsAt s 0 0x10 n → b ≡ true → f ≡ fieldsAt s 0
+    → t ≡ inRange (Head (f .first) (f .second) (f .third)) → t ≡ true → Reached s (headed (record { modules = f .first; supervisors = f .second; events = f .third })) n nowhere
 unfolding judgeBy orderBy indexBy namesBy rulesBy allBy keyOf kindOf countsAfter eventsAfter modulesAfter supervisorsAfter notedAt placeBy
-head-by s {f = f} l e h g i z =
-    goes-on-by s start 0 nowhere _ refl (reads-head s 0 g (stands-there s 0 0x10 4 (sym e ∙ h))) refl refl refl (λ z. absurd (omega arith)) (sym (simp (sym i ∙ z))) refl
+head-by s {f = f} {n} l b e h g i z =
+    let c : Counts = record { modules = f .first; supervisors = f .second; events = f .third } in
+    let r : Reached s (headed c) (0 + n) nowhere =
+    goes-on-by s start 0 nowhere _ refl (reads-head s 0 g b (stands-there s 0 0x10 n (sym e ∙ h))) refl refl refl (λ z. absurd (omega arith)) (sym (simp (sym i ∙ z))) refl
     (begins s refl refl l)
+    in
+    subst (λ (x : ℕ). Reached s (headed c) x nowhere) (zero-add n) r
 
 -- past a stretch
 pub past : (s : List ℕ) (k : ℕ) {c d : Context} {i j : ℕ} {p q : Places} → Stretch s k c i d j → q ≡ notedPast p (c .last .kind) k i j → Reached s c i p → Reached s d j q
@@ -180,14 +186,19 @@ module _ (s : List ℕ) (n : Counts) (known controllable : ℕ) (owner steps : L
 
 -- ---- the end record where the stretches stop
 
-end-stands : (s : List ℕ) (i : ℕ) (q : RecordKey) (n : Counts) (a b c : ℕ) {t : Bool} → t ≡ endKept s i q n a b c → t ≡ true → standsAt s i 0x1f 1 ≡ true
+-- n is the size that the table gives
+pub after-end : (i : ℕ) {n : ℕ} → n ≡ sizeBy 0x1f → i + n ≡ suc i
+unfolding bodyLen
+after-end i e = omega (arith, e)
+
+end-stands : (s : List ℕ) (i : ℕ) (q : RecordKey) (n : Counts) (a b c : ℕ) {t : Bool} → t ≡ endKept s i q n a b c → t ≡ true → standsAt s i 0x1f (sizeBy 0x1f) ≡ true
 end-stands s i q n a b c e h =
-    both (standsAt s i 0x1f 1) (precedes q (keyBy 0x1f 0 0 0))
-    (both (standsAt s i 0x1f 1 && precedes q (keyBy 0x1f 0 0 0)) (allBelow (bit a) (n .modules) && allBelow (bit b) (n .supervisors) && allBelow (bit c) (n .events)) (sym e ∙ h) .0)
+    both (standsAt s i 0x1f (sizeBy 0x1f)) (precedes q (keyBy 0x1f 0 0 0))
+    (both (standsAt s i 0x1f (sizeBy 0x1f) && precedes q (keyBy 0x1f 0 0 0)) (allBelow (bit a) (n .modules) && allBelow (bit b) (n .supervisors) && allBelow (bit c) (n .events)) (sym e ∙ h) .0)
     .0
 
 pub end-inside : (s : List ℕ) (i : ℕ) (q : RecordKey) (n : Counts) (a b c : ℕ) {t : Bool} → t ≡ endKept s i q n a b c → t ≡ true → i < length s
-end-inside s i q n a b c e h = stands-there s i 0x1f 1 (end-stands s i q n a b c e h) .inside
+end-inside s i q n a b c e h = stands-there s i 0x1f (sizeBy 0x1f) (end-stands s i q n a b c e h) .inside
 
 module _ (s : List ℕ) (q : RecordKey) (n : Counts) (ev : Events) (ms : Modules) (vs : Supervisors) (i : ℕ) {t : Bool}
     (e : t ≡ endKept s i q n (ms .known) (vs .known) (ev .known)) (h : t ≡ true) where
@@ -195,12 +206,12 @@ module _ (s : List ℕ) (q : RecordKey) (n : Counts) (ev : Events) (ms : Modules
   unfolding judgeBy orderBy indexBy namesBy rulesBy allBy inRange keyOf
   end-judged =
       let declared : Bool = allBelow (bit (ms .known)) (n .modules) && allBelow (bit (vs .known)) (n .supervisors) && allBelow (bit (ev .known)) (n .events) in
-      let b = both (standsAt s i 0x1f 1 && precedes q (keyBy 0x1f 0 0 0)) declared (sym e ∙ h) in
-      simp (both (standsAt s i 0x1f 1) (precedes q (keyBy 0x1f 0 0 0)) (b .0) .1, b .1)
+      let b = both (standsAt s i 0x1f (sizeBy 0x1f) && precedes q (keyBy 0x1f 0 0 0)) declared (sym e ∙ h) in
+      simp (both (standsAt s i 0x1f (sizeBy 0x1f)) (precedes q (keyBy 0x1f 0 0 0)) (b .0) .1, b .1)
 
   pub end-by : {p p' : Places} {u : Examined} → Reached s (contextBy q n ev ms vs) i p → p' ≡ notedAt p (q .kind) 0x1f i → u ≡ examinedBy p' (endAt (length s) i) → u ≡ examinedOf s
   unfolding recordOf bodyLen kindOf
   end-by {p} r g u =
-      let w = stands-there s i 0x1f 1 (end-stands s i q n (ms .known) (vs .known) (ev .known) e h) in
-      let d : readAt s i ≡ Whole End (i + 1) = reads-whole s i 0x1f 1 w (λ z. absurd (omega arith)) refl in
+      let w = stands-there s i 0x1f (sizeBy 0x1f) (end-stands s i q n (ms .known) (vs .known) (ev .known) e h) in
+      let d : readAt s i ≡ Whole End (i + 1) = reads-whole s i 0x1f (sizeBy 0x1f) w (λ z. absurd (omega arith)) refl in
       ended-by s (contextBy q n ev ms vs) i p refl d (sym end-judged) refl refl g r refl u

@@ -8,14 +8,14 @@ use native.Mathlib.Nat.{le-refl, lt-of-le-of-lt, mod-eq-of-lt}
 use native.Mathlib.Omega.{arith}
 use lib.ListN.{length, getD, set, drop}
 use lib.Seq.{getD-drop}
-use lib.Dec.{eqb, leb, ltb}
+use lib.Dec.{eqb, leb, ltb, leb→le}
 use borrow.Author.Tests.{not-false, lt-ltb, ltb-true, ltb-false, leb-true, eqb-true, eq-eqb, ne-eqb, lt-leb}
 use lib.Bits.{bitAnd}
-use Rattle.bits.specs.Bit.{bit, everyEvent, putBit}
-use Rattle.bits.proofs.Laws.{bit-and, bit-above, bit-low-ones, shl-one}
+use Rattle.bits.specs.Bit.{bit, allBelow, everyEvent, putBit}
+use Rattle.bits.proofs.Laws.{all-at, bit-and, bit-above, bit-low-ones, shl-one}
 use Rattle.words.specs.Word.{wordAt}
 use Rattle.words.proofs.Laws.{word-drop}
-use Rattle.records.specs.Kinds.{kindOf, bodyLen, noLen}
+use Rattle.records.specs.Kinds.{kindOf, bodyLen, noLen, sizeBy}
 use Rattle.records.specs.Key.{keyBy, keyOf, precedes}
 use Rattle.records.specs.Range.{inRange}
 use Rattle.records.specs.declared.Record.{Record}
@@ -59,25 +59,35 @@ stands-there s i k n e = go (ltb i (length s)) refl e
 stands-told : (s : List ℕ) (i k n : ℕ) {t : Bool} → t ≡ standsAt s i k n → not t ≡ false → Whole-there s i k n
 stands-told s i k n e h = stands-there s i k n (sym e ∙ not-false _ h)
 
+-- the kinds from the events to the steps have three fields or more: a test that is computed at each of them
+long : (k n : ℕ) → n ≡ sizeBy k → 0x11 ≤ k → k ≤ 0x17 → 4 ≤ n
+unfolding bodyLen allBelow
+long k n e a b =
+    let t : 3 ≤ bodyLen (0x11 + (k - 0x11)) = leb→le _ _ (all-at (λ (j : ℕ). leb 3 (bodyLen (0x11 + j))) 7 tt (k - 0x11) (omega arith)) in
+    let w : 0x11 + (k - 0x11) ≡ k = omega arith in
+    let l : 3 ≤ bodyLen k = subst (λ (x : ℕ). 3 ≤ bodyLen x) w t in
+    omega (arith, e)
+
 module _ (s : List ℕ) (i k n : ℕ) {t : Bool} (e : t ≡ standsAt s i k n) (h : not t ≡ false) where
-  pub room-by : i + n ≤ length s
+  room-by : i + n ≤ length s
   room-by = stands-told s i k n e h .fits
-
-  -- of a record that has three fields, or more
-  pub fields-by : 4 ≤ n → i + 4 ≤ length s
-  fields-by l = let r : i + n ≤ length s = room-by in omega arith
-
-  -- a field's offset
-  pub inside-by : (m : ℕ) → m ≤ n → length s < 2 ^ 64 → i + m < 2 ^ 64
-  inside-by m q l = let r : i + n ≤ length s = room-by in let t : i + m ≤ length s = omega arith in lt-of-le-of-lt t l
 
   pub fits-by : length s < 2 ^ 64 → i + n < 2 ^ 64
   fits-by l = lt-of-le-of-lt room-by l
 
-  pub further-by : 4 ≤ n → length s - (i + n) < length s - i
-  further-by l = let r : i + n ≤ length s = room-by in omega arith
+  -- n is the size that the table gives
+  module _ (z : n ≡ sizeBy k) where
+    pub further-by : length s - (i + n) < length s - i
+    further-by = let r : i + n ≤ length s = room-by in omega (arith, z)
 
-pub reads-whole : (s : List ℕ) (i k n : ℕ) → Whole-there s i k n → (bodyLen k ≡ noLen → ⊥) → n ≡ 1 + bodyLen k
+    pub fields-by : 0x11 ≤ k → k ≤ 0x17 → i + 4 ≤ length s
+    fields-by a b = let r : i + n ≤ length s = room-by in let l : 4 ≤ n = long k n z a b in omega arith
+
+    -- a field's offset
+    pub inside-by : (m : ℕ) → 0x11 ≤ k → k ≤ 0x17 → m ≤ 4 → length s < 2 ^ 64 → i + m < 2 ^ 64
+    inside-by m a b q l = let r : i + 4 ≤ length s = fields-by a b in let t : i + m ≤ length s = omega arith in lt-of-le-of-lt t l
+
+pub reads-whole : (s : List ℕ) (i k n : ℕ) → Whole-there s i k n → (bodyLen k ≡ noLen → ⊥) → n ≡ sizeBy k
     → readAt s i ≡ Whole (recordOf k (drop (i + 1) s)) (i + n)
 reads-whole s i k n w u e =
     let g : getD s i 0 ≡ k = w .kind in
@@ -95,61 +105,61 @@ word-at s j a b e = word-drop (j + 1) s a ∙ ap (wordAt s) (omega arith)
 
 -- the record of each kind, by its fields
 module _ (s : List ℕ) (j : ℕ) {f : Fields} (g : f ≡ fieldsAt s j) where
-  pub reads-head : Whole-there s j 0x10 4 → readAt s j ≡ Whole (Head (f .first) (f .second) (f .third)) (j + 4)
+  pub reads-head : {n : ℕ} → n ≡ sizeBy 0x10 → Whole-there s j 0x10 n → readAt s j ≡ Whole (Head (f .first) (f .second) (f .third)) (j + n)
   unfolding recordOf bodyLen
-  reads-head w =
-      reads-whole s j 0x10 4 w (λ q. absurd (omega arith)) refl
+  reads-head {n} z w =
+      reads-whole s j 0x10 n w (λ q. absurd (omega arith)) z
       ∙ simp (field-at s j 0 1 refl, field-at s j 1 2 refl, field-at s j 2 3 refl)
-      (ap (λ (x : Fields). Whole (Head (x .first) (x .second) (x .third)) (j + 4)) (sym g))
+      (ap (λ (x : Fields). Whole (Head (x .first) (x .second) (x .third)) (j + n)) (sym g))
 
-  reads-event : Whole-there s j 0x11 4 → readAt s j ≡ Whole (Event (f .first) (f .second) (f .third)) (j + 4)
+  reads-event : {n : ℕ} → n ≡ sizeBy 0x11 → Whole-there s j 0x11 n → readAt s j ≡ Whole (Event (f .first) (f .second) (f .third)) (j + n)
   unfolding recordOf bodyLen
-  reads-event w =
-      reads-whole s j 0x11 4 w (λ q. absurd (omega arith)) refl
+  reads-event {n} z w =
+      reads-whole s j 0x11 n w (λ q. absurd (omega arith)) z
       ∙ simp (field-at s j 0 1 refl, field-at s j 1 2 refl, field-at s j 2 3 refl)
-      (ap (λ (x : Fields). Whole (Event (x .first) (x .second) (x .third)) (j + 4)) (sym g))
+      (ap (λ (x : Fields). Whole (Event (x .first) (x .second) (x .third)) (j + n)) (sym g))
 
-  reads-module : Whole-there s j 0x12 4 → readAt s j ≡ Whole (Module (f .first) (f .second) (f .third)) (j + 4)
+  reads-module : {n : ℕ} → n ≡ sizeBy 0x12 → Whole-there s j 0x12 n → readAt s j ≡ Whole (Module (f .first) (f .second) (f .third)) (j + n)
   unfolding recordOf bodyLen
-  reads-module w =
-      reads-whole s j 0x12 4 w (λ q. absurd (omega arith)) refl
+  reads-module {n} z w =
+      reads-whole s j 0x12 n w (λ q. absurd (omega arith)) z
       ∙ simp (field-at s j 0 1 refl, field-at s j 1 2 refl, field-at s j 2 3 refl)
-      (ap (λ (x : Fields). Whole (Module (x .first) (x .second) (x .third)) (j + 4)) (sym g))
+      (ap (λ (x : Fields). Whole (Module (x .first) (x .second) (x .third)) (j + n)) (sym g))
 
-  reads-module-move : Whole-there s j 0x13 5 → readAt s j ≡ Whole (ModuleMove (f .first) (f .second) (f .third) (f .fourth)) (j + 5)
+  reads-module-move : {n : ℕ} → n ≡ sizeBy 0x13 → Whole-there s j 0x13 n → readAt s j ≡ Whole (ModuleMove (f .first) (f .second) (f .third) (f .fourth)) (j + n)
   unfolding recordOf bodyLen
-  reads-module-move w =
-      reads-whole s j 0x13 5 w (λ q. absurd (omega arith)) refl
+  reads-module-move {n} z w =
+      reads-whole s j 0x13 n w (λ q. absurd (omega arith)) z
       ∙ simp (field-at s j 0 1 refl, field-at s j 1 2 refl, field-at s j 2 3 refl, field-at s j 3 4 refl)
-      (ap (λ (x : Fields). Whole (ModuleMove (x .first) (x .second) (x .third) (x .fourth)) (j + 5)) (sym g))
+      (ap (λ (x : Fields). Whole (ModuleMove (x .first) (x .second) (x .third) (x .fourth)) (j + n)) (sym g))
 
-  reads-supervisor : Whole-there s j 0x14 12 → readAt s j ≡ Whole (Supervisor (f .first) (f .second) (f .third) (wordAt s (j + 4))) (j + 12)
+  reads-supervisor : {n : ℕ} → n ≡ sizeBy 0x14 → Whole-there s j 0x14 n → readAt s j ≡ Whole (Supervisor (f .first) (f .second) (f .third) (wordAt s (j + 4))) (j + n)
   unfolding recordOf bodyLen
-  reads-supervisor w =
-      reads-whole s j 0x14 12 w (λ q. absurd (omega arith)) refl
+  reads-supervisor {n} z w =
+      reads-whole s j 0x14 n w (λ q. absurd (omega arith)) z
       ∙ simp (field-at s j 0 1 refl, field-at s j 1 2 refl, field-at s j 2 3 refl, word-at s j 3 4 refl)
-      (ap (λ (x : Fields). Whole (Supervisor (x .first) (x .second) (x .third) (wordAt s (j + 4))) (j + 12)) (sym g))
+      (ap (λ (x : Fields). Whole (Supervisor (x .first) (x .second) (x .third) (wordAt s (j + 4))) (j + n)) (sym g))
 
-  reads-supervisor-move : Whole-there s j 0x15 5 → readAt s j ≡ Whole (SupervisorMove (f .first) (f .second) (f .third) (f .fourth)) (j + 5)
+  reads-supervisor-move : {n : ℕ} → n ≡ sizeBy 0x15 → Whole-there s j 0x15 n → readAt s j ≡ Whole (SupervisorMove (f .first) (f .second) (f .third) (f .fourth)) (j + n)
   unfolding recordOf bodyLen
-  reads-supervisor-move w =
-      reads-whole s j 0x15 5 w (λ q. absurd (omega arith)) refl
+  reads-supervisor-move {n} z w =
+      reads-whole s j 0x15 n w (λ q. absurd (omega arith)) z
       ∙ simp (field-at s j 0 1 refl, field-at s j 1 2 refl, field-at s j 2 3 refl, field-at s j 3 4 refl)
-      (ap (λ (x : Fields). Whole (SupervisorMove (x .first) (x .second) (x .third) (x .fourth)) (j + 5)) (sym g))
+      (ap (λ (x : Fields). Whole (SupervisorMove (x .first) (x .second) (x .third) (x .fourth)) (j + n)) (sym g))
 
-  reads-disabling : Whole-there s j 0x16 11 → readAt s j ≡ Whole (Disabling (f .first) (f .second) (wordAt s (j + 3))) (j + 11)
+  reads-disabling : {n : ℕ} → n ≡ sizeBy 0x16 → Whole-there s j 0x16 n → readAt s j ≡ Whole (Disabling (f .first) (f .second) (wordAt s (j + 3))) (j + n)
   unfolding recordOf bodyLen
-  reads-disabling w =
-      reads-whole s j 0x16 11 w (λ q. absurd (omega arith)) refl
+  reads-disabling {n} z w =
+      reads-whole s j 0x16 n w (λ q. absurd (omega arith)) z
       ∙ simp (field-at s j 0 1 refl, field-at s j 1 2 refl, word-at s j 2 3 refl)
-      (ap (λ (x : Fields). Whole (Disabling (x .first) (x .second) (wordAt s (j + 3))) (j + 11)) (sym g))
+      (ap (λ (x : Fields). Whole (Disabling (x .first) (x .second) (wordAt s (j + 3))) (j + n)) (sym g))
 
-  reads-step : Whole-there s j 0x17 12 → readAt s j ≡ Whole (Step (f .first) (f .second) (f .third) (wordAt s (j + 4))) (j + 12)
+  reads-step : {n : ℕ} → n ≡ sizeBy 0x17 → Whole-there s j 0x17 n → readAt s j ≡ Whole (Step (f .first) (f .second) (f .third) (wordAt s (j + 4))) (j + n)
   unfolding recordOf bodyLen
-  reads-step w =
-      reads-whole s j 0x17 12 w (λ q. absurd (omega arith)) refl
+  reads-step {n} z w =
+      reads-whole s j 0x17 n w (λ q. absurd (omega arith)) z
       ∙ simp (field-at s j 0 1 refl, field-at s j 1 2 refl, field-at s j 2 3 refl, word-at s j 3 4 refl)
-      (ap (λ (x : Fields). Whole (Step (x .first) (x .second) (x .third) (wordAt s (j + 4))) (j + 12)) (sym g))
+      (ap (λ (x : Fields). Whole (Step (x .first) (x .second) (x .third) (wordAt s (j + 4))) (j + n)) (sym g))
 
 -- an index into a table, by the tests before it
 pub index-by : (k e m : ℕ) (o w : Bool) → k ≡ e → not ((o && ltb e m) && w) ≡ false → k < m
@@ -284,118 +294,118 @@ module _ (n : Counts) (ev : Events) (e x : ℕ) where
           (r .0, subst (λ (y : ℕ). uncontrollable && same y ≡ true) m (r .1))
       go false p q = absurd (false≢true q)
 
-module _ (s : List ℕ) (c : Context → Context) (i : ℕ) (n : Counts) (p : RecordKey) (j : ℕ) {b : Bool} {f : Fields} {k : ℕ} {o : Bool} (g : f ≡ fieldsAt s j) (k1 : k ≡ f .first) where
-  pub event-step : (known controllable : ℕ) (owner : List ℕ) {a t : ℕ} → b ≡ standsAt s j 0x11 4 → not b ≡ false
+module _ (s : List ℕ) (c : Context → Context) (i : ℕ) (n : Counts) (p : RecordKey) (j : ℕ) {b : Bool} {f : Fields} {k : ℕ} {o : Bool} {bytes : ℕ} (g : f ≡ fieldsAt s j) (k1 : k ≡ f .first) where
+  pub event-step : (known controllable : ℕ) (owner : List ℕ) {a t : ℕ} → bytes ≡ sizeBy 0x11 → b ≡ standsAt s j 0x11 bytes → not b ≡ false
       → o ≡ precedes p (keyBy 0x11 (f .first) 0 0) → not ((o && ltb (f .first) 64) && (leb (f .third) 1 && (ltb (f .first) (n .events) && ltb (f .second) (n .modules)))) ≡ false
       → a ≡ putBit known (f .first) true → t ≡ putBit controllable (f .first) (eqb (f .third) 1)
       → Passed s 0x11 c i (atEvents p n known controllable owner) j
-      → Passed s 0x11 c i (atEvents (keyBy 0x11 (f .first) 0 0) n a t (set owner k (f .second))) (j + 4)
+      → Passed s 0x11 c i (atEvents (keyBy 0x11 (f .first) 0 0) n a t (set owner k (f .second))) (j + bytes)
   unfolding Passed atEvents judgeBy orderBy indexBy namesBy rulesBy allBy inRange keyOf kindOf countsAfter eventsAfter modulesAfter supervisorsAfter withEntry withBit
-  event-step known controllable owner {a} {t} e b1 o1 h a1 t1 v r =
+  event-step known controllable owner {a} {t} sized e b1 o1 h a1 t1 v r =
       let kept : Bool = ltb (f .first) (n .events) && ltb (f .second) (n .modules) in
       let x = both (o && ltb (f .first) 64) (leb (f .third) 1 && kept) (not-false _ h) in
       let q = both o (ltb (f .first) 64) (x .0) in
       let m = both (leb (f .third) 1) kept (x .1) in
-      let d = reaches s 0x11 (j + 4) (reads-event s j g (stands-told s j 0x11 4 e b1)) (omega arith)
+      let d = reaches s 0x11 (j + bytes) (reads-event s j g sized (stands-told s j 0x11 bytes e b1)) (omega (arith, sized))
       (simp (sym o1 ∙ q .0, m .0, m .1)) refl refl (λ z. absurd (omega arith)) (v r)
       in
       let w : withRecord (atEvents p n known controllable owner r) (Event (f .first) (f .second) (f .third)) ≡ atEvents (keyBy 0x11 (f .first) 0 0) n a t (set owner k (f .second)) r =
       simp (q .1) cc
       in
-      subst (λ (x : Context). Stretch s 0x11 (c r) i x (j + 4)) w d
+      subst (λ (x : Context). Stretch s 0x11 (c r) i x (j + bytes)) w d
 
-  pub module-step : (known : ℕ) (states : List ℕ) {a : ℕ} → b ≡ standsAt s j 0x12 4 → not b ≡ false
+  pub module-step : (known : ℕ) (states : List ℕ) {a : ℕ} → bytes ≡ sizeBy 0x12 → b ≡ standsAt s j 0x12 bytes → not b ≡ false
       → o ≡ precedes p (keyBy 0x12 (f .first) 0 0)
       → not ((o && ltb (f .first) 16) && ((leb 1 (f .second) && leb (f .second) 32) && (ltb (f .first) (n .modules) && ltb (f .third) (f .second)))) ≡ false → a ≡ putBit known (f .first) true
       → Passed s 0x12 c i (atModules p n known states) j
-      → Passed s 0x12 c i (atModules (keyBy 0x12 (f .first) 0 0) n a (set states k (f .second))) (j + 4)
+      → Passed s 0x12 c i (atModules (keyBy 0x12 (f .first) 0 0) n a (set states k (f .second))) (j + bytes)
   unfolding Passed atModules judgeBy orderBy indexBy namesBy rulesBy allBy inRange keyOf kindOf countsAfter eventsAfter modulesAfter supervisorsAfter withEntry withBit
-  module-step known states {a} e b1 o1 h a1 v r =
+  module-step known states {a} sized e b1 o1 h a1 v r =
       let ranged : Bool = leb 1 (f .second) && leb (f .second) 32 in
       let kept : Bool = ltb (f .first) (n .modules) && ltb (f .third) (f .second) in
       let x = both (o && ltb (f .first) 16) (ranged && kept) (not-false _ h) in
       let q = both o (ltb (f .first) 16) (x .0) in
       let m = both ranged kept (x .1) in
-      let d = reaches s 0x12 (j + 4) (reads-module s j g (stands-told s j 0x12 4 e b1)) (omega arith)
+      let d = reaches s 0x12 (j + bytes) (reads-module s j g sized (stands-told s j 0x12 bytes e b1)) (omega (arith, sized))
       (simp (sym o1 ∙ q .0, m .0, m .1)) refl refl (λ z. absurd (omega arith)) (v r)
       in
       let w : withRecord (atModules p n known states r) (Module (f .first) (f .second) (f .third)) ≡ atModules (keyBy 0x12 (f .first) 0 0) n a (set states k (f .second)) r =
       simp (q .1) cc
       in
-      subst (λ (x : Context). Stretch s 0x12 (c r) i x (j + 4)) w d
+      subst (λ (x : Context). Stretch s 0x12 (c r) i x (j + bytes)) w d
 
-  pub supervisor-step : (events known : ℕ) (states alphabet : List ℕ) {a x : ℕ} {kept : Bool} → b ≡ standsAt s j 0x14 12 → not b ≡ false → x ≡ wordAt s (j + 4)
+  pub supervisor-step : (events known : ℕ) (states alphabet : List ℕ) {a x : ℕ} {kept : Bool} → bytes ≡ sizeBy 0x14 → b ≡ standsAt s j 0x14 bytes → not b ≡ false → x ≡ wordAt s (j + 4)
       → kept ≡ supervisorKept f x n events → o ≡ precedes p (keyBy 0x14 (f .first) 0 0) → not ((o && ltb (f .first) 32) && kept) ≡ false → a ≡ putBit known (f .first) true
       → Passed s 0x14 c i (atSupervisors p n events known states alphabet) j
-      → Passed s 0x14 c i (atSupervisors (keyBy 0x14 (f .first) 0 0) n events a (set states k (f .second)) (set alphabet k x)) (j + 12)
+      → Passed s 0x14 c i (atSupervisors (keyBy 0x14 (f .first) 0 0) n events a (set states k (f .second)) (set alphabet k x)) (j + bytes)
   unfolding Passed atSupervisors judgeBy orderBy indexBy namesBy rulesBy allBy keyOf kindOf countsAfter eventsAfter modulesAfter supervisorsAfter withEntry withBit
-  supervisor-step events known states alphabet {a} {x} {kept} e b1 x1 n1 o1 h a1 v r =
+  supervisor-step events known states alphabet {a} {x} {kept} sized e b1 x1 n1 o1 h a1 v r =
       let y = both (o && ltb (f .first) 32) kept (not-false _ h) in
       let q = both o (ltb (f .first) 32) (y .0) in
       let m = both (inRange (Supervisor (f .first) (f .second) (f .third) x)) (ltb (f .first) (n .supervisors) && ltb (f .third) (f .second) && everyEvent x (bit events))
       (sym n1 ∙ y .1)
       in
-      let d = reaches s 0x14 (j + 12)
-      (reads-supervisor s j g (stands-told s j 0x14 12 e b1) ∙ ap (λ (y : ℕ). Whole (Supervisor (f .first) (f .second) (f .third) y) (j + 12)) (sym x1)) (omega arith)
+      let d = reaches s 0x14 (j + bytes)
+      (reads-supervisor s j g sized (stands-told s j 0x14 bytes e b1) ∙ ap (λ (y : ℕ). Whole (Supervisor (f .first) (f .second) (f .third) y) (j + bytes)) (sym x1)) (omega (arith, sized))
       (simp (sym o1 ∙ q .0, m .0, m .1)) refl refl (λ z. absurd (omega arith)) (v r)
       in
       let w : withRecord (atSupervisors p n events known states alphabet r) (Supervisor (f .first) (f .second) (f .third) x)
       ≡ atSupervisors (keyBy 0x14 (f .first) 0 0) n events a (set states k (f .second)) (set alphabet k x) r = simp (q .1) cc
       in
-      subst (λ (x : Context). Stretch s 0x14 (c r) i x (j + 12)) w d
+      subst (λ (x : Context). Stretch s 0x14 (c r) i x (j + bytes)) w d
 
   pub module-move-step : (events : ℕ) (owner : List ℕ) (known : ℕ) (states : List ℕ) (a m : ℕ) {y : ℕ} {kept : Bool} → Below known (n .modules) a → Below events (n .events) m
-      → b ≡ standsAt s j 0x13 5 → not b ≡ false → f .first < 16 → f .third < 64 → y ≡ f .third → kept ≡ moveNamed f a (getD states k 0) m
+      → bytes ≡ sizeBy 0x13 → b ≡ standsAt s j 0x13 bytes → not b ≡ false → f .first < 16 → f .third < 64 → y ≡ f .third → kept ≡ moveNamed f a (getD states k 0) m
       → o ≡ precedes p (keyBy 0x13 (f .first) (f .second) (f .third)) → not ((o && kept) && eqb (getD owner y 0) (f .first)) ≡ false
       → Passed s 0x13 c i (atModuleMoves p n events owner known states) j
-      → Passed s 0x13 c i (atModuleMoves (keyBy 0x13 (f .first) (f .second) (f .third)) n events owner known states) (j + 5)
+      → Passed s 0x13 c i (atModuleMoves (keyBy 0x13 (f .first) (f .second) (f .third)) n events owner known states) (j + bytes)
   unfolding Passed atModuleMoves judgeBy orderBy indexBy namesBy rulesBy allBy inRange keyOf kindOf countsAfter eventsAfter modulesAfter supervisorsAfter
-  module-move-step events owner known states a m {y} {kept} u1 u2 e b1 l l2 y1 n1 o1 h v r =
+  module-move-step events owner known states a m {y} {kept} u1 u2 sized e b1 l l2 y1 n1 o1 h v r =
       let w : Bool = eqb (getD owner y 0) (f .first) in
       let q = both (o && kept) w (not-false _ h) in
       let t = both o kept (q .0) in
       let n2 : moveNamed f a (getD states (f .first) 0) m ≡ kept = cc in
       let z = move-told f known (n .modules) a (getD states (f .first) 0) events (n .events) m u1 u2 (n2 ∙ t .1) in
       let w2 : eqb (getD owner (f .third) 0) (f .first) ≡ w = cc in
-      reaches s 0x13 (j + 5) (reads-module-move s j g (stands-told s j 0x13 5 e b1)) (omega arith)
+      reaches s 0x13 (j + bytes) (reads-module-move s j g sized (stands-told s j 0x13 bytes e b1)) (omega (arith, sized))
       (simp (sym o1 ∙ t .0, z .owner, z .from, z .event, z .to, w2 ∙ q .1)) refl refl (λ z. absurd (omega arith)) (v r)
 
   pub supervisor-move-step : (events known : ℕ) (states alphabet : List ℕ) (a m : ℕ) {kept : Bool} → Below known (n .supervisors) a → Below events (n .events) m
-      → b ≡ standsAt s j 0x15 5 → not b ≡ false → f .first < 32 → kept ≡ moveNamed f a (getD states k 0) (bitAnd m (getD alphabet k 0))
+      → bytes ≡ sizeBy 0x15 → b ≡ standsAt s j 0x15 bytes → not b ≡ false → f .first < 32 → kept ≡ moveNamed f a (getD states k 0) (bitAnd m (getD alphabet k 0))
       → o ≡ precedes p (keyBy 0x15 (f .first) (f .second) (f .third)) → not (o && kept) ≡ false → Passed s 0x15 c i (atSupervisors p n events known states alphabet) j
-      → Passed s 0x15 c i (atSupervisors (keyBy 0x15 (f .first) (f .second) (f .third)) n events known states alphabet) (j + 5)
+      → Passed s 0x15 c i (atSupervisors (keyBy 0x15 (f .first) (f .second) (f .third)) n events known states alphabet) (j + bytes)
   unfolding Passed atSupervisors judgeBy orderBy indexBy namesBy rulesBy allBy inRange keyOf kindOf countsAfter eventsAfter modulesAfter supervisorsAfter
-  supervisor-move-step events known states alphabet a m {kept} u1 u2 e b1 l n1 o1 h v r =
+  supervisor-move-step events known states alphabet a m {kept} u1 u2 sized e b1 l n1 o1 h v r =
       let q = both o kept (not-false _ h) in
       let x : ℕ = getD alphabet (f .first) 0 in
       let n2 : moveNamed f a (getD states (f .first) 0) (bitAnd m x) ≡ kept = cc in
       let t = and-told f a (getD states (f .first) 0) m x (n2 ∙ q .1) in
       let z = move-told f known (n .supervisors) a (getD states (f .first) 0) events (n .events) m u1 u2 (t .0) in
-      reaches s 0x15 (j + 5) (reads-supervisor-move s j g (stands-told s j 0x15 5 e b1)) (omega arith)
+      reaches s 0x15 (j + bytes) (reads-supervisor-move s j g sized (stands-told s j 0x15 bytes e b1)) (omega (arith, sized))
       (simp (sym o1 ∙ q .0, z .owner, z .from, z .event, z .to, t .1)) refl refl (λ z. absurd (omega arith)) (v r)
 
-  pub disabling-step : (events controllable known : ℕ) (states alphabet : List ℕ) {x : ℕ} {w kept : Bool} → b ≡ standsAt s j 0x16 11 → not b ≡ false → f .first < 32
+  pub disabling-step : (events controllable known : ℕ) (states alphabet : List ℕ) {x : ℕ} {w kept : Bool} → bytes ≡ sizeBy 0x16 → b ≡ standsAt s j 0x16 bytes → not b ≡ false → f .first < 32
       → x ≡ wordAt s (j + 3) → kept ≡ disablingNamed f x (n .supervisors) known (getD states k 0) events → o ≡ precedes p (keyBy 0x16 (f .first) (f .second) 0)
       → w ≡ everyEvent x (bit (bitAnd controllable (getD alphabet k 0))) → not (((o && not (eqb x 0)) && kept) && w) ≡ false
       → Passed s 0x16 c i (atDisablings p n events controllable known states alphabet) j
-      → Passed s 0x16 c i (atDisablings (keyBy 0x16 (f .first) (f .second) 0) n events controllable known states alphabet) (j + 11)
+      → Passed s 0x16 c i (atDisablings (keyBy 0x16 (f .first) (f .second) 0) n events controllable known states alphabet) (j + bytes)
   unfolding Passed atDisablings judgeBy orderBy indexBy namesBy rulesBy allBy inRange keyOf kindOf countsAfter eventsAfter modulesAfter supervisorsAfter
-  disabling-step events controllable known states alphabet {x} {w} {kept} e b1 l x1 n1 o1 w1 h v r =
+  disabling-step events controllable known states alphabet {x} {w} {kept} sized e b1 l x1 n1 o1 w1 h v r =
       let q = both ((o && not (eqb x 0)) && kept) w (not-false _ h) in
       let m = both (o && not (eqb x 0)) kept (q .0) in
       let t = both o (not (eqb x 0)) (m .0) in
       let n2 : disablingNamed f x (n .supervisors) known (getD states (f .first) 0) events ≡ kept = cc in
       let w2 : everyEvent x (bit (bitAnd controllable (getD alphabet (f .first) 0))) ≡ w = cc in
-      reaches s 0x16 (j + 11)
-      (reads-disabling s j g (stands-told s j 0x16 11 e b1) ∙ ap (λ (y : ℕ). Whole (Disabling (f .first) (f .second) y) (j + 11)) (sym x1)) (omega arith)
+      reaches s 0x16 (j + bytes)
+      (reads-disabling s j g sized (stands-told s j 0x16 bytes e b1) ∙ ap (λ (y : ℕ). Whole (Disabling (f .first) (f .second) y) (j + bytes)) (sym x1)) (omega (arith, sized))
       (simp (sym o1 ∙ t .0, t .1, n2 ∙ m .1, w2 ∙ q .1)) refl refl (λ z. absurd (omega arith)) (v r)
 
-  pub step-step : (known controllable : ℕ) (owner counts : List ℕ) {x u : ℕ} {t kept : Bool} → b ≡ standsAt s j 0x17 12 → not b ≡ false → x ≡ wordAt s (j + 4) → f .first < 64
+  pub step-step : (known controllable : ℕ) (owner counts : List ℕ) {x u : ℕ} {t kept : Bool} → bytes ≡ sizeBy 0x17 → b ≡ standsAt s j 0x17 bytes → not b ≡ false → x ≡ wordAt s (j + 4) → f .first < 64
       → t ≡ eqb (getD owner (x % 64) 0) (getD owner (f .first) 0) → kept ≡ stepKept f x (n .events) known controllable t → o ≡ precedes p (keyBy 0x17 (f .first) (f .second) 0)
       → not ((o && eqb (f .second) (getD counts k 0)) && kept) ≡ false → u ≡ (f .second + 1) % 256 → Passed s 0x17 c i (atSteps p n known controllable owner counts) j
-      → Passed s 0x17 c i (atSteps (keyBy 0x17 (f .first) (f .second) 0) n known controllable owner (set counts k u)) (j + 12)
+      → Passed s 0x17 c i (atSteps (keyBy 0x17 (f .first) (f .second) 0) n known controllable owner (set counts k u)) (j + bytes)
   unfolding Passed atSteps judgeBy orderBy indexBy namesBy rulesBy allBy keyOf kindOf countsAfter eventsAfter modulesAfter supervisorsAfter withEntry
-  step-step known controllable owner counts {x} {u} {kept = kept} e b1 x1 l y1 n1 o1 h u1 v r =
+  step-step known controllable owner counts {x} {u} {kept = kept} sized e b1 x1 l y1 n1 o1 h u1 v r =
       let ev : Events = record { known = known; controllable = controllable; owner = owner; steps = counts } in
       let w : Bool = eqb (f .second) (getD counts k 0) in
       let q = both (o && w) kept (not-false _ h) in
@@ -410,11 +420,11 @@ module _ (s : List ℕ) (c : Context → Context) (i : ℕ) (n : Counts) (p : Re
       let t1 = both (ranged && known1) (bit controllable (f .first)) (t .0) in
       let t2 = both ranged known1 (t1 .0) in
       let z = respond-told n ev (f .first) x (eqb (f .third) 5) (t .1) in
-      let d = reaches s 0x17 (j + 12)
-      (reads-step s j g (stands-told s j 0x17 12 e b1) ∙ ap (λ (y : ℕ). Whole (Step (f .first) (f .second) (f .third) y) (j + 12)) (sym x1)) (omega arith)
+      let d = reaches s 0x17 (j + bytes)
+      (reads-step s j g sized (stands-told s j 0x17 bytes e b1) ∙ ap (λ (y : ℕ). Whole (Step (f .first) (f .second) (f .third) y) (j + bytes)) (sym x1)) (omega (arith, sized))
       (simp (sym o1 ∙ m .0, w2, t2 .0, t2 .1, t1 .1, z .0, z .1)) refl refl (λ z. absurd (omega arith)) (v r)
       in
       let g2 : withRecord (atSteps p n known controllable owner counts r) (Step (f .first) (f .second) (f .third) x)
       ≡ atSteps (keyBy 0x17 (f .first) (f .second) 0) n known controllable owner (set counts k u) r = simp (lt-ltb (f .first) 64 l) cc
       in
-      subst (λ (x : Context). Stretch s 0x17 (c r) i x (j + 12)) g2 d
+      subst (λ (x : Context). Stretch s 0x17 (c r) i x (j + bytes)) g2 d

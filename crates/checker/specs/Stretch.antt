@@ -1,4 +1,6 @@
--- The check by what it remembers, and what it is to pass a stretch of records of one kind that are not faulty.
+-- The check by what it remembers, and what it is to pass a stretch of records of one kind that are not faulty. These are steps of a proof and need
+-- not be read: what a check gives is `verdictOf` of rules/specs/Check, and with the places of the records `examinedOf` of Examined, and the
+-- contracts of `check` and `examine` say just that.
 use Prim.Native.Nat.{ℕ, _+_, _-_, _≤_, _<_}
 use mathlib.Core.Path.{_≡_}
 use mathlib.Core.Logic.{_⊎_}
@@ -7,7 +9,7 @@ use mathlib.Core.Bool.{Bool, true, false, cond, not, _&&_, _||_}
 use lib.ListN.{length, getD, replicate}
 use lib.Dec.{eqb, leb, ltb}
 use Rattle.bits.specs.Bit.{bit, allBelow, everyEvent}
-use Rattle.records.specs.Kinds.{kindOf}
+use Rattle.records.specs.Kinds.{kindOf, sizeBy}
 use Rattle.records.specs.Key.{keyBy, precedes}
 use Rattle.records.specs.Range.{inRange}
 use Rattle.records.specs.declared.Record.the-variants.{Supervisor, Step}
@@ -136,5 +138,5 @@ stepKept f x events named controllable same =
 -- an end record stands at an offset, after a record before it, and every number that the head promised is declared
 abbrev pub endKept : List ℕ → ℕ → RecordKey → Counts → ℕ → ℕ → ℕ → Bool
 endKept s i q n modules supervisors events =
-    (standsAt s i 0x1f 1 && precedes q (keyBy 0x1f 0 0 0))
+    (standsAt s i 0x1f (sizeBy 0x1f) && precedes q (keyBy 0x1f 0 0 0))
     && (allBelow (bit modules) (n .modules) && allBelow (bit supervisors) (n .supervisors) && allBelow (bit events) (n .events))

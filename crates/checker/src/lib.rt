@@ -69,6 +69,7 @@ fn stands(image: &[u8], at: usize, kind: u8, n: usize) -> bool
     }
 }
 
+// The first fields of the record at an offset.
 fn fields_at(image: &[u8], at: usize) -> Fields
     requires { ⌜ at + 4 ≤ length (now image) ⌝ }
     ensures { λ f. ⌜ f ≡ fieldsAt (now (image .entry)) at ⌝ }
@@ -171,8 +172,9 @@ fn events(
     let mut controllable: u64 = 0;
     let mut last = before;
     let mut i = from;
+    let size = records::size_of(0x11);
     loop {
-        if !stands(image, i, 0x11, 4) {
+        if !stands(image, i, 0x11, size) {
             return PlaceOfEvents {
                 known,
                 controllable,
@@ -202,7 +204,7 @@ fn events(
         controllable = bits::put(controllable, e, f.third == 1);
         owner[k] = f.second;
         last = key;
-        i = i + 4;
+        i = i + size;
     }
 }
 
@@ -219,8 +221,9 @@ fn modules(
     let mut known: u64 = 0;
     let mut last = before;
     let mut i = from;
+    let size = records::size_of(0x12);
     loop {
-        if !stands(image, i, 0x12, 4) {
+        if !stands(image, i, 0x12, size) {
             return PlaceOfNumbers {
                 known,
                 last,
@@ -247,7 +250,7 @@ fn modules(
         known = bits::put(known, m, true);
         states[k] = f.second;
         last = key;
-        i = i + 4;
+        i = i + size;
     }
 }
 
@@ -266,8 +269,9 @@ fn module_moves(
 {
     let mut last = before;
     let mut i = from;
+    let size = records::size_of(0x13);
     loop {
-        if !stands(image, i, 0x13, 5) {
+        if !stands(image, i, 0x13, size) {
             return Place { last, next: i };
         }
         let f = fields_at(image, i);
@@ -296,7 +300,7 @@ fn module_moves(
             return Place { last, next: i };
         }
         last = key;
-        i = i + 5;
+        i = i + size;
     }
 }
 
@@ -315,8 +319,9 @@ fn supervisors(
     let mut known: u64 = 0;
     let mut last = before;
     let mut i = from;
+    let size = records::size_of(0x14);
     loop {
-        if !stands(image, i, 0x14, 12) {
+        if !stands(image, i, 0x14, size) {
             return PlaceOfNumbers {
                 known,
                 last,
@@ -345,7 +350,7 @@ fn supervisors(
         states[k] = f.second;
         alphabet[k] = x;
         last = key;
-        i = i + 12;
+        i = i + size;
     }
 }
 
@@ -364,8 +369,9 @@ fn supervisor_moves(
 {
     let mut last = before;
     let mut i = from;
+    let size = records::size_of(0x15);
     loop {
-        if !stands(image, i, 0x15, 5) {
+        if !stands(image, i, 0x15, size) {
             return Place { last, next: i };
         }
         let f = fields_at(image, i);
@@ -389,7 +395,7 @@ fn supervisor_moves(
             return Place { last, next: i };
         }
         last = key;
-        i = i + 5;
+        i = i + size;
     }
 }
 
@@ -409,8 +415,9 @@ fn disablings(
 {
     let mut last = before;
     let mut i = from;
+    let size = records::size_of(0x16);
     loop {
-        if !stands(image, i, 0x16, 11) {
+        if !stands(image, i, 0x16, size) {
             return Place { last, next: i };
         }
         let f = fields_at(image, i);
@@ -434,7 +441,7 @@ fn disablings(
             return Place { last, next: i };
         }
         last = key;
-        i = i + 11;
+        i = i + size;
     }
 }
 
@@ -453,8 +460,9 @@ fn steps(
 {
     let mut last = before;
     let mut i = from;
+    let size = records::size_of(0x17);
     loop {
-        if !stands(image, i, 0x17, 12) {
+        if !stands(image, i, 0x17, size) {
             return Place { last, next: i };
         }
         let f = fields_at(image, i);
@@ -478,7 +486,7 @@ fn steps(
         }
         counts[k] = std::num::wrapping_add_u8(f.second, 1);
         last = key;
-        i = i + 12;
+        i = i + size;
     }
 }
 
@@ -500,7 +508,7 @@ fn end_kept(
         second: 0,
         third: 0,
     };
-    (stands(image, at, 0x1f, 1) & records::precedes(last, key))
+    (stands(image, at, 0x1f, records::size_of(0x1f)) & records::precedes(last, key))
         & (bits::has_below(modules, n.modules)
             & bits::has_below(supervisors, n.supervisors)
             & bits::has_below(events, n.events))
@@ -511,7 +519,7 @@ fn end_at(image: &[u8], at: usize, p: Places) -> Examined
     requires { ⌜ at < length (now image) ⌝ }
     ensures { λ x. ⌜ x ≡ examinedBy p (endAt (length (now (image .entry))) at) ⌝ }
 {
-    let after = at + 1;
+    let after = at + records::size_of(0x1f);
     if after == image.len() {
         Examined::Accepted(p)
     } else {
@@ -645,8 +653,8 @@ fn after_modules(
 }
 
 // After the head: the records from the events on.
-fn after_head(image: &[u8], n: Counts) -> Examined
-    requires { ⌜ Reached (now image) (headed n) 4 nowhere ⌝ }
+fn after_head(image: &[u8], from: usize, n: Counts) -> Examined
+    requires { ⌜ Reached (now image) (headed n) from nowhere ⌝ }
     ensures { λ x. ⌜ x ≡ examinedOf (now (image .entry)) ⌝ }
 {
     let head = RecordKey {
@@ -657,9 +665,9 @@ fn after_head(image: &[u8], n: Counts) -> Examined
     };
     let mut owner = [0u8; 64];
     let mut states = [0u8; 16];
-    let e = events(image, 4, head, n, &mut owner);
+    let e = events(image, from, head, n, &mut owner);
     let eq = e.last;
-    let ep = noted_past(places::nowhere(), 0x10, 0x11, 4, e.next);
+    let ep = noted_past(places::nowhere(), 0x10, 0x11, from, e.next);
     let m = modules(image, e.next, eq, n, &mut states);
     let mq = m.last;
     let mp = noted_past(ep, eq.kind, 0x12, e.next, m.next);
@@ -687,7 +695,8 @@ pub fn examine(image: &[u8]) -> Examined
     if LIMIT < image.len() {
         return Examined::Refused(1, 0);
     }
-    if stands(image, 0, 0x10, 4) {
+    let size = records::size_of(0x10);
+    if stands(image, 0, 0x10, size) {
         let f = fields_at(image, 0);
         let r = Record::Head {
             modules: f.first,
@@ -700,7 +709,7 @@ pub fn examine(image: &[u8]) -> Examined
                 supervisors: f.second,
                 events: f.third,
             };
-            return after_head(image, n);
+            return after_head(image, size, n);
         }
     }
     judged(image, 0, context::started(), places::nowhere())

@@ -14,24 +14,25 @@ use Rattle.places.specs.Runs.{runBy, runOf, Inside}
 use Rattle.places.specs.declared.Places.{Places}
 use Rattle.places.specs.declared.Run.{Run}
 
-module _ (s : List ℕ) (b e z : ℕ) where
-  pub run-whole : e ≤ length s → record { begin = b; size = z; count = (e - b) / z } ≡ runBy s b e z
+-- z is the size that the code has read off the table
+module _ (s : List ℕ) (b e z : ℕ) {y : ℕ} (q : z ≡ y) where
+  pub run-whole : e ≤ length s → record { begin = b; size = z; count = (e - b) / z } ≡ runBy s b e y
   unfolding runBy
-  run-whole l = simp (le-leb _ _ l)
+  run-whole l = rw q (simp (le-leb _ _ l))
 
-  pub run-none : e < b → record { begin = b; size = z; count = 0 } ≡ runBy s b e z
+  pub run-none : e < b → record { begin = b; size = z; count = 0 } ≡ runBy s b e y
   unfolding runBy
   run-none l =
       let w : e - b ≡ 0 = omega arith in
-      rw w (go (leb e (length s)))
+      rw q (rw w (go (leb e (length s))))
     where
-      go : (t : Bool) → _≡_ {A = Run} (record { begin = b; size = z; count = 0 }) (record { begin = b; size = z; count = cond t (0 / z) 0 })
+      go : (t : Bool) → _≡_ {A = Run} (record { begin = b; size = y; count = 0 }) (record { begin = b; size = y; count = cond t (0 / y) 0 })
       go true = simp zero-div
       go false = refl
 
-  pub run-past : length s < e → record { begin = b; size = z; count = 0 } ≡ runBy s b e z
+  pub run-past : length s < e → record { begin = b; size = z; count = 0 } ≡ runBy s b e y
   unfolding runBy
-  run-past l = simp (lt-leb _ _ l)
+  run-past l = rw q (simp (lt-leb _ _ l))
 
 pub counts : (s : List ℕ) (p : Places) (k : ℕ) {r : Run} → r ≡ runOf s p k → r .count ≡ countOf s p k
 unfolding countOf runOf runBy

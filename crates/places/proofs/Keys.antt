@@ -9,7 +9,7 @@ use lib.ListN.{length, drop, getD}
 use lib.Seq.{getD-drop}
 use lib.Dec.{eqb}
 use borrow.Author.Tests.{ne-eqb, eqb-true}
-use Rattle.records.specs.Kinds.{bodyLen}
+use Rattle.records.specs.Kinds.{bodyLen, sizeBy}
 use Rattle.records.specs.Key.{keyBy, keyOf}
 use Rattle.reader.specs.Read.{recordOf}
 use Rattle.places.specs.Places.{beginOf, endOf, numbered}
@@ -97,8 +97,8 @@ module _ (s : List ℕ) (p : Places) (k : ℕ) {r : Run} where
   pub run-keyed : keyed k ≡ true → (k ≡ 0x13 → ⊥) → (k ≡ 0x15 → ⊥) → (k ≡ 0x16 → ⊥) → r ≡ runOf s p 0x17 → r ≡ runOf s p k
   run-keyed n a b c f = run-by-kind 0x17 (last-keyed k n a b c) f
 
-  pub run-of-none : numbered k ≡ false → keyed k ≡ false → (k ≡ 0x10 → ⊥) → (k ≡ 0x1f → ⊥) → r ≡ runBy s 0 0 256 → r ≡ runOf s p k
-  unfolding runOf beginOf endOf bodyLen
+  pub run-of-none : numbered k ≡ false → keyed k ≡ false → (k ≡ 0x10 → ⊥) → (k ≡ 0x1f → ⊥) → r ≡ runBy s 0 0 (sizeBy k) → r ≡ runOf s p k
+  unfolding runOf beginOf endOf
   run-of-none n m a b f =
       let o = others k n m in
       simp (ne-eqb k 0x10 a, ne-eqb k 0x1f b, o .k11, o .k12, o .k13, o .k14, o .k15, o .k16, o .k17) f

@@ -3,6 +3,7 @@ ghost use mathlib.Core.Path.{_≡_};
 ghost use mathlib.Core.Bool.{true, false, cond};
 ghost use Prim.Native.Nat.{suc, _+_, _-_, _*_, _≤_, _<_};
 ghost use lib.ListN.{length, drop};
+ghost use Rattle.records.specs.Kinds.{sizeBy};
 ghost use Rattle.records.specs.Key.{keyBy, keyOf};
 ghost use Rattle.reader.specs.Find.{findIn};
 ghost use Rattle.reader.specs.Read.{recordOf};
@@ -75,11 +76,11 @@ struct Run {
     count: usize,
 }
 
-// Those of a size between two offsets, and none where they would end past the image.
-fn run_by(image: &[u8], begin: usize, end: usize, size: usize) -> Run
-    requires { ⌜ 0 < size ⌝ }
-    ensures { λ r. ⌜ r ≡ runBy (now (image .entry)) begin end size ⌝ }
+// Those of a kind between two offsets, and none where they would end past the image.
+fn run_by(image: &[u8], begin: usize, end: usize, kind: u8) -> Run
+    ensures { λ r. ⌜ r ≡ runBy (now (image .entry)) begin end (sizeBy kind) ⌝ }
 {
+    let size = records::size_of(kind);
     let mut count: usize = 0;
     if end <= image.len() {
         if begin <= end {
@@ -90,18 +91,18 @@ fn run_by(image: &[u8], begin: usize, end: usize, size: usize) -> Run
 }
 
 // Those of a kind whose number is their place, and those of a kind whose keys have several numbers: small, so that with a known kind they are
-// inlined. Sizes that are constants make the division cheap.
+// inlined, and the size is a constant.
 fn numbered_run(image: &[u8], p: Places, kind: u8) -> Run
     requires { ⌜ numbered kind ≡ true ⌝ }
     ensures { λ r. ⌜ r ≡ runOf (now (image .entry)) p kind ⌝ }
 {
     if kind == 0x11 {
-        return run_by(image, p.k11 as usize, p.k12 as usize, 4);
+        return run_by(image, p.k11 as usize, p.k12 as usize, 0x11);
     }
     if kind == 0x12 {
-        return run_by(image, p.k12 as usize, p.k13 as usize, 4);
+        return run_by(image, p.k12 as usize, p.k13 as usize, 0x12);
     }
-    run_by(image, p.k14 as usize, p.k15 as usize, 12)
+    run_by(image, p.k14 as usize, p.k15 as usize, 0x14)
 }
 
 fn keyed_run(image: &[u8], p: Places, kind: u8) -> Run
@@ -109,15 +110,15 @@ fn keyed_run(image: &[u8], p: Places, kind: u8) -> Run
     ensures { λ r. ⌜ r ≡ runOf (now (image .entry)) p kind ⌝ }
 {
     if kind == 0x13 {
-        return run_by(image, p.k13 as usize, p.k14 as usize, 5);
+        return run_by(image, p.k13 as usize, p.k14 as usize, 0x13);
     }
     if kind == 0x15 {
-        return run_by(image, p.k15 as usize, p.k16 as usize, 5);
+        return run_by(image, p.k15 as usize, p.k16 as usize, 0x15);
     }
     if kind == 0x16 {
-        return run_by(image, p.k16 as usize, p.k17 as usize, 11);
+        return run_by(image, p.k16 as usize, p.k17 as usize, 0x16);
     }
-    run_by(image, p.k17 as usize, p.k1f as usize, 12)
+    run_by(image, p.k17 as usize, p.k1f as usize, 0x17)
 }
 
 // Those of a kind.
@@ -131,12 +132,12 @@ fn run_of(image: &[u8], p: Places, kind: u8) -> Run
         return keyed_run(image, p, kind);
     }
     if kind == 0x10 {
-        return run_by(image, 0, p.k11 as usize, 4);
+        return run_by(image, 0, p.k11 as usize, 0x10);
     }
     if kind == 0x1f {
-        return run_by(image, p.k1f as usize, p.k1f as usize + 1, 1);
+        return run_by(image, p.k1f as usize, p.k1f as usize + 1, 0x1f);
     }
-    run_by(image, 0, 0, 256)
+    run_by(image, 0, 0, kind)
 }
 
 // How many records of a kind stand there.

@@ -22,6 +22,10 @@ bodyLen k =
     (cond (eqb k 0x17) 11
     (cond (eqb k 0x1f) 0 noLen))))))))
 
+-- the bytes of a whole record of a kind: the kind's byte and the body
+abbrev pub sizeBy : ℕ → ℕ
+sizeBy k = suc (bodyLen k)
+
 -- the column "Kind"
 unfoldable pub kindOf : Record → ℕ
 kindOf (Head m v e) = 0x10
@@ -34,6 +38,5 @@ kindOf (Disabling v st m) = 0x16
 kindOf (Step e i o x) = 0x17
 kindOf End = 0x1f
 
--- the kind's byte and the body
 abbrev pub sizeOf : Record → ℕ
-sizeOf r = suc (bodyLen (kindOf r))
+sizeOf r = sizeBy (kindOf r)

@@ -1,6 +1,6 @@
 // Plan records: their kinds, body lengths, ranges and keys.
 ghost use mathlib.Core.Path.{_≡_};
-ghost use Rattle.records.specs.Kinds.{bodyLen, kindOf};
+ghost use Rattle.records.specs.Kinds.{bodyLen, sizeBy, kindOf};
 ghost use Rattle.records.specs.Range.{inRange, operandInRange};
 ghost use Rattle.records.specs.Key.{keyBy, keyOf, sameKey, precedes, rankOf};
 
@@ -87,6 +87,13 @@ pub fn body_len(kind: u8) -> u8
         }
     }
     NO_LEN
+}
+
+// The bytes of a whole record of a kind, its kind and its body, by the same table.
+pub fn size_of(kind: u8) -> usize
+    ensures { λ r. ⌜ r ≡ sizeBy kind ⌝ }
+{
+    words::wide(body_len(kind)) + 1
 }
 
 pub fn kind_of(r: Record) -> u8

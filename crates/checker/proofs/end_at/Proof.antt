@@ -1,20 +1,24 @@
-use native.Mathlib.Numerals.{add-one}
+use native.Mathlib.Omega.{arith}
 use borrow.Author.Tests.{eq-eqb, ne-eqb}
 use Rattle.checker.specs.Examined.{examinedBy}
+use Rattle.checker.proofs.Loop.{after-end}
 use borrow.Author.Needs.{needs}
 use Rattle.checker.proofs.end_at.Statement.{statement}
 use Rattle.checker.proofs.end_at.Tie as tie
 
+size-of-requires : tie.Need-size-of-requires
+size-of-requires c κs = search needs
+
 add-after : tie.Need-add-after
-add-after c = search needs
+add-after c = omega (arith, after-end (c .before .before .args .at) (c .size-of .ensures))
 
 returns : tie.Need-returns
 unfolding examinedBy
-returns c = simp (← add-one, eq-eqb _ _ (c .if1 .taken))
+returns c = simp (← after-end (c .before .before .before .args .at) (c .before .size-of .ensures), eq-eqb _ _ (c .if1 .taken))
 
 returns-2 : tie.Need-returns-2
 unfolding examinedBy
-returns-2 c = simp (← add-one, ne-eqb _ _ (c .if1 .left))
+returns-2 c = simp (← after-end (c .before .before .before .args .at) (c .before .size-of .ensures), ne-eqb _ _ (c .if1 .left))
 
 pub end-at-spec : {M : Type 1} → statement M
-end-at-spec = tie.close (tie.spec add-after returns returns-2)
+end-at-spec = tie.close (tie.spec size-of-requires add-after returns returns-2)

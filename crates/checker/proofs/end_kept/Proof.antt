@@ -2,6 +2,9 @@ use borrow.Author.Needs.{needs}
 use Rattle.checker.proofs.end_kept.Statement.{statement}
 use Rattle.checker.proofs.end_kept.Tie as tie
 
+size-of-requires : tie.Need-size-of-requires
+size-of-requires c κs = search needs
+
 stands-requires : tie.Need-stands-requires
 stands-requires c κs = search needs
 
@@ -24,6 +27,7 @@ pub end-kept-spec : {M : Type 1} → statement M
 end-kept-spec =
     tie.close
     (tie.spec
+    size-of-requires
     stands-requires
     precedes-requires
     has-below-requires

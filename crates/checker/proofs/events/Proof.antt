@@ -8,10 +8,13 @@ use Rattle.checker.proofs.events.Statement.{statement}
 use Rattle.checker.proofs.events.Tie as tie
 
 abbrev Inv-loop : tie.InvT-loop
-Inv-loop image from n owner₀ known₀ controllable₀ last₀ i₀ owner known controllable last i = Passed image 0x11 (atEvents last₀ n 0 0 owner₀) from (atEvents last n known controllable owner) i
+Inv-loop image from n owner₀ known₀ controllable₀ last₀ i₀ size owner known controllable last i = Passed image 0x11 (atEvents last₀ n 0 0 owner₀) from (atEvents last n known controllable owner) i
 
 abbrev μ-loop : tie.MeasureT-loop
-μ-loop image from n owner₀ known₀ controllable₀ last₀ i₀ owner known controllable last i = length image - i
+μ-loop image from n owner₀ known₀ controllable₀ last₀ i₀ size owner known controllable last i = length image - i
+
+size-of-requires : tie.Need-size-of-requires Inv-loop μ-loop
+size-of-requires c κs = search needs
 
 loop-holds : tie.Need-loop-holds Inv-loop μ-loop
 loop-holds c = search begins-stretch
@@ -47,7 +50,7 @@ add-i : tie.Need-add-i Inv-loop μ-loop
 add-i c = search (needs, fits-by)
 
 loop-less : tie.Need-loop-less Inv-loop μ-loop
-loop-less c = search (further-by, lit≤)
+loop-less c = search further-by
 
 loop-again : tie.Need-loop-again Inv-loop μ-loop
 loop-again c = search event-step
@@ -58,6 +61,7 @@ events-spec =
     (tie.spec
     Inv-loop
     μ-loop
+    size-of-requires
     loop-holds
     stands-requires
     returns

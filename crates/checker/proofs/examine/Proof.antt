@@ -1,26 +1,33 @@
 use borrow.Author.Needs.{needs}
 use native.Mathlib.Omega.{arith}
-use mathlib.Core.Path.{sym, _∙_}
+use mathlib.Core.Path.{sym, ap, _∙_}
 use Prim.Native.Nat.{suc, _<_}
 use denote.Ref.{now}
 use lib.ListN.{length}
+use Rattle.records.specs.Kinds.{bodyLen}
 use Rattle.rules.specs.Check.{limit}
+use Rattle.checker.specs.Stretch.{standsAt}
 use Rattle.checker.proofs.Stretch.{stands-there}
 use Rattle.checker.proofs.Loop.{begins, too-long, head-by}
 use Rattle.checker.proofs.examine.Statement.{statement}
 use Rattle.checker.proofs.examine.Tie as tie
 
-below : (c : tie.After-stands) → length (now (c .before .before .before .args .image)) < suc limit
+below : (c : tie.After-stands) → length (now (c .before .before .before .before .args .image)) < suc limit
 below c = omega arith
 
 returns : tie.Need-returns
 returns c = too-long _ (c .if1 .taken)
 
+size-of-requires : tie.Need-size-of-requires
+size-of-requires c κs = search needs
+
 stands-requires : tie.Need-stands-requires
 stands-requires c κs = search needs
 
 fields-at-requires : tie.Need-fields-at-requires
-fields-at-requires c κs = stands-there _ 0 0x10 4 (sym (c .before .stands .ensures) ∙ c .if2 .taken) .fits
+unfolding bodyLen
+fields-at-requires c κs =
+    stands-there _ 0 0x10 4 (ap (standsAt _ 0 0x10) (sym (c .before .before .size-of .ensures)) ∙ sym (c .before .stands .ensures) ∙ c .if2 .taken) .fits
 
 in-range-requires : tie.Need-in-range-requires
 in-range-requires c κs = search needs
@@ -29,7 +36,7 @@ after-head-requires : tie.Need-after-head-requires
 after-head-requires c κs =
     let f = c .before .before in
     let a = f .before .before in
-    head-by _ (below a) (a .stands .ensures) (f .before .if2 .taken) (f .fields-at .ensures) (c .before .in-range .ensures) (c .if3 .taken)
+    head-by _ (below a) (a .before .size-of .ensures) (a .stands .ensures) (f .before .if2 .taken) (f .fields-at .ensures) (c .before .in-range .ensures) (c .if3 .taken)
 
 returns-2 : tie.Need-returns-2
 returns-2 c = search needs
@@ -51,6 +58,7 @@ examine-spec =
     tie.close
     (tie.spec
     returns
+    size-of-requires
     stands-requires
     fields-at-requires
     in-range-requires

@@ -8,10 +8,13 @@ use Rattle.checker.proofs.modules.Statement.{statement}
 use Rattle.checker.proofs.modules.Tie as tie
 
 abbrev Inv-loop : tie.InvT-loop
-Inv-loop image from n states₀ known₀ last₀ i₀ states known last i = Passed image 0x12 (atModules last₀ n 0 states₀) from (atModules last n known states) i
+Inv-loop image from n states₀ known₀ last₀ i₀ size states known last i = Passed image 0x12 (atModules last₀ n 0 states₀) from (atModules last n known states) i
 
 abbrev μ-loop : tie.MeasureT-loop
-μ-loop image from n states₀ known₀ last₀ i₀ states known last i = length image - i
+μ-loop image from n states₀ known₀ last₀ i₀ size states known last i = length image - i
+
+size-of-requires : tie.Need-size-of-requires Inv-loop μ-loop
+size-of-requires c κs = search needs
 
 loop-holds : tie.Need-loop-holds Inv-loop μ-loop
 loop-holds c = search begins-stretch
@@ -44,7 +47,7 @@ add-i : tie.Need-add-i Inv-loop μ-loop
 add-i c = search (needs, fits-by)
 
 loop-less : tie.Need-loop-less Inv-loop μ-loop
-loop-less c = search (further-by, lit≤)
+loop-less c = search further-by
 
 loop-again : tie.Need-loop-again Inv-loop μ-loop
 loop-again c = search module-step
@@ -55,6 +58,7 @@ modules-spec =
     (tie.spec
     Inv-loop
     μ-loop
+    size-of-requires
     loop-holds
     stands-requires
     returns

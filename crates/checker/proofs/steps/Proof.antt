@@ -8,10 +8,13 @@ use Rattle.checker.proofs.steps.Statement.{statement}
 use Rattle.checker.proofs.steps.Tie as tie
 
 abbrev Inv-loop : tie.InvT-loop
-Inv-loop image from n known controllable owner counts₀ last₀ i₀ counts last i = Passed image 0x17 (atSteps last₀ n known controllable owner counts₀) from (atSteps last n known controllable owner counts) i
+Inv-loop image from n known controllable owner counts₀ last₀ i₀ size counts last i = Passed image 0x17 (atSteps last₀ n known controllable owner counts₀) from (atSteps last n known controllable owner counts) i
 
 abbrev μ-loop : tie.MeasureT-loop
-μ-loop image from n known controllable owner counts₀ last₀ i₀ counts last i = length image - i
+μ-loop image from n known controllable owner counts₀ last₀ i₀ size counts last i = length image - i
+
+size-of-requires : tie.Need-size-of-requires Inv-loop μ-loop
+size-of-requires c κs = search needs
 
 loop-holds : tie.Need-loop-holds Inv-loop μ-loop
 loop-holds c = search begins-stretch
@@ -62,10 +65,17 @@ add-i : tie.Need-add-i Inv-loop μ-loop
 add-i c = search (needs, fits-by)
 
 loop-less : tie.Need-loop-less Inv-loop μ-loop
-loop-less c = search (further-by, lit≤)
+loop-less c = search further-by
 
 loop-again : tie.Need-loop-again Inv-loop μ-loop
-loop-again c = search step-step
+loop-again c =
+    let p = c .before .before .before in
+    let w = p .before .before .before .before in
+    let f = w .before .before .before in
+    let t = f .before .before in
+    step-step _ _ _ _ _ _ (f .fields-at .ensures) (w .wide .ensures) _ _ _ _ (t .before .before .size-of .ensures) (t .stands .ensures) (f .before .if1 .left)
+    (w .before .before .word-at .ensures) (w .before .if2 .left) (p .before .before .same-module .ensures) (p .before .step-kept .ensures) (p .precedes .ensures)
+    (c .before .if3 .left) (c .wrapping-add-u8 .ensures) (t .before .loop .inv)
 
 pub steps-spec : {M : Type 1} → statement M
 steps-spec =
@@ -73,6 +83,7 @@ steps-spec =
     (tie.spec
     Inv-loop
     μ-loop
+    size-of-requires
     loop-holds
     stands-requires
     returns

@@ -8,10 +8,13 @@ use Rattle.checker.proofs.supervisors.Statement.{statement}
 use Rattle.checker.proofs.supervisors.Tie as tie
 
 abbrev Inv-loop : tie.InvT-loop
-Inv-loop image from n events states₀ alphabet₀ known₀ last₀ i₀ states alphabet known last i = Passed image 0x14 (atSupervisors last₀ n events 0 states₀ alphabet₀) from (atSupervisors last n events known states alphabet) i
+Inv-loop image from n events states₀ alphabet₀ known₀ last₀ i₀ size states alphabet known last i = Passed image 0x14 (atSupervisors last₀ n events 0 states₀ alphabet₀) from (atSupervisors last n events known states alphabet) i
 
 abbrev μ-loop : tie.MeasureT-loop
-μ-loop image from n events states₀ alphabet₀ known₀ last₀ i₀ states alphabet known last i = length image - i
+μ-loop image from n events states₀ alphabet₀ known₀ last₀ i₀ size states alphabet known last i = length image - i
+
+size-of-requires : tie.Need-size-of-requires Inv-loop μ-loop
+size-of-requires c κs = search needs
 
 loop-holds : tie.Need-loop-holds Inv-loop μ-loop
 loop-holds c = search begins-stretch
@@ -56,13 +59,20 @@ element-write-alphabet : tie.Need-element-write-alphabet Inv-loop μ-loop
 element-write-alphabet c = search index-by
 
 add-i : tie.Need-add-i Inv-loop μ-loop
-add-i c = search (needs, fits-by)
+add-i c =
+    let a = c .before .before .before .before .before .before .before in
+    record { fits = fits-by _ _ _ _ (a .before .stands .ensures) (a .if1 .left) (search needs) }
 
 loop-less : tie.Need-loop-less Inv-loop μ-loop
-loop-less c = search (further-by, lit≤)
+loop-less c = search further-by
 
 loop-again : tie.Need-loop-again Inv-loop μ-loop
-loop-again c = search supervisor-step
+loop-again c =
+    let p = c .before .before .before in
+    let f = p .before .before .before in
+    let t = f .before .before in
+    supervisor-step _ _ _ _ _ _ (f .fields-at .ensures) (c .before .wide .ensures) _ _ _ _ (t .before .before .size-of .ensures) (t .stands .ensures) (f .before .if1 .left)
+    (p .before .before .word-at .ensures) (p .before .supervisor-kept .ensures) (p .precedes .ensures) (c .before .before .if2 .left) (c .put .ensures) (t .before .loop .inv)
 
 pub supervisors-spec : {M : Type 1} → statement M
 supervisors-spec =
@@ -70,6 +80,7 @@ supervisors-spec =
     (tie.spec
     Inv-loop
     μ-loop
+    size-of-requires
     loop-holds
     stands-requires
     returns
