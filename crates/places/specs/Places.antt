@@ -1,5 +1,6 @@
--- Where the records of each kind begin in an image, and which records a look-up by these places can find. Of an accepted plan it finds every
--- record: `AllFound` of the crate placed.
+-- Where the records of each kind begin in an image, and which records a look-up by these places can find. How it looks need not be read: `AllFound` of
+-- placed/specs says that in an accepted plan, by the places that its check notes, it finds every record, and the contracts of the calls are stated
+-- over the plan's records, without places.
 use Prim.Native.Nat.{ℕ, zero, suc, _+_, _-_, _*_, _/_, _%_}
 use mathlib.Core.List.{List, [], _∷_, _++_}
 use mathlib.Core.Bool.{Bool, cond, _&&_, _||_}

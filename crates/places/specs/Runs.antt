@@ -1,4 +1,5 @@
--- The records of a kind as the look-up has them: where they begin, the bytes of each, and how many there are.
+-- The records of a kind as the look-up has them: where they begin, the bytes of each, and how many there are. Steps of its proof: they need not be
+-- read (see Places).
 use mathlib.Core.Path.{_≡_}
 use Prim.Native.Nat.{ℕ, suc, _+_, _-_, _*_, _/_, _≤_, _<_}
 use mathlib.Core.List.{List}
