@@ -1,0 +1,162 @@
+#!/usr/bin/env bash
+# docs/REFERENCE.md says what is so: its plans and images get the answers that stand beside them, its blocks of calls are what the programs print, the
+# definitions and files that it names are there, and it names every call and constant of the header.
+set -eu
+cd "$(dirname "$0")/.."
+mkdir -p target
+rt check listing simulate device_vectors many_vectors > target/reference-page.log 2>&1 || { tail -n 40 target/reference-page.log; exit 1; }
+kit=$(dirname "$(dirname "$(rt doc)")")
+loader=$(find "$kit" -name ld-linux-x86-64.so.2 | head -n 1)
+room=$(mktemp -d)
+trap 'rm -rf "$room"' EXIT
+python3 - docs/REFERENCE.md "$loader" "$room" <<'END'
+import glob, os, re, subprocess, sys
+
+page, loader, room = sys.argv[1:]
+text = open(page).read()
+here = os.getcwd()
+wrong = []
+counts = dict.fromkeys(["images", "plans", "blocks of calls", "definitions", "files"], 0)
+
+
+def complain(what):
+    wrong.append("reference page: " + what)
+
+
+def run(program, given, image=b""):
+    with open(os.path.join(room, "plan.bin"), "wb") as plan:
+        plan.write(image)
+    command = [loader, "--library-path", os.path.dirname(loader), os.path.join(here, "target/bin", program)]
+    return subprocess.run(command, input=given.encode(), stdout=subprocess.PIPE, cwd=room, check=True).stdout.decode()
+
+
+# The fenced blocks, by the word behind the fence: (word, its arguments, lines).
+blocks = []
+for marks, body in re.findall(r"^```([^\n]*)\n(.*?)^```$", text, re.M | re.S):
+    word, *arguments = marks.split() or [""]
+    if word not in ("", "plan", "parts", "calls", "sh"):
+        complain("a block is marked %s" % word)
+    blocks.append((word, arguments, body.splitlines()))
+
+
+# ---- images
+
+parts = {}
+
+
+def image_of(digits):
+    image = b""
+    for piece in digits.split():
+        if piece == "-":
+            continue
+        if piece in parts:
+            image += parts[piece]
+        elif "^" in piece:
+            one, copies = piece.split("^")
+            one = bytes.fromhex(one)
+            image += b"".join(one[:2] + bytes([one[2] + k]) + one[3:] for k in range(int(copies)))
+        else:
+            one, _, copies = piece.partition("*")
+            image += bytes.fromhex(one) * int(copies or 1)
+    return image
+
+
+def answer(image):
+    line = run("listing", "", image).splitlines()[0]
+    refused = re.fullmatch(r"plan refused (\d+ at \d+)", line)
+    return refused.group(1) if refused else "accepted"
+
+
+# A plan: its digits, and behind # the offset of the line's record.
+for word, arguments, lines in blocks:
+    if word == "plan":
+        name, image = arguments[0], b""
+        for line in lines:
+            digits, _, note = line.partition("#")
+            if str(len(image)) != (note.split() or [""])[0]:
+                complain("plan %s: %s stands at %d" % (name, digits.strip(), len(image)))
+            image += image_of(digits)
+        parts[name] = image
+        counts["plans"] += 1
+        if answer(image) != "accepted":
+            complain("plan %s is %s" % (name, answer(image)))
+    elif word == "parts":
+        for line in lines:
+            name, digits = line.split("#")[0].split("=")
+            parts[name.strip()] = image_of(digits)
+            if line.split("#")[1].split()[-2:] != [str(len(parts[name.strip()])), "bytes"]:
+                complain("part %s has %d bytes" % (name.strip(), len(parts[name.strip()])))
+
+sheet = bytes.fromhex("".join(open("docs/two-valve.hex").read().split()))
+if parts["P"] != sheet:
+    complain("plan P is not docs/two-valve.hex")
+
+rows = [row for table in re.findall(r"^\| Image \| Answer \|.*\n\|[-|]+\n((?:\|.*\n)+)", text, re.M) for row in table.splitlines()]
+for row in rows:
+    digits, expected = re.match(r"\| `([^`]+)` \| ([^|]+?) \|", row).groups()
+    counts["images"] += 1
+    given = answer(image_of(digits))
+    if given != expected:
+        complain("image %s is %s, not %s" % (digits, given, expected))
+
+
+# ---- calls: lines with > are given, the others are printed; a note begins with # behind two spaces
+
+for word, arguments, lines in blocks:
+    if word != "calls":
+        continue
+    program, name = arguments
+    lines = [re.sub(r" {2,}# .*", "", line) for line in lines]
+    script = [line[2:] for line in lines if line.startswith("> ")]
+    expected = [line for line in lines if not line.startswith("> ")]
+    if program in ("listing", "simulate"):
+        given = run(program, "".join(line + "\n" for line in script), parts[name])
+    else:
+        given = run(program, "".join(line + "\n" for line in ["plan " + parts[name].hex().upper()] + script))
+        given = given.removeprefix("done\n") if program == "device_vectors" else given
+    counts["blocks of calls"] += 1
+    for place, (is_so, is_said) in enumerate(zip(given.splitlines() + ["nothing more"], expected + ["nothing more"])):
+        if is_so != is_said:
+            complain("calls of %s with %s, printed line %d is `%s`, not `%s`" % (program, name, place + 1, is_so, is_said))
+            break
+
+
+# ---- what the page names
+
+# a name is defined in a file if a line of it begins with the name, behind words of the language, and goes on to its type
+def defines(source, name):
+    return re.search(r"^\s*(?:(?:pub|abbrev|unfoldable|record|data)\s+)*%s(?:\s+[({].*)?\s*(?::|$)" % re.escape(name), source, re.M)
+
+
+prose = re.sub(r"^```.*?^```$", "", text, flags=re.M | re.S)
+for path, names in re.findall(r"`(crates/\w+/(?:specs|proofs)/\w+\.antt)`((?:[,\s]+`[^`/]+`)*)", prose):
+    if not os.path.exists(path):
+        complain("there is no " + path)
+        continue
+    source = open(path).read()
+    for name in re.findall(r"`([^`]+)`", names):
+        counts["definitions"] += 1
+        if not defines(source, name):
+            complain("%s does not define %s" % (path, name))
+
+for path in re.findall(r"(?<![\w/])((?:crates|docs|tests|include|examples)/[\w./*-]*\w)", prose):
+    counts["files"] += 1
+    if not glob.glob(path):
+        complain("there is no " + path)
+
+header = open("include/pewterslug.h").read()
+declared = set(re.findall(r"^(?:static inline )?\w+ (pewterslug_\w+)\(", header, re.M)) | set(re.findall(r"^#define (PEWTERSLUG_\w+) ", header, re.M))
+for name in sorted(declared):
+    if name not in text:
+        complain("the header's %s is not named" % name)
+for name in sorted(set(re.findall(r"\bpewterslug_\w+|\bPEWTERSLUG_\w+", text)) - declared):
+    complain("%s is not in the header" % name)
+for name, value in re.findall(r"^#define (PEWTERSLUG_\w+) (\d+)", header, re.M):
+    if not re.search(r"`%s` \|? ?%s\b" % (name, value), text):
+        complain("%s is %s" % (name, value))
+
+if wrong:
+    print("\n".join(wrong))
+    sys.exit(1)
+print("reference page: " + ", ".join("%d %s" % (n, what) for what, n in counts.items()) + " are as it says")
+END
