@@ -91,33 +91,51 @@ sheet = bytes.fromhex("".join(open("docs/two-valve.hex").read().split()))
 if parts["P"] != sheet:
     complain("plan P is not docs/two-valve.hex")
 
-rows = [row for table in re.findall(r"^\| Image \| Answer \|.*\n\|[-|]+\n((?:\|.*\n)+)", text, re.M) for row in table.splitlines()]
-for row in rows:
-    digits, expected = re.match(r"\| `([^`]+)` \| ([^|]+?) \|", row).groups()
-    counts["images"] += 1
-    given = answer(image_of(digits))
-    if given != expected:
-        complain("image %s is %s, not %s" % (digits, given, expected))
+# A row: images with commas between them, and the answer that each gets.
+for table in re.findall(r"^\| Image \| Answer \|.*\n\|[-|]+\n((?:\|.*\n)+)", text, re.M):
+    for row in table.splitlines():
+        images, expected = re.match(r"\| (`[^|]+`) \| ([^|]+?) \|", row).groups()
+        for digits in re.findall(r"`([^`]+)`", images):
+            counts["images"] += 1
+            given = answer(image_of(digits))
+            if given != expected:
+                complain("image %s is %s, not %s" % (digits, given, expected))
 
 
-# ---- calls: lines with > are given, the others are printed; a note begins with # behind two spaces
+# ---- calls: GIVEN -> PRINTED; PRINTED, or GIVEN alone where nothing is printed; a note begins with # behind two spaces
+
+def script_of(lines):
+    """The lines given and the lines that must be printed."""
+    given, printed = [], []
+    for line in lines:
+        call, arrow, answers = re.sub(r" {2,}# .*", "", line).partition("-> ")
+        call, _, times = call.strip().partition(" (")
+        times = int(times.removesuffix(" times)") or 1)
+        given += [call] * times if call else []
+        printed += answers.strip().split("; ") * times if arrow else []
+    return given, printed
+
+
+def agrees(line, said):
+    return line.startswith(said[:-2]) if said.endswith(" ..") else line == said
+
 
 for word, arguments, lines in blocks:
     if word != "calls":
         continue
     program, name = arguments
-    lines = [re.sub(r" {2,}# .*", "", line) for line in lines]
-    script = [line[2:] for line in lines if line.startswith("> ")]
-    expected = [line for line in lines if not line.startswith("> ")]
+    script, expected = script_of(lines)
     if program in ("listing", "simulate"):
-        given = run(program, "".join(line + "\n" for line in script), parts[name])
-    else:
-        given = run(program, "".join(line + "\n" for line in ["plan " + parts[name].hex().upper()] + script))
-        given = given.removeprefix("done\n") if program == "device_vectors" else given
+        printed = run(program, "".join(line + "\n" for line in script), parts[name]).splitlines()
+    else:  # these two are given the plan in a line, which `device_vectors` answers
+        printed = run(program, "".join(line + "\n" for line in ["plan " + parts[name].hex().upper()] + script)).splitlines()
+        printed = printed[1:] if program == "device_vectors" else printed
     counts["blocks of calls"] += 1
-    for place, (is_so, is_said) in enumerate(zip(given.splitlines() + ["nothing more"], expected + ["nothing more"])):
-        if is_so != is_said:
-            complain("calls of %s with %s, printed line %d is `%s`, not `%s`" % (program, name, place + 1, is_so, is_said))
+    for place in range(max(len(printed), len(expected))):
+        line = printed[place] if place < len(printed) else "nothing more"
+        said = expected[place] if place < len(expected) else "nothing more"
+        if not agrees(line, said):
+            complain("calls of %s with %s: printed line %d is `%s`, not `%s`" % (program, name, place + 1, line, said))
             break
 
 
@@ -125,7 +143,7 @@ for word, arguments, lines in blocks:
 
 # a name is defined in a file if a line of it begins with the name, behind words of the language, and goes on to its type
 def defines(source, name):
-    return re.search(r"^\s*(?:(?:pub|abbrev|unfoldable|record|data)\s+)*%s(?:\s+[({].*)?\s*(?::|$)" % re.escape(name), source, re.M)
+    return re.search(r"^\s*(?:(?:pub|abbrev|unfoldable|record|data)\s+)*%s(?:\s+[({].*)?\s*:" % re.escape(name), source, re.M)
 
 
 prose = re.sub(r"^```.*?^```$", "", text, flags=re.M | re.S)
@@ -147,7 +165,7 @@ for path in re.findall(r"(?<![\w/])((?:crates|docs|tests|include|examples)/[\w./
 header = open("include/pewterslug.h").read()
 declared = set(re.findall(r"^(?:static inline )?\w+ (pewterslug_\w+)\(", header, re.M)) | set(re.findall(r"^#define (PEWTERSLUG_\w+) ", header, re.M))
 for name in sorted(declared):
-    if name not in text:
+    if not re.search(r"\b%s\b" % name, text):
         complain("the header's %s is not named" % name)
 for name in sorted(set(re.findall(r"\bpewterslug_\w+|\bPEWTERSLUG_\w+", text)) - declared):
     complain("%s is not in the header" % name)
@@ -155,6 +173,9 @@ for name, value in re.findall(r"^#define (PEWTERSLUG_\w+) (\d+)", header, re.M):
     if not re.search(r"`%s` \|? ?%s\b" % (name, value), text):
         complain("%s is %s" % (name, value))
 
+for what, count in counts.items():
+    if count == 0:
+        complain("there are no " + what)
 if wrong:
     print("\n".join(wrong))
     sys.exit(1)
