@@ -109,8 +109,8 @@ def script_of(lines):
     given, printed = [], []
     for line in lines:
         call, arrow, answers = re.sub(r" {2,}# .*", "", line).partition("-> ")
-        call, _, times = call.strip().partition(" (")
-        times = int(times.removesuffix(" times)") or 1)
+        call, times = re.fullmatch(r"(.*?)(?: \((\d+) times\))?", call.strip()).groups()
+        times = int(times or 1)
         given += [call] * times if call else []
         printed += answers.strip().split("; ") * times if arrow else []
     return given, printed
