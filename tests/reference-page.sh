@@ -1,6 +1,7 @@
 #!/usr/bin/env bash
 # docs/REFERENCE.md says what is so: its plans and images get the answers that stand beside them, its blocks of calls are what the programs print, the
-# definitions and files that it names are there, and it names every call and constant of the header.
+# definitions and files that it names are there, it names every call and constant of the header, and every kind, message, number and field of a state has
+# its row.
 set -eu
 cd "$(dirname "$0")/.."
 mkdir -p target
@@ -16,7 +17,7 @@ page, loader, room = sys.argv[1:]
 text = open(page).read()
 here = os.getcwd()
 wrong = []
-counts = dict.fromkeys(["images", "plans", "blocks of calls", "definitions", "files"], 0)
+counts = dict.fromkeys(["images", "plans", "blocks of calls", "definitions", "files", "rows"], 0)
 
 
 def complain(what):
@@ -172,6 +173,29 @@ for name in sorted(set(re.findall(r"\bpewterslug_\w+|\bPEWTERSLUG_\w+", text)) -
 for name, value in re.findall(r"^#define (PEWTERSLUG_\w+) (\d+)", header, re.M):
     if not re.search(r"`%s` \|? ?%s\b" % (name, value), text):
         complain("%s is %s" % (name, value))
+
+
+# ---- what must have a row: each kind, message, number and field of a state
+
+def row(section, pattern, what):
+    counts["rows"] += 1
+    if not re.search(r"^\| %s" % pattern, re.search(r"^## %d\. .*?(?=^## |\Z)" % section, text, re.M | re.S).group(), re.M):
+        complain("there is no row for " + what)
+
+
+def definition(path, name):
+    return re.search(r"^%s .*?(?=\n\n|\Z)" % name, open(path).read(), re.M | re.S).group()
+
+
+for kind, body in re.findall(r"k 0x(\w\w)\) (\d+)", definition("crates/records/specs/Kinds.antt", "bodyLen")):
+    row(2, r"%s \| [^|]+ \| %s \|" % (kind.upper(), body), "kind %s with a body of %s bytes" % (kind.upper(), body))
+for kind, body in re.findall(r"shaped 0x(\w\w) (\d+)", definition("crates/messages/specs/Message.antt", "parse")):
+    row(6, r"%s \| [^|]+ \| [^|]+: %d \|" % (kind, int(body) + 1), "message %s with a body of %s bytes" % (kind, body))
+for number in range(1, int(re.search(r"n ≤ (\d+)", definition("crates/refusals/specs/Refusals.antt", "InTable")).group(1)) + 1):
+    row(8, r"%d \| [^|]+ \| [^|]+ \| [^|]+ \|$" % number, "number %d" % number)
+layouts = re.search(r"/\* States, by offset\..*?\*/", header, re.S).group()
+for place, field in re.findall(r" (\d+(?:\.\.\d+)?) {2,}(\w[^,;\n]*?)(?=[,;\n]| {2,})", layouts):
+    row(7, r"%s \| %s" % (re.escape(place), re.escape(field)), "the state's field %s, %s" % (place, field))
 
 for what, count in counts.items():
     if count == 0:
