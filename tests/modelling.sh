@@ -1,7 +1,7 @@
 #!/usr/bin/env bash
 # The fenced blocks of docs/MODELLING.md beside the files of examples/plans that they are marked with. The lines of a block `NAME.plan` stand in
 # that file, in that order; a block `NAME.expected` is that file, its line feeds partly written as ` | `, and with `without messages` the file
-# less the lines about the wire. Every block is marked, and every plan is shown with what the simulation prints for it. That the plans are built and
+# less the lines about the wire. Every block is marked, and a plan that is shown has its output shown too. That the plans are built and
 # run so is tests/plans.sh's matter. Another page may be given, to see this fail.
 set -eu
 cd "$(dirname "$0")/.."
