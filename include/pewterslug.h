@@ -22,6 +22,10 @@ extern "C" {
 /* The layout of states and answers in this header. */
 #define PEWTERSLUG_VERSION 1
 
+/* The layout of states and answers in the archive. Where it is not PEWTERSLUG_VERSION, header and archive are of different versions, and no
+ * other call may be made. */
+uint32_t pewterslug_version(void);
+
 /* Sizes in bytes. */
 #define PEWTERSLUG_IMAGE_LIMIT 49152
 #define PEWTERSLUG_DEVICE_BYTES 592

@@ -1,4 +1,4 @@
-// The C interface: include/pewterslug.h. Each function is the one of the crate below it under the name that the header declares.
+// The C interface: include/pewterslug.h. Each function but the version is the one of the crate below it under the name that the header declares.
 ghost use mathlib.Core.Path.{_≡_};
 ghost use mathlib.Core.List.{[]};
 ghost use Rattle.packing.specs.Answer.{Answered};
@@ -7,6 +7,18 @@ ghost use Rattle.plan_interface.specs.Messages.{readMessageAnswer, writeMessage
 ghost use Rattle.device_interface.specs.Calls as Device;
 ghost use Rattle.module_interface.specs.Calls as Module;
 ghost use Rattle.supervisor_interface.specs.Calls as Supervisor;
+ghost use Rattle.pewterslug.specs.Version.{version};
+
+// PEWTERSLUG_VERSION of the header.
+const VERSION: u32 = 1;
+
+// So that a program can tell that its archive is of the layout of its header.
+#[no_mangle]
+pub extern "C" fn pewterslug_version() -> u32
+    ensures { λ r. ⌜ r ≡ version ⌝ }
+{
+    VERSION
+}
 
 // ---- plans
 
