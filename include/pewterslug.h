@@ -1,4 +1,4 @@
-/* The orchard supervisory engine: every call of document 01 over numbers and byte slices.
+/* The orchard supervisory engine: every call over numbers and byte slices, and names for what stands in them.
  *
  * A slice is a pointer and a length. Pointers are never null (also for length 0) and slices lent to one call do not overlap, except that
  * two that are only read may. The engine keeps no pointer and no state of its own: what a party remembers stands in the bytes that its
@@ -7,13 +7,16 @@
  * A refused call leaves every lent byte as it was. An accepted call writes the state in place, and its answer from the buffer's start
  * and nothing else.
  *
- * Link with -lm: of the C library the archive takes fmod, memcpy, memmove and memset.
+ * docs/REFERENCE.md has the rules by which plans are judged and run, docs/EMBEDDING.md what a device owes the engine and gets from it.
+ *
+ * Link with -lm: of the C library the archive takes fmod, memcpy, memmove and memset. C99 or later, or C++.
  */
 #ifndef PEWTERSLUG_H
 #define PEWTERSLUG_H
 
 #include <stddef.h>
 #include <stdint.h>
+#include <string.h>
 
 #ifdef __cplusplus
 extern "C" {
@@ -29,13 +32,183 @@ uint32_t pewterslug_version(void);
 /* Sizes in bytes. */
 #define PEWTERSLUG_IMAGE_LIMIT 49152
 #define PEWTERSLUG_DEVICE_BYTES 592
+#define PEWTERSLUG_OWN_BYTES 35
 #define PEWTERSLUG_MODULE_BYTES 48
 #define PEWTERSLUG_SUPERVISOR_BYTES 6
 #define PEWTERSLUG_RECORD_BYTES 12   /* the longest record */
 #define PEWTERSLUG_MESSAGE_BYTES 11  /* the longest message */
+#define PEWTERSLUG_RELEASE_BYTES 4
 #define PEWTERSLUG_STEP_BYTES 128    /* the longest answer of a step: 32 releases of 4 bytes */
 
-/* States, by offset.
+/* How many at most: modules, supervisors and events of a plan; responses queued and outputs of a module. */
+#define PEWTERSLUG_MODULE_LIMIT 16
+#define PEWTERSLUG_SUPERVISOR_LIMIT 32
+#define PEWTERSLUG_EVENT_LIMIT 64
+#define PEWTERSLUG_QUEUE_LIMIT 8
+#define PEWTERSLUG_OUTPUT_LIMIT 32
+
+/* ---- plan records ----
+ *
+ * A plan image is a row of records. A record is one byte of kind, then its fields: those of one byte in the table's order, then the field of
+ * eight bytes, where the kind has one. Bit e of a mask stands for event e. Modules, supervisors, events and states are numbered from 0.
+ *
+ *   kind                bytes  first       second            third             fourth  word (8 bytes)
+ *   10 head                 4  modules     supervisors       events
+ *                              1 to 16     0 to 32           1 to 64
+ *   11 event                4  event       its module        class
+ *   12 module               4  module      states 1 to 32    initial state
+ *   13 module move          5  module      from state        event             to
+ *   14 supervisor          12  supervisor  states 1 to 64    initial state             alphabet, a mask
+ *   15 supervisor move      5  supervisor  from state        event             to
+ *   16 disabling           11  supervisor  state                                       events disabled there, a mask, not 0
+ *   17 procedure step      12  event       index 0 to 63     operation                 operand
+ *   1F end                  1
+ *
+ * Records ascend by kind, and within a kind strictly: events, modules and supervisors by their number, moves by owner, state and event,
+ * disablings by supervisor and state, steps by event and index. The indices of an event's steps run 0, 1, 2 without a gap. */
+enum pewterslug_record {
+    PEWTERSLUG_RECORD_HEAD = 0x10,
+    PEWTERSLUG_RECORD_EVENT = 0x11,
+    PEWTERSLUG_RECORD_MODULE = 0x12,
+    PEWTERSLUG_RECORD_MODULE_MOVE = 0x13,
+    PEWTERSLUG_RECORD_SUPERVISOR = 0x14,
+    PEWTERSLUG_RECORD_SUPERVISOR_MOVE = 0x15,
+    PEWTERSLUG_RECORD_DISABLING = 0x16,
+    PEWTERSLUG_RECORD_STEP = 0x17,
+    PEWTERSLUG_RECORD_END = 0x1F
+};
+
+/* The class of an event: a response, which the plant reports, or a command, which the engine fires. */
+enum pewterslug_class {
+    PEWTERSLUG_CLASS_UNCONTROLLABLE = 0,
+    PEWTERSLUG_CLASS_CONTROLLABLE = 1
+};
+
+/* The operation of a procedure step. Only controllable events have steps. */
+enum pewterslug_operation {
+    PEWTERSLUG_OPERATION_OUTPUT_ON = 1,   /* the operand is the output, 0 to 31 */
+    PEWTERSLUG_OPERATION_OUTPUT_OFF = 2,  /* the operand is the output, 0 to 31 */
+    PEWTERSLUG_OPERATION_WAIT_TICKS = 3,  /* the operand is the ticks, 1 to 65,535 */
+    PEWTERSLUG_OPERATION_WAIT_LITRES = 4, /* the operand is pewterslug_litres_word of 0.125 to 131,072 litres, a multiple of 1/8 */
+    PEWTERSLUG_OPERATION_RESPOND = 5      /* the operand is an uncontrollable event of the same module */
+};
+
+/* ---- messages ----
+ *
+ *   kind         bytes
+ *   01 bid           3  kind, module, supervisor
+ *   02 permit       11  kind, supervisor, module, mask (8 bytes)
+ *   03 release       4  kind, module, supervisor, event or PEWTERSLUG_NO_EVENT
+ *
+ * The third byte is always the receiver. */
+enum pewterslug_message {
+    PEWTERSLUG_MESSAGE_BID = 1,
+    PEWTERSLUG_MESSAGE_PERMIT = 2,
+    PEWTERSLUG_MESSAGE_RELEASE = 3
+};
+
+#define PEWTERSLUG_NO_EVENT 0xFF /* a release without an event */
+
+/* ---- answers ----
+ *
+ * An answer is one number. Bits 0..7 are the refusal's number, 0 if the call is accepted. Of a refused call bits 32..63 are the byte
+ * offset. Of an accepted one bits 8..15 say what was done, bits 16..23 of what, and bits 32..63 how many bytes were written (for a read
+ * record or message: how many it has). All other bits are 0. An offset has 32 bits; only read_record on more than 4 GiB could have a longer
+ * one, and gives its lower 32.
+ *
+ * The whole answer of an accepted call need not be 0: only its number is. So `if (answer)` is wrong; it is pewterslug_number(answer) != 0. */
+enum pewterslug_done {
+    PEWTERSLUG_DONE = 0,  /* taken; the value is 0, of a read record or message its kind */
+    PEWTERSLUG_EVENT = 1, /* a turn: an event fired, the value is the event */
+    PEWTERSLUG_STRAY = 2, /* a turn: a stray response, the value is its event */
+    PEWTERSLUG_NONE = 3,  /* a turn: none */
+    PEWTERSLUG_BIDS = 4,  /* a module bids, the value is the supervisor */
+    PEWTERSLUG_SENDS = 5, /* a supervisor sends its permit, the value is the module */
+    PEWTERSLUG_WAITS = 6  /* a step that waits */
+};
+
+static inline uint8_t pewterslug_number(uint64_t answer) { return (uint8_t)answer; }
+static inline uint32_t pewterslug_offset(uint64_t answer) { return (uint8_t)answer != 0 ? (uint32_t)(answer >> 32) : 0; }
+static inline uint8_t pewterslug_did(uint64_t answer) { return (uint8_t)(answer >> 8); }
+static inline uint8_t pewterslug_value(uint64_t answer) { return (uint8_t)(answer >> 16); }
+static inline uint32_t pewterslug_length(uint64_t answer) { return (uint8_t)answer == 0 ? (uint32_t)(answer >> 32) : 0; }
+
+/* The numbers. docs/EMBEDDING.md lists those of each call, and what to do about each. */
+enum pewterslug_refusal {
+    PEWTERSLUG_ACCEPTED = 0,
+    PEWTERSLUG_REFUSAL_IMAGE_TOO_LONG = 1,
+    PEWTERSLUG_REFUSAL_UNKNOWN_KIND = 2,
+    PEWTERSLUG_REFUSAL_CUT = 3,
+    PEWTERSLUG_REFUSAL_ORDER = 4,
+    PEWTERSLUG_REFUSAL_RANGE = 5,
+    PEWTERSLUG_REFUSAL_UNDECLARED = 6,
+    PEWTERSLUG_REFUSAL_EVENT_RULE = 7,
+    PEWTERSLUG_REFUSAL_INCOMPLETE = 8,
+    PEWTERSLUG_REFUSAL_STATE = 9,
+    PEWTERSLUG_REFUSAL_MISSHAPEN = 10,
+    PEWTERSLUG_REFUSAL_NOT_IN_PLAN = 11,
+    PEWTERSLUG_REFUSAL_OUT_OF_TURN = 12,
+    PEWTERSLUG_REFUSAL_QUEUE_FULL = 13,
+    PEWTERSLUG_REFUSAL_FLOW_READING = 14,
+    PEWTERSLUG_REFUSAL_BUFFER_TOO_SHORT = 15
+};
+
+/* The condition of a number, for a log or a display. */
+static inline const char *pewterslug_refusal_text(uint8_t number)
+{
+    switch (number) {
+    case PEWTERSLUG_ACCEPTED: return "accepted";
+    case PEWTERSLUG_REFUSAL_IMAGE_TOO_LONG: return "image over 49,152 bytes";
+    case PEWTERSLUG_REFUSAL_UNKNOWN_KIND: return "record of unknown kind";
+    case PEWTERSLUG_REFUSAL_CUT: return "record cut, or no end record";
+    case PEWTERSLUG_REFUSAL_ORDER: return "head not first, records or step indices out of order, or bytes after the end";
+    case PEWTERSLUG_REFUSAL_RANGE: return "field outside its range";
+    case PEWTERSLUG_REFUSAL_UNDECLARED: return "undeclared module, supervisor, event or state named";
+    case PEWTERSLUG_REFUSAL_EVENT_RULE: return "move, disabling or step by an event that it may not have";
+    case PEWTERSLUG_REFUSAL_INCOMPLETE: return "a number promised by the head is not declared";
+    case PEWTERSLUG_REFUSAL_STATE: return "state does not fit the plan";
+    case PEWTERSLUG_REFUSAL_MISSHAPEN: return "message misshapen";
+    case PEWTERSLUG_REFUSAL_NOT_IN_PLAN: return "number not in the plan, not a neighbour, or not a response of the module";
+    case PEWTERSLUG_REFUSAL_OUT_OF_TURN: return "message out of turn or for another party";
+    case PEWTERSLUG_REFUSAL_QUEUE_FULL: return "response queue full";
+    case PEWTERSLUG_REFUSAL_FLOW_READING: return "bad flow reading";
+    case PEWTERSLUG_REFUSAL_BUFFER_TOO_SHORT: return "output buffer shorter than the answer";
+    default: return "unknown number";
+    }
+}
+
+/* ---- numbers of several bytes ---- */
+
+/* Four and eight bytes, big-endian: as the word of a record stands, or the mask of a permit. */
+static inline uint32_t pewterslug_quad_at(const uint8_t *bytes)
+{
+    return (uint32_t)bytes[0] << 24 | (uint32_t)bytes[1] << 16 | (uint32_t)bytes[2] << 8 | (uint32_t)bytes[3];
+}
+
+static inline uint64_t pewterslug_word_at(const uint8_t *bytes)
+{
+    return (uint64_t)pewterslug_quad_at(bytes) << 32 | (uint64_t)pewterslug_quad_at(bytes + 4);
+}
+
+/* A double must have the 64 bits of IEEE 754. */
+typedef char pewterslug_double_has_eight_bytes[sizeof(double) == sizeof(uint64_t) ? 1 : -1];
+
+/* Litres as the operand of a litres step, and back: the f64's bits. */
+static inline uint64_t pewterslug_litres_word(double litres)
+{
+    uint64_t word;
+    memcpy(&word, &litres, sizeof word);
+    return word;
+}
+
+static inline double pewterslug_word_litres(uint64_t word)
+{
+    double litres;
+    memcpy(&litres, &word, sizeof litres);
+    return litres;
+}
+
+/* ---- states, by offset ----
  *
  * A module's own part, 35 bytes:
  *    0      state of the automaton
@@ -62,25 +235,56 @@ uint32_t pewterslug_version(void);
  * Bytes of another length, a flag other than 0 and 1, a holder of a permit at home and f64 bits of a NaN stand for no state: the call
  * that gets them is refused with 9, unless the image is refused or, on many devices, the call is on a module or supervisor that the plan
  * lacks, which is 11 (10 of a misshapen message). On one device 9 comes before 11.
- */
+ *
+ * The functions below read these bytes and judge nothing: give them bytes that a call has written. */
 
-/* An answer is one number. Bits 0..7 are the refusal's number, 0 if the call is accepted. Of a refused call bits 32..63 are the byte
- * offset. Of an accepted one bits 8..15 say what was done, bits 16..23 of what, and bits 32..63 how many bytes were written (for a read
- * record or message: how many it has). All other bits are 0. The numbers are document 01's; docs/EMBEDDING.md lists those of each call. An
- * offset has 32 bits; only read_record on more than 4 GiB could have a longer one, and gives its lower 32. */
-#define PEWTERSLUG_DONE 0   /* taken; the value is 0, of a read record or message its kind */
-#define PEWTERSLUG_EVENT 1  /* a turn: an event fired, the value is the event */
-#define PEWTERSLUG_STRAY 2  /* a turn: a stray response, the value is its event */
-#define PEWTERSLUG_NONE 3   /* a turn: none */
-#define PEWTERSLUG_BIDS 4   /* a module bids, the value is the supervisor */
-#define PEWTERSLUG_SENDS 5  /* a supervisor sends its permit, the value is the module */
-#define PEWTERSLUG_WAITS 6  /* a step that waits */
+/* A module's own part. Give them the 48 bytes of a module's own device as they are, or pewterslug_own_part of one device's. */
+static inline uint8_t pewterslug_own_state(const uint8_t *own) { return own[0]; }
+static inline uint8_t pewterslug_own_queued(const uint8_t *own) { return own[1]; }
 
-static inline uint8_t pewterslug_number(uint64_t answer) { return (uint8_t)answer; }
-static inline uint32_t pewterslug_offset(uint64_t answer) { return (uint8_t)answer != 0 ? (uint32_t)(answer >> 32) : 0; }
-static inline uint8_t pewterslug_did(uint64_t answer) { return (uint8_t)(answer >> 8); }
-static inline uint8_t pewterslug_value(uint64_t answer) { return (uint8_t)(answer >> 16); }
-static inline uint32_t pewterslug_length(uint64_t answer) { return (uint8_t)answer == 0 ? (uint32_t)(answer >> 32) : 0; }
+/* The response at a place of the queue, its head at 0; PEWTERSLUG_NO_EVENT from the queue's length on. */
+static inline uint8_t pewterslug_own_response(const uint8_t *own, uint8_t place)
+{
+    return place < PEWTERSLUG_QUEUE_LIMIT && place < own[1] ? own[2 + place] : (uint8_t)PEWTERSLUG_NO_EVENT;
+}
+
+/* Whether a procedure runs, its event and its step's index; both are 0 while none runs. */
+static inline int pewterslug_own_running(const uint8_t *own) { return own[10] != 0; }
+static inline uint8_t pewterslug_own_event(const uint8_t *own) { return own[11]; }
+static inline uint8_t pewterslug_own_step(const uint8_t *own) { return own[12]; }
+
+/* Ticks counted of a running wait, else 0; litres of a running litres step, else 0. */
+static inline uint16_t pewterslug_own_ticks(const uint8_t *own) { return (uint16_t)(own[13] << 8 | own[14]); }
+static inline double pewterslug_own_target(const uint8_t *own) { return pewterslug_word_litres(pewterslug_word_at(own + 15)); }
+static inline double pewterslug_own_total(const uint8_t *own) { return pewterslug_word_litres(pewterslug_word_at(own + 23)); }
+
+/* All outputs, bit i for output i, and whether one is on; there is none from 32 on. */
+static inline uint32_t pewterslug_own_outputs(const uint8_t *own) { return pewterslug_quad_at(own + 31); }
+static inline int pewterslug_own_output(const uint8_t *own, uint8_t output)
+{
+    return output < PEWTERSLUG_OUTPUT_LIMIT && (pewterslug_own_outputs(own) >> output & 1) != 0;
+}
+
+/* A module on its own device: the permits that it holds, bit v for supervisor v; the union of the masks received with them; whether a bid is
+ * outstanding. */
+static inline uint32_t pewterslug_module_permits(const uint8_t *module) { return pewterslug_quad_at(module + 35); }
+static inline uint64_t pewterslug_module_received(const uint8_t *module) { return pewterslug_word_at(module + 39); }
+static inline int pewterslug_module_has_bid(const uint8_t *module) { return module[47] != 0; }
+
+/* A supervisor on its own device: its state; the modules whose bids are noted, bit m for module m; whether its permit is out; who holds it,
+ * 0 while it is home; the module last served, 15 at the start. */
+static inline uint8_t pewterslug_supervisor_state(const uint8_t *supervisor) { return supervisor[0]; }
+static inline uint16_t pewterslug_supervisor_noted(const uint8_t *supervisor) { return (uint16_t)(supervisor[1] << 8 | supervisor[2]); }
+static inline int pewterslug_supervisor_permit_is_out(const uint8_t *supervisor) { return supervisor[3] != 0; }
+static inline uint8_t pewterslug_supervisor_holder(const uint8_t *supervisor) { return supervisor[4]; }
+static inline uint8_t pewterslug_supervisor_last_served(const uint8_t *supervisor) { return supervisor[5]; }
+
+/* One device: a module's own part, for a module below 16, and a supervisor's state, for a supervisor below 32. */
+static inline const uint8_t *pewterslug_own_part(const uint8_t *device, uint8_t module) { return device + PEWTERSLUG_OWN_BYTES * module; }
+static inline uint8_t pewterslug_device_supervisor_state(const uint8_t *device, uint8_t supervisor)
+{
+    return device[PEWTERSLUG_OWN_BYTES * PEWTERSLUG_MODULE_LIMIT + supervisor];
+}
 
 /* ---- plans ---- */
 

@@ -1,11 +1,27 @@
 #!/usr/bin/env bash
-# The C interface from C: builds the static library, compiles tests/interface.c against include/pewterslug.h, runs it and compares what it
-# prints with tests/interface.expected. Needs a C compiler; the archive asks fmod of the C library (-lm).
+# The C interface from C and from C++: builds the static library, compiles tests/interface.c against include/pewterslug.h, runs it and compares
+# what it prints with tests/interface.expected. As C it runs under the address and undefined-behaviour sanitizers, so that what the header
+# reads stays in the bytes that it is given; as C++ only where there is a C++ compiler. The archive asks fmod of the C library (-lm).
 set -eu
 cd "$(dirname "$0")/.."
+strict="-Wall -Wextra -Werror -pedantic -Iinclude"
+archive=target/staticlib/libpewterslug.a
+
+same() { # PROGRAM
+  "$1" > "$1.given"
+  cmp "$1.given" tests/interface.expected || { diff "$1.given" tests/interface.expected | head -n 20; exit 1; }
+}
+
 mkdir -p target
 rt staticlib pewterslug > target/interface.log 2>&1 || { tail -n 40 target/interface.log; exit 1; }
-${CC:-cc} -std=c11 -Wall -Wextra -Werror -Iinclude tests/interface.c target/staticlib/libpewterslug.a -lm -o target/interface
-target/interface > target/interface.given
-cmp target/interface.given tests/interface.expected || { diff target/interface.given tests/interface.expected | head -n 20; exit 1; }
-echo "interface: the sheet and the marked examples are answered over C as they must be"
+# shellcheck disable=SC2086
+${CC:-gcc} -std=c11 $strict -g -fsanitize=address,undefined -fno-sanitize-recover=all tests/interface.c "$archive" -lm -o target/interface
+same target/interface
+from=C
+if command -v "${CXX:-g++}" > /dev/null; then
+  # shellcheck disable=SC2086
+  "${CXX:-g++}" -std=c++17 $strict -x c++ tests/interface.c -x none "$archive" -lm -o target/interface-cpp
+  same target/interface-cpp
+  from="C and C++"
+fi
+echo "interface: the two-valve plan, every refusal and what the header reads are over $from as they must be"
