@@ -153,6 +153,10 @@ int main(int count, char **arguments)
         fprintf(stderr, "usage: wire [--break NAME] [--patience SECONDS] two-valve|orchard|full SEED TURNS\n");
         return EXIT_FAILURE;
     }
+    if (pewterslug_version() != PEWTERSLUG_VERSION) {
+        fprintf(stderr, "wire: the archive has version %u, the header %u\n", (unsigned)pewterslug_version(), PEWTERSLUG_VERSION);
+        return EXIT_FAILURE;
+    }
     run.seed = strtoull(arguments[next + 1], NULL, 10);
     run.turns = strtoull(arguments[next + 2], NULL, 10);
     signal(SIGPIPE, SIG_IGN); /* a link whose other end is gone is an answer, not a signal */

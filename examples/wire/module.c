@@ -8,9 +8,6 @@
 #include "plant.h"
 #include "run.h"
 
-/* Offsets of a module's state bytes; the header lists them all. */
-enum { STATE = 0, QUEUED = 1, RUNNING = 10, TOTAL = 23, HELD = 35, BID = 47 };
-
 struct module {
     const struct run *run;
     uint8_t number;
@@ -21,9 +18,9 @@ struct module {
     uint64_t sent, delivered;
     bool stopping;
     /* for a module made wrong */
-    uint8_t earlier[32][8]; /* the masks of the permits before, by supervisor */
-    uint32_t permitted;     /* the supervisors that it had a permit of */
-    bool turned;            /* it has taken a turn */
+    uint8_t earlier[PEWTERSLUG_SUPERVISOR_LIMIT][8]; /* the masks of the permits before, by supervisor */
+    uint32_t permitted; /* the supervisors that it had a permit of */
+    bool turned; /* it has taken a turn */
 };
 
 static void report(struct module *module, struct report *report, enum call call, uint64_t answer)
@@ -64,7 +61,7 @@ static void deliver(struct module *module, const uint8_t *message, size_t length
 static void use_old_mask(struct module *module, uint8_t *message)
 {
     uint8_t mask[8];
-    unsigned supervisor = message[1] & 31;
+    unsigned supervisor = message[1] % PEWTERSLUG_SUPERVISOR_LIMIT;
     memcpy(mask, message + 3, sizeof mask);
     if ((module->permitted >> supervisor & 1) != 0)
         memcpy(message + 3, module->earlier[supervisor], sizeof mask);
@@ -87,9 +84,9 @@ static void take_message(struct module *module)
 /* A module whose first turn is real and whose later turns only acknowledge: only made so on purpose. */
 static uint64_t acknowledge(struct module *module, const uint8_t *before, uint64_t answer, uint8_t *releases)
 {
-    memcpy(module->state, before, HELD);
-    for (size_t place = 0; place < pewterslug_length(answer); place += 4)
-        releases[place + 3] = 0xFF;
+    memcpy(module->state, before, PEWTERSLUG_OWN_BYTES);
+    for (size_t place = 0; place < pewterslug_length(answer); place += PEWTERSLUG_RELEASE_BYTES)
+        releases[place + 3] = PEWTERSLUG_NO_EVENT;
     return (answer & ~UINT64_C(0xFFFFFF00)) | PEWTERSLUG_NONE << 8;
 }
 
@@ -98,10 +95,10 @@ static void took_turn(struct module *module, uint64_t answer, uint8_t *releases)
 {
     struct report turn = {0};
     report(module, &turn, CALL_TURN, answer);
-    for (size_t place = 0; place < pewterslug_length(answer); place += 4) {
+    for (size_t place = 0; place < pewterslug_length(answer); place += PEWTERSLUG_RELEASE_BYTES) {
         if (module->run->broken == BREAK_RELEASE_NONE)
-            releases[place + 3] = 0xFF;
-        put_on_wire(module, releases + place, 4); /* each release is a message by itself */
+            releases[place + 3] = PEWTERSLUG_NO_EVENT;
+        put_on_wire(module, releases + place, PEWTERSLUG_RELEASE_BYTES); /* each release is a message by itself */
     }
 }
 
@@ -109,14 +106,14 @@ static void took_turn(struct module *module, uint64_t answer, uint8_t *releases)
 static void permit_itself(struct module *module, uint8_t supervisor)
 {
     uint8_t permit[PEWTERSLUG_MESSAGE_BYTES];
-    uint64_t answer = pewterslug_write_message(2, supervisor, module->number, 0, 0, permit, sizeof permit);
+    uint64_t answer = pewterslug_write_message(PEWTERSLUG_MESSAGE_PERMIT, supervisor, module->number, 0, 0, permit, sizeof permit);
     deliver(module, permit, pewterslug_length(answer));
 }
 
 static void step(struct module *module)
 {
     const struct plan *plan = &module->run->plan;
-    uint8_t buffer[PEWTERSLUG_STEP_BYTES], before[HELD];
+    uint8_t buffer[PEWTERSLUG_STEP_BYTES], before[PEWTERSLUG_OWN_BYTES];
     uint64_t answer;
     memcpy(before, module->state, sizeof before);
     answer = pewterslug_module_step(plan->image, plan->length, module->state, sizeof module->state, module->number, buffer, sizeof buffer);
@@ -158,13 +155,13 @@ static void tick(struct module *module, const struct happening *happening)
     uint64_t answer = pewterslug_module_tick(plan->image, plan->length, module->state, sizeof module->state, module->number,
                                              happening->sensor, happening->litres);
     if (module->run->broken == BREAK_NO_WATER)
-        memset(module->state + TOTAL, 0, 8);
+        memset(module->state + 23, 0, 8); /* where the total stands */
     report(module, &told, CALL_TICK, answer);
 }
 
 static void plant_acts(struct module *module)
 {
-    struct view view = {module->state[STATE], module->state[QUEUED] > 0, module->state[RUNNING] != 0};
+    struct view view = {pewterslug_own_state(module->state), pewterslug_own_queued(module->state) > 0, pewterslug_own_running(module->state)};
     struct happening happening = plant_happens(&module->plant, view, &module->chance);
     for (unsigned i = 0; i < happening.times; i++) {
         if (happening.act == PLANT_RESPONDS)
@@ -174,21 +171,10 @@ static void plant_acts(struct module *module)
     }
 }
 
-static bool bid_is_outstanding(const struct module *module)
-{
-    return module->state[BID] != 0;
-}
-
-static bool holds_a_permit(const struct module *module)
-{
-    static const uint8_t none[4];
-    return memcmp(module->state + HELD, none, sizeof none) != 0;
-}
-
 /* While a bid is outstanding every step waits, so the device mostly sleeps until a message comes, and at times the plant wakes it. */
 static void wake(struct module *module)
 {
-    bool sleeps = bid_is_outstanding(module) && (module->stopping || !chance_one_in(&module->chance, 4));
+    bool sleeps = pewterslug_module_has_bid(module->state) && (module->stopping || !chance_one_in(&module->chance, 4));
     chance_doze(&module->chance);
     if (sleeps || link_ready(module->wire))
         take_message(module);
@@ -210,7 +196,7 @@ void module_process(const struct run *run, uint8_t number, int wire, int recorde
     answer = pewterslug_module_start(run->plan.image, run->plan.length, number, module.state, sizeof module.state);
     if (pewterslug_number(answer) != 0)
         refused(&module, answer);
-    while (!module.stopping || bid_is_outstanding(&module) || holds_a_permit(&module))
+    while (!module.stopping || pewterslug_module_has_bid(module.state) || pewterslug_module_permits(module.state) != 0)
         wake(&module);
     shutdown(wire, SHUT_WR);
     report(&module, &last, CALL_LEAVES, 0);

@@ -5,8 +5,6 @@
  * a base of its own. Supervisors are described by what they count and become moves and disablings by walking all their states and events;
  * this gives the records in the ascending order that a plan must have.
  */
-#include <string.h>
-
 #include "plan.h"
 
 enum { PUMPS = 2, FILTERS = 3, VALVES = 11, FIRST_HEADER_VALVES = 5, MODULES = PUMPS + FILTERS + VALVES };
@@ -16,6 +14,15 @@ enum { PUMP_START, PUMP_DONE, PUMP_STOP, PUMP_TRIP, PUMP_EVENTS };
 enum { FILTER_CLOGGED, FILTER_FLUSH, FILTER_FLUSHED, FILTER_EVENTS };
 enum { VALVE_OPEN, VALVE_WATERED, VALVE_CLOSE, VALVE_BY_HAND, VALVE_EVENTS };
 enum { FILTER_BASE = PUMPS * PUMP_EVENTS, VALVE_BASE = FILTER_BASE + FILTERS * FILTER_EVENTS, EVENTS = VALVE_BASE + VALVES * VALVE_EVENTS };
+
+/* Operations, by names that are short enough for a table. */
+enum {
+    OUTPUT_ON = PEWTERSLUG_OPERATION_OUTPUT_ON,
+    OUTPUT_OFF = PEWTERSLUG_OPERATION_OUTPUT_OFF,
+    WAIT_TICKS = PEWTERSLUG_OPERATION_WAIT_TICKS,
+    WAIT_LITRES = PEWTERSLUG_OPERATION_WAIT_LITRES,
+    RESPOND = PEWTERSLUG_OPERATION_RESPOND
+};
 
 struct move {
     uint8_t from, event, to;
@@ -200,14 +207,14 @@ static void add_modules(struct plan *plan)
 {
     for (unsigned module = 0; module < MODULES; module++)
         for (unsigned event = 0; event < type_of(module)->events; event++)
-            plan_add(plan, RECORD_EVENT, (uint8_t)(base_of(module) + event), (uint8_t)module, type_of(module)->controllable >> event & 1, 0,
-                     0);
+            plan_add(plan, PEWTERSLUG_RECORD_EVENT, (uint8_t)(base_of(module) + event), (uint8_t)module,
+                     type_of(module)->controllable >> event & 1, 0, 0);
     for (unsigned module = 0; module < MODULES; module++)
-        plan_add(plan, RECORD_MODULE, (uint8_t)module, type_of(module)->states, 0, 0, 0);
+        plan_add(plan, PEWTERSLUG_RECORD_MODULE, (uint8_t)module, type_of(module)->states, 0, 0, 0);
     for (unsigned module = 0; module < MODULES; module++)
         for (unsigned i = 0; i < type_of(module)->moves; i++) {
             const struct move *move = &type_of(module)->move[i];
-            plan_add(plan, RECORD_MODULE_MOVE, (uint8_t)module, move->from, (uint8_t)(base_of(module) + move->event), move->to, 0);
+            plan_add(plan, PEWTERSLUG_RECORD_MODULE_MOVE, (uint8_t)module, move->from, (uint8_t)(base_of(module) + move->event), move->to, 0);
         }
 }
 
@@ -216,29 +223,26 @@ static void add_supervisors(struct plan *plan)
     struct rule rules[SUPERVISORS];
     for (unsigned number = 0; number < SUPERVISORS; number++) {
         rules[number] = rule_of(number);
-        plan_add(plan, RECORD_SUPERVISOR, (uint8_t)number, (uint8_t)states(&rules[number]), 0, 0, alphabet(&rules[number]));
+        plan_add(plan, PEWTERSLUG_RECORD_SUPERVISOR, (uint8_t)number, (uint8_t)states(&rules[number]), 0, 0, alphabet(&rules[number]));
     }
     for (unsigned number = 0; number < SUPERVISORS; number++)
         for (unsigned state = 0; state < states(&rules[number]); state++)
             for (unsigned event = 0; event < EVENTS; event++) {
                 unsigned next = after(&rules[number], state, event);
                 if (next != state)
-                    plan_add(plan, RECORD_SUPERVISOR_MOVE, (uint8_t)number, (uint8_t)state, (uint8_t)event, (uint8_t)next, 0);
+                    plan_add(plan, PEWTERSLUG_RECORD_SUPERVISOR_MOVE, (uint8_t)number, (uint8_t)state, (uint8_t)event, (uint8_t)next, 0);
             }
     for (unsigned number = 0; number < SUPERVISORS; number++)
         for (unsigned state = 0; state < states(&rules[number]); state++)
             if (disabled(&rules[number], state) != 0)
-                plan_add(plan, RECORD_DISABLING, (uint8_t)number, (uint8_t)state, 0, 0, disabled(&rules[number], state));
+                plan_add(plan, PEWTERSLUG_RECORD_DISABLING, (uint8_t)number, (uint8_t)state, 0, 0, disabled(&rules[number], state));
 }
 
-/* The operand of a step: litres as f64 bits, an event by its number in the plan, anything else as it stands. */
+/* The operand of a step: litres as their word, an event by its number in the plan, anything else as it stands. */
 static uint64_t operand(const struct step *step, unsigned base)
 {
-    uint64_t bits;
-    if (step->operation == WAIT_LITRES) {
-        memcpy(&bits, &step->amount, sizeof bits);
-        return bits;
-    }
+    if (step->operation == WAIT_LITRES)
+        return pewterslug_litres_word(step->amount);
     return (uint64_t)step->amount + (step->operation == RESPOND ? base : 0);
 }
 
@@ -250,7 +254,7 @@ static void add_procedures(struct plan *plan)
         for (unsigned i = 0; i < type->steps; i++) {
             const struct step *step = &type->step[i];
             index = i > 0 && type->step[i - 1].event == step->event ? (uint8_t)(index + 1) : 0;
-            plan_add(plan, RECORD_STEP, (uint8_t)(base_of(module) + step->event), index, step->operation, 0,
+            plan_add(plan, PEWTERSLUG_RECORD_STEP, (uint8_t)(base_of(module) + step->event), index, step->operation, 0,
                      operand(step, base_of(module)));
         }
     }
@@ -258,9 +262,9 @@ static void add_procedures(struct plan *plan)
 
 void orchard_add(struct plan *plan)
 {
-    plan_add(plan, RECORD_HEAD, MODULES, SUPERVISORS, EVENTS, 0, 0);
+    plan_add(plan, PEWTERSLUG_RECORD_HEAD, MODULES, SUPERVISORS, EVENTS, 0, 0);
     add_modules(plan);
     add_supervisors(plan);
     add_procedures(plan);
-    plan_add(plan, RECORD_END, 0, 0, 0, 0, 0);
+    plan_add(plan, PEWTERSLUG_RECORD_END, 0, 0, 0, 0, 0);
 }

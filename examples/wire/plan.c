@@ -3,7 +3,7 @@
 #include <stdio.h>
 #include <string.h>
 
-/* Plan P of the specification: a pump (module 0) starts only while a valve (module 1) is open. */
+/* The plan of docs/two-valve.hex: a pump (module 0) starts only while a valve (module 1) is open. */
 static const uint8_t two_valve[] = {
     0x10, 0x02, 0x01, 0x04,
     0x11, 0x00, 0x00, 0x01, 0x11, 0x01, 0x00, 0x00, 0x11, 0x02, 0x01, 0x01, 0x11, 0x03, 0x01, 0x00,
@@ -23,7 +23,8 @@ void plan_add(struct plan *plan, uint8_t kind, uint8_t first, uint8_t second, ui
         return; /* an earlier record was refused */
     answer = pewterslug_write_record(kind, first, second, third, fourth, word, plan->image + place, sizeof plan->image - place);
     if (pewterslug_number(answer) != 0) {
-        fprintf(stderr, "plan %s: record %02X at %zu is refused with %d\n", plan->name, kind, place, pewterslug_number(answer));
+        fprintf(stderr, "plan %s: record %02X at %zu is refused: %s\n", plan->name, kind, place,
+                pewterslug_refusal_text(pewterslug_number(answer)));
         plan->length = sizeof plan->image + 1;
         return;
     }
@@ -50,7 +51,8 @@ bool plan_build(struct plan *plan, const char *name)
         return false;
     answer = pewterslug_check(plan->image, plan->length);
     if (pewterslug_number(answer) != 0) {
-        fprintf(stderr, "plan %s is refused with %d at %u\n", name, pewterslug_number(answer), (unsigned)pewterslug_offset(answer));
+        fprintf(stderr, "plan %s is refused at %u: %s\n", name, (unsigned)pewterslug_offset(answer),
+                pewterslug_refusal_text(pewterslug_number(answer)));
         return false;
     }
     plan->modules = plan->image[1];

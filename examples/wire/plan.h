@@ -1,4 +1,4 @@
-/* The plans: the two-valve sheet of the specification, an orchard of 16 modules, and one that fills the image. */
+/* The plans: the two-valve plan of docs/two-valve.hex, an orchard of 16 modules, and one that fills the image. */
 #ifndef PLAN_H
 #define PLAN_H
 
@@ -8,21 +8,8 @@
 
 #include "pewterslug.h"
 
-/* Record kinds. */
-enum {
-    RECORD_HEAD = 0x10,
-    RECORD_EVENT = 0x11,
-    RECORD_MODULE = 0x12,
-    RECORD_MODULE_MOVE = 0x13,
-    RECORD_SUPERVISOR = 0x14,
-    RECORD_SUPERVISOR_MOVE = 0x15,
-    RECORD_DISABLING = 0x16,
-    RECORD_STEP = 0x17,
-    RECORD_END = 0x1F
-};
-
-/* Operations of a procedure step. */
-enum { OUTPUT_ON = 1, OUTPUT_OFF = 2, WAIT_TICKS = 3, WAIT_LITRES = 4, RESPOND = 5 };
+/* The name that tests/fuzz.c has for it. */
+enum { RECORD_EVENT = PEWTERSLUG_RECORD_EVENT };
 
 struct plan {
     const char *name;

@@ -4,9 +4,9 @@
 
 static void note(struct plant *plant, const uint8_t *record, uint8_t module)
 {
-    if (record[0] == RECORD_EVENT && record[2] == module && record[3] == 0)
+    if (record[0] == PEWTERSLUG_RECORD_EVENT && record[2] == module && record[3] == PEWTERSLUG_CLASS_UNCONTROLLABLE)
         plant->uncontrollable |= UINT64_C(1) << record[1];
-    if (record[0] == RECORD_MODULE_MOVE && record[1] == module)
+    if (record[0] == PEWTERSLUG_RECORD_MODULE_MOVE && record[1] == module)
         plant->listed[record[2]] |= plant->uncontrollable & UINT64_C(1) << record[3];
 }
 
@@ -29,7 +29,7 @@ static uint8_t one_of(uint64_t mask, struct chance *chance)
 {
     uint8_t event;
     do
-        event = (uint8_t)chance_below(chance, 64);
+        event = (uint8_t)chance_below(chance, PEWTERSLUG_EVENT_LIMIT);
     while ((mask >> event & 1) == 0);
     return event;
 }

@@ -22,9 +22,6 @@
 
 #include "link.h"
 
-/* Offsets of the state bytes; the header lists them all. */
-enum { OWN_PART = 35, DEVICE_SUPERVISORS = 16 * OWN_PART, NOTED = 1, LAST_SERVED = 5 };
-
 struct recorder {
     const struct run *run;
     int *links;
@@ -65,7 +62,7 @@ static void compare_answer(struct recorder *recorder, int module, const char *ca
         differs(recorder, "%s of module %d: many devices number %d, did %d of %d; one device number %d, did %d of %d", call, module,
                 pewterslug_number(many), pewterslug_did(many), pewterslug_value(many), pewterslug_number(one), pewterslug_did(one),
                 pewterslug_value(one));
-    else if (memcmp(report->state, recorder->device + module * OWN_PART, OWN_PART) != 0)
+    else if (memcmp(report->state, pewterslug_own_part(recorder->device, (uint8_t)module), PEWTERSLUG_OWN_BYTES) != 0)
         differs(recorder, "%s of module %d: the module's state after it", call, module);
 }
 
@@ -102,15 +99,15 @@ static void ticked(struct recorder *recorder, int module, const struct report *r
 /* A supervisor whose permit is home stands where the record puts it. */
 static void compare_supervisor(struct recorder *recorder, int supervisor, const struct report *report)
 {
-    uint8_t one = recorder->device[DEVICE_SUPERVISORS + supervisor];
-    if (report->state[0] != one)
-        differs(recorder, "state of supervisor %d: %d, one device %d", supervisor, report->state[0], one);
+    uint8_t one = pewterslug_device_supervisor_state(recorder->device, (uint8_t)supervisor);
+    uint8_t many = pewterslug_supervisor_state(report->state);
+    if (many != one)
+        differs(recorder, "state of supervisor %d: %d, one device %d", supervisor, many, one);
 }
 
 /* A party that has left holds no permit, waits for none and has none noted. */
 static void party_left(struct recorder *recorder, int party, const struct report *report)
 {
-    static const uint8_t nothing[PEWTERSLUG_MODULE_BYTES];
     recorder->left++;
     recorder->links[party] = -1;
     if (party == PARTY_WIRE) {
@@ -121,13 +118,15 @@ static void party_left(struct recorder *recorder, int party, const struct report
     recorder->delivered += report->delivered;
     if (party >= PARTY_SUPERVISOR) {
         compare_supervisor(recorder, number(party), report);
-        if (memcmp(report->state + NOTED, nothing, LAST_SERVED - NOTED) != 0)
+        if (pewterslug_supervisor_noted(report->state) != 0 || pewterslug_supervisor_permit_is_out(report->state) ||
+            pewterslug_supervisor_holder(report->state) != 0)
             differs(recorder, "supervisor %d has a bid noted or its permit out at the end", number(party));
         return;
     }
-    if (memcmp(report->state, recorder->device + party * OWN_PART, OWN_PART) != 0)
+    if (memcmp(report->state, pewterslug_own_part(recorder->device, (uint8_t)party), PEWTERSLUG_OWN_BYTES) != 0)
         differs(recorder, "state of module %d at the end", party);
-    if (memcmp(report->state + OWN_PART, nothing, PEWTERSLUG_MODULE_BYTES - OWN_PART) != 0)
+    if (pewterslug_module_permits(report->state) != 0 || pewterslug_module_received(report->state) != 0 ||
+        pewterslug_module_has_bid(report->state))
         differs(recorder, "module %d has a permit or a bid at the end", party);
 }
 
@@ -156,7 +155,8 @@ static void handle(struct recorder *recorder, int party, const struct report *re
         recorder->permits++;
         break;
     case CALL_REFUSED:
-        differs(recorder, "%s %d refuses a delivery or a step with %d", kind(party), number(party), pewterslug_number(report->answer));
+        differs(recorder, "%s %d refuses a delivery or a step: %s", kind(party), number(party),
+                pewterslug_refusal_text(pewterslug_number(report->answer)));
         break;
     case CALL_LEAVES:
         party_left(recorder, party, report);
@@ -229,7 +229,7 @@ bool recorder_process(const struct run *run, int links[PARTIES])
     uint64_t parties = (uint64_t)run->plan.modules + run->plan.supervisors + 1;
     uint64_t answer = pewterslug_device_start(run->plan.image, run->plan.length, recorder.device, sizeof recorder.device);
     if (pewterslug_number(answer) != 0)
-        differs(&recorder, "one device does not start: %d", pewterslug_number(answer));
+        differs(&recorder, "one device does not start: %s", pewterslug_refusal_text(pewterslug_number(answer)));
     while (recorder.left < parties && recorder.differences == 0)
         listen_once(&recorder);
     if (recorder.differences == 0)

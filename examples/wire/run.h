@@ -8,7 +8,7 @@
 #include "plan.h"
 
 /* Parties by number: modules from 0, supervisors from 16, then the wire. */
-enum { PARTY_SUPERVISOR = 16, PARTY_WIRE = 48, PARTIES = 49 };
+enum { PARTY_SUPERVISOR = PEWTERSLUG_MODULE_LIMIT, PARTY_WIRE = PARTY_SUPERVISOR + PEWTERSLUG_SUPERVISOR_LIMIT, PARTIES = PARTY_WIRE + 1 };
 
 /* One party made wrong on purpose, to see that the comparison reports it. */
 enum breakage {

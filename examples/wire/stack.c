@@ -16,16 +16,16 @@
 #include "chance.h"
 #include "plan.h"
 
-enum { STACK_BYTES = 1 << 20, PAINT = 0xA5, PLANS = 3, MODULES = 16, SUPERVISORS = 32, UNDER_WAY_LIMIT = 64 };
+enum { STACK_BYTES = 1 << 20, PAINT = 0xA5, PLANS = 3, UNDER_WAY_LIMIT = 64 };
 
 enum which {
-    CHECK, READ_RECORD, WRITE_RECORD, DEVICE_START, DEVICE_TURN, DEVICE_RESPOND, DEVICE_TICK, MODULE_START, MODULE_STEP, MODULE_DELIVER,
-    MODULE_RESPOND, MODULE_TICK, SUPERVISOR_START, SUPERVISOR_STEP, SUPERVISOR_DELIVER, READ_MESSAGE, WRITE_MESSAGE, CALLS
+    VERSION, CHECK, READ_RECORD, WRITE_RECORD, DEVICE_START, DEVICE_TURN, DEVICE_RESPOND, DEVICE_TICK, MODULE_START, MODULE_STEP,
+    MODULE_DELIVER, MODULE_RESPOND, MODULE_TICK, SUPERVISOR_START, SUPERVISOR_STEP, SUPERVISOR_DELIVER, READ_MESSAGE, WRITE_MESSAGE, CALLS
 };
 
 static const char *const names[CALLS] = {
-    "check", "read_record", "write_record", "device_start", "device_turn", "device_respond", "device_tick", "module_start", "module_step",
-    "module_deliver", "module_respond", "module_tick", "supervisor_start", "supervisor_step", "supervisor_deliver", "read_message",
+    "version", "check", "read_record", "write_record", "device_start", "device_turn", "device_respond", "device_tick", "module_start",
+    "module_step", "module_deliver", "module_respond", "module_tick", "supervisor_start", "supervisor_step", "supervisor_deliver", "read_message",
     "write_message",
 };
 
@@ -51,8 +51,8 @@ struct fleet {
     struct plan plan;
     struct chance chance;
     uint8_t device[PEWTERSLUG_DEVICE_BYTES];
-    uint8_t modules[MODULES][PEWTERSLUG_MODULE_BYTES];
-    uint8_t supervisors[SUPERVISORS][PEWTERSLUG_SUPERVISOR_BYTES];
+    uint8_t modules[PEWTERSLUG_MODULE_LIMIT][PEWTERSLUG_MODULE_BYTES];
+    uint8_t supervisors[PEWTERSLUG_SUPERVISOR_LIMIT][PEWTERSLUG_SUPERVISOR_BYTES];
     uint8_t buffer[PEWTERSLUG_STEP_BYTES];
     struct {
         uint8_t bytes[PEWTERSLUG_MESSAGE_BYTES];
@@ -116,6 +116,7 @@ static uint64_t perform_supervisor(const struct call *call)
 static uint64_t perform_other(const struct call *call)
 {
     switch (call->which) {
+    case VERSION: return pewterslug_version();
     case CHECK: return pewterslug_check(plan->image, plan->length);
     case READ_RECORD: return pewterslug_read_record(plan->image, plan->length, call->offset);
     case WRITE_RECORD: return pewterslug_write_record(call->kind, 1, 1, 1, 1, 1, call->bytes, call->length);
@@ -195,7 +196,7 @@ static struct call call_device(struct fleet *fleet, enum which which, unsigned m
 /* What a step wrote goes under way: releases of 4 bytes each, or one bid or permit. */
 static void put_under_way(struct fleet *fleet, size_t length)
 {
-    size_t each = fleet->buffer[0] == 3 ? 4 : length;
+    size_t each = fleet->buffer[0] == PEWTERSLUG_MESSAGE_RELEASE ? PEWTERSLUG_RELEASE_BYTES : length;
     for (size_t place = 0; place < length && fleet->count < UNDER_WAY_LIMIT; place += each) {
         memcpy(fleet->under_way[fleet->count].bytes, fleet->buffer + place, each);
         fleet->under_way[fleet->count++].length = each;
@@ -227,17 +228,17 @@ static void deliver(struct fleet *fleet)
     length = fleet->under_way[which].length;
     memcpy(message, fleet->under_way[which].bytes, sizeof message);
     fleet->under_way[which] = fleet->under_way[--fleet->count];
-    if (message[0] != 2) {
+    if (message[0] != PEWTERSLUG_MESSAGE_PERMIT) {
         call = call_supervisor(fleet, SUPERVISOR_DELIVER, message[2]);
         call.bytes = message;
         call.length = length;
         measured(fleet, call);
     }
-    call = call_module(fleet, MODULE_DELIVER, message[0] == 2 ? message[2] : message[1]);
+    call = call_module(fleet, MODULE_DELIVER, message[0] == PEWTERSLUG_MESSAGE_PERMIT ? message[2] : message[1]);
     call.bytes = message;
     call.length = length;
     measured(fleet, call);
-    if (message[0] == 2)
+    if (message[0] == PEWTERSLUG_MESSAGE_PERMIT)
         measured(fleet, call);
     call.which = READ_MESSAGE;
     measured(fleet, call);
@@ -262,7 +263,9 @@ static void plant_acts(struct fleet *fleet, unsigned module)
 
 static void start(struct fleet *fleet)
 {
-    struct call call = {.which = CHECK};
+    struct call call = {.which = VERSION};
+    measured(fleet, call);
+    call.which = CHECK;
     measured(fleet, call);
     measured(fleet, call_device(fleet, DEVICE_START, 0));
     for (unsigned module = 0; module < fleet->plan.modules; module++) {
@@ -307,7 +310,7 @@ static void measure(struct fleet *fleet, unsigned rounds)
         unsigned supervisor = chance_below(&fleet->chance, fleet->plan.supervisors);
         deliver(fleet);
         for (unsigned other = 0; other < fleet->plan.supervisors; other++)
-            if (fleet->supervisors[other][1] != 0 || fleet->supervisors[other][2] != 0)
+            if (pewterslug_supervisor_noted(fleet->supervisors[other]) != 0)
                 supervisor = other; /* rather one with a bid noted */
         step_supervisor(fleet, supervisor);
         step_module(fleet, module);

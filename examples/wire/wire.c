@@ -36,7 +36,7 @@ struct wire {
 /* Every kind names its receiver last of its two parties: the supervisor of a bid or release, the module of a permit. */
 static int receiver(const struct message *message)
 {
-    return message->bytes[0] == 2 ? message->bytes[2] : PARTY_SUPERVISOR + message->bytes[2];
+    return message->bytes[0] == PEWTERSLUG_MESSAGE_PERMIT ? message->bytes[2] : PARTY_SUPERVISOR + message->bytes[2];
 }
 
 static void take(struct wire *wire, int sender)
