@@ -50,7 +50,8 @@ uint32_t pewterslug_version(void);
 /* ---- plan records ----
  *
  * A plan image is a row of records. A record is one byte of kind, then its fields: those of one byte in the table's order, then the field of
- * eight bytes, where the kind has one. Bit e of a mask stands for event e. Modules, supervisors, events and states are numbered from 0.
+ * eight bytes, where the kind has one. Bit e of a mask stands for event e. Modules, supervisors, events and states are numbered from 0. Kinds
+ * are hexadecimal.
  *
  *   kind                bytes  first       second            third             fourth  word (8 bytes)
  *   10 head                 4  modules     supervisors       events
@@ -107,7 +108,7 @@ enum pewterslug_message {
     PEWTERSLUG_MESSAGE_RELEASE = 3
 };
 
-#define PEWTERSLUG_NO_EVENT 0xFF /* a release without an event */
+#define PEWTERSLUG_NO_EVENT 0xFF /* no event has this number */
 
 /* ---- answers ----
  *
