@@ -151,7 +151,7 @@ for paper in PAPERS:
 for paper in LINKED:
     if os.path.exists(paper):
         links_lead_somewhere(paper, read(paper))
-for line in faults:
+for line in dict.fromkeys(faults):
     print(f"papers: {line}")
 if faults:
     sys.exit(1)
