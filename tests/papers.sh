@@ -115,9 +115,10 @@ def functions_are_there(paper, text, listed):
 
 def definitions_are_there(paper, text):
     for block in blocks(text):
-        for name, path in re.findall(r"`([^`\s]+)` of `(crates/[^`\s]+\.antt)`", block):
-            if os.path.exists(path) and not re.search(rf"(?<![\w-]){re.escape(name)}(?![\w-])", read(path)):
-                fault(paper, f"`{name}` is not in `{path}`")
+        for names, path in re.findall(r"((?:`[^`\s]+`(?:,| and|, and) )*`[^`\s]+`) of `(crates/[^`\s]+\.antt)`", block):
+            for name in re.findall(r"`([^`]+)`", names):
+                if os.path.exists(path) and not re.search(rf"(?<![\w-]){re.escape(name)}(?![\w-])", read(path)):
+                    fault(paper, f"`{name}` is not in `{path}`")
 
 
 def anchors(text):
