@@ -1,0 +1,57 @@
+#!/usr/bin/env bash
+# Plans as text. Each examples/plans/NAME.plan must build the stored image NAME.hex, be shown and built again, with its names and without, and be
+# accepted by the proved check; where there is a NAME.script, the simulation must print NAME.expected. The orchard must be that of examples/wire.
+# Then tests/plans.py: texts with faults (tests/plans/*.plan, told as in *.expected), random and damaged images and texts, drawings.
+set -eu
+cd "$(dirname "$0")/.."
+here=$PWD
+mkdir -p target
+rt check listing simulate > target/plans.log 2>&1 || { tail -n 40 target/plans.log; exit 1; }
+kit=$(dirname "$(dirname "$(rt doc)")")
+loader=$(find "$kit" -name ld-linux-x86-64.so.2 | head -n 1)
+room=$(mktemp -d)
+trap 'rm -rf "$room"' EXIT
+count=0
+
+fail() { echo "plans: $*"; exit 1; }
+run() { "$loader" --library-path "$(dirname "$loader")" "$here/target/bin/$1"; }
+
+# Shows the image, with the table if there is one, and builds it again.
+again() { # TABLE..
+  tools/plan show "$room/plan.bin" "$@" > "$room/again.plan" || fail "$plan is not shown"
+  tools/plan build "$room/again.plan" || fail "$plan is shown, but what is shown is not built"
+  cmp "$room/plan.bin" "$room/again.bin" || fail "$plan is shown and built otherwise"
+}
+
+for plan in examples/plans/*.plan; do
+  name=${plan%.plan}
+  tools/plan build "$plan" -o "$room/plan.bin" || fail "$plan is not built"
+  tests/bytes.sh "$name.hex" | cmp - "$room/plan.bin" || fail "$plan is not $name.hex"
+  again "$room/plan.names"
+  cmp "$room/plan.names" "$room/again.names" || fail "$plan is shown with other names"
+  again
+  # shellcheck disable=SC2046
+  header=$(printf 'plan %d %d %d' $(od -An -tu1 -j1 -N3 "$room/plan.bin"))
+  [ "$(cd "$room" && run listing < /dev/null | head -n 1)" = "$header" ] || fail "$plan is not accepted"
+  if [ -e "$name.script" ]; then
+    (cd "$room" && run simulate < "$here/$name.script") | cmp - "$name.expected" || fail "$name.script is answered otherwise"
+  fi
+  count=$((count + 1))
+done
+cmp <(tests/bytes.sh docs/two-valve.hex) <(tests/bytes.sh examples/plans/two-valve.hex) || fail "the two-valve plan is not that of docs"
+${CC:-cc} -std=c11 -Wall -Wextra -Werror -Iinclude -Iexamples/wire tests/orchard.c examples/wire/orchard.c -o "$room/orchard"
+"$room/orchard" | cmp - <(tests/bytes.sh examples/plans/orchard.hex) || fail "the orchard plan is not that of examples/wire"
+
+# the command line itself: no file, a text with a fault, an image that cannot be shown
+tools/plan build "$room/none.plan" 2> "$room/told" && fail "a text that is not there is built"
+[ "$(cat "$room/told")" = "plan: $room/none.plan: No such file or directory" ] || fail "a text that is not there is told otherwise"
+tools/plan build tests/plans/unknown-word.plan -o "$room/none.bin" 2> "$room/told" && fail "a text with a fault is built"
+cmp "$room/told" tests/plans/unknown-word.expected
+[ ! -e "$room/none.bin" ] && [ ! -e "$room/none.names" ] || fail "a text with a fault leaves an image"
+printf '\037' > "$room/end.bin"
+tools/plan show "$room/end.bin" 2> "$room/told" && fail "an image without a head is shown"
+[ "$(cat "$room/told")" = "$room/end.bin: byte 0: the first record is not the head but: end (number 4)" ] || fail "an image without a head is told otherwise"
+tools/plan --help | grep -q 'THE TEXT' || fail "there is no help"
+
+found=$(python3 tests/plans.py "$loader" --library-path "$(dirname "$loader")" "$here/target/bin/listing") || exit 1
+echo "plans: $count plans built, shown and accepted; $found"
