@@ -156,6 +156,17 @@ def full_image():
     return image_of(records + moves[:room] + end)
 
 
+def every_kind_image():
+    """A small image with records of every kind and steps of every operation."""
+    image = image_of([(plan_check.HEAD, [2, 1, 3]), (plan_check.EVENT, [0, 0, 1]), (plan_check.EVENT, [1, 0, 0]), (plan_check.EVENT, [2, 1, 1])])
+    image += image_of([(plan_check.MODULE, [0, 2, 1]), (plan_check.MODULE, [1, 1, 0])])
+    image += image_of([(plan_check.MODULE_MOVE, [0, 0, 1, 1]), (plan_check.MODULE_MOVE, [1, 0, 2, 0])])
+    image += image_of([(plan_check.SUPERVISOR, [0, 2, 0, 7]), (plan_check.SUPERVISOR_MOVE, [0, 1, 2, 0]), (plan_check.DISABLING, [0, 1, 5])])
+    steps = [(1, 31), (2, 0), (3, 9), (4, one_device.bits_of(2.5)), (5, 1)]
+    image += image_of([(plan_check.STEP, [0, index, *step]) for index, step in enumerate(steps)])
+    return image + image_of([(plan_check.STEP, [2, 0, 1, 1]), (plan_check.END, [])])
+
+
 def steps_image():
     """All 64 steps of an event, with the bounds of every operand."""
     records = [(plan_check.HEAD, [1, 0, 2]), (plan_check.EVENT, [0, 0, 1]), (plan_check.EVENT, [1, 0, 0]), (plan_check.MODULE, [0, 1, 0])]
@@ -196,16 +207,31 @@ def damaged(chance, image):
     ))
 
 
+def with_fields(image):
+    """Images that differ from this one in one field of one record: all that only a number can make wrong."""
+    bits = [0, 1, 31, 32, 65535, 65536, 2**32, 2**63, 2**64 - 1, *map(one_device.bits_of, (
+        0.0, -0.0, 0.0625, 0.125, 0.1875, 2.5, 131072, 131072.125, -1.0, float("inf"), float("nan"), 5e-324))]
+    for at in places_of(image):
+        kind, fields, after = plan_check.read(image, at)
+        for which, size in enumerate(plan_check.FIELDS[kind]):
+            near = (0, 1, 2, 3, 5, 6, 16, 31, 32, 33, 63, 64, 65, 255, (fields[which] + 1) % 256)
+            for value in near if size == 1 else bits:
+                changed = fields[:which] + [value] + fields[which + 1 :]
+                yield image[:at] + plan_check.bytes_of(kind, changed) + image[after:]
+
+
 def random_names(chance, table):
     """A table with other names for some of the things of a table."""
-    lines, modules = [], {}
+    lines, modules, events = [], {}, {}
     for number, line in enumerate(table.splitlines()):
         kind, *numbers, name = line.split()
-        new = "%s%s%d" % (chance.choice(("on", "s", "e", "m", "Pump-", "_")), chance.choice("_-"), number)
+        new = "%s%d" % (chance.choice(("on", "s", "v", "m-", "Pump_", "_")), number)
         if kind == "module":
             new = modules[name] = new if chance.random() < 0.8 else name
         if kind == "event":
-            new = "%s.%s" % (modules[name.partition(".")[0]], new)
+            owner = name.partition(".")[0]
+            events[owner] = events.get(owner, -1) + 1
+            new = "%s.e%d" % (modules[owner], events[owner])  # modules may have events of the same name
         if kind == "module" or chance.random() < 0.7:
             lines.append(" ".join([kind, *numbers, new]))
     if chance.random() < 0.7:
@@ -230,6 +256,8 @@ def try_images():
         judge_shown(stored_image(path))
     for image in (full_image(), steps_image()):
         insist(judge_shown(image) is not None, "a large image is not shown")
+    for image in with_fields(every_kind_image()):
+        judge_shown(image)
     for seed in range(SEEDS):
         chance, image = random.Random(seed), random_image(seed)
         insist("record" not in judge_shown(image), seed, "is not shown whole")
