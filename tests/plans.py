@@ -32,6 +32,7 @@ import listing  # noqa: E402
 import many_devices  # noqa: E402
 import one_device  # noqa: E402
 import plan_check  # noqa: E402
+from plan_check import DISABLING, END, EVENT, HEAD, MODULE, MODULE_MOVE, STEP, SUPERVISOR, SUPERVISOR_MOVE  # noqa: E402
 
 SEEDS = 200
 DAMAGES, SMALL = 12, 1500  # damages of each random image, if it is so short
@@ -147,32 +148,38 @@ def random_image(seed):
 
 def full_image():
     """As many supervisor moves as an image has room for."""
-    records = [(plan_check.HEAD, [1, 3, 64])] + [(plan_check.EVENT, [e, 0, e % 2]) for e in range(64)]
-    records += [(plan_check.MODULE, [0, 32, 31])]
-    records += [(plan_check.SUPERVISOR, [v, 64, 63, 2**64 - 1]) for v in range(3)]
-    end = [(plan_check.DISABLING, [2, 63, 0xAAAAAAAAAAAAAAAA]), (plan_check.END, [])]
-    moves = [(plan_check.SUPERVISOR_MOVE, [v, s, e, 63 - s]) for v in range(3) for s in range(64) for e in range(64)]
+    records = [(HEAD, [1, 3, 64])] + [(EVENT, [e, 0, e % 2]) for e in range(64)]
+    records += [(MODULE, [0, 32, 31])]
+    records += [(SUPERVISOR, [v, 64, 63, 2**64 - 1]) for v in range(3)]
+    end = [(DISABLING, [2, 63, 0xAAAAAAAAAAAAAAAA]), (END, [])]
+    moves = [(SUPERVISOR_MOVE, [v, s, e, 63 - s]) for v in range(3) for s in range(64) for e in range(64)]
     room = (plan_check.LIMIT - len(image_of(records + end))) // 5
     return image_of(records + moves[:room] + end)
 
 
 def every_kind_image():
     """A small image with records of every kind and steps of every operation."""
-    image = image_of([(plan_check.HEAD, [2, 1, 3]), (plan_check.EVENT, [0, 0, 1]), (plan_check.EVENT, [1, 0, 0]), (plan_check.EVENT, [2, 1, 1])])
-    image += image_of([(plan_check.MODULE, [0, 2, 1]), (plan_check.MODULE, [1, 1, 0])])
-    image += image_of([(plan_check.MODULE_MOVE, [0, 0, 1, 1]), (plan_check.MODULE_MOVE, [1, 0, 2, 0])])
-    image += image_of([(plan_check.SUPERVISOR, [0, 2, 0, 7]), (plan_check.SUPERVISOR_MOVE, [0, 1, 2, 0]), (plan_check.DISABLING, [0, 1, 5])])
+    records = [(HEAD, [2, 1, 3]), (EVENT, [0, 0, 1]), (EVENT, [1, 0, 0]), (EVENT, [2, 1, 1])]
+    records += [(MODULE, [0, 2, 1]), (MODULE, [1, 1, 0]), (MODULE_MOVE, [0, 0, 1, 1]), (MODULE_MOVE, [1, 0, 2, 0])]
+    records += [(SUPERVISOR, [0, 2, 0, 7]), (SUPERVISOR_MOVE, [0, 1, 2, 0]), (DISABLING, [0, 1, 5])]
     steps = [(1, 31), (2, 0), (3, 9), (4, one_device.bits_of(2.5)), (5, 1)]
-    image += image_of([(plan_check.STEP, [0, index, *step]) for index, step in enumerate(steps)])
-    return image + image_of([(plan_check.STEP, [2, 0, 1, 1]), (plan_check.END, [])])
+    records += [(STEP, [0, index, *step]) for index, step in enumerate(steps)]
+    return image_of(records + [(STEP, [2, 0, 1, 1]), (END, [])])
 
 
 def steps_image():
     """All 64 steps of an event, with the bounds of every operand."""
-    records = [(plan_check.HEAD, [1, 0, 2]), (plan_check.EVENT, [0, 0, 1]), (plan_check.EVENT, [1, 0, 0]), (plan_check.MODULE, [0, 1, 0])]
-    operands = [(1, 0), (1, 31), (2, 31), (3, 1), (3, 65535), (4, one_device.bits_of(0.125)), (4, one_device.bits_of(131072)), (5, 1)]
-    records += [(plan_check.STEP, [0, index, *operands[index % len(operands)]]) for index in range(64)]
-    return image_of(records + [(plan_check.END, [])])
+    records = [(HEAD, [1, 0, 2]), (EVENT, [0, 0, 1]), (EVENT, [1, 0, 0]), (MODULE, [0, 1, 0])]
+    steps = [(1, 0), (1, 31), (2, 31), (3, 1), (3, 65535), (5, 1)]
+    steps += [(4, one_device.bits_of(litres)) for litres in (0.125, 131072, 131071.875, 0.5)]
+    records += [(STEP, [0, index, *steps[index % len(steps)]]) for index in range(64)]
+    return image_of(records + [(END, [])])
+
+
+# Images with little in them: empty, no head, nothing declared, no modules, no events, a module without its record.
+ODD = """- 1F 10000000+1F 1000001F 1001000012000100+1F 10010000+12000100+1F 10000001+1F 10010001+1F 10010001+1F00
+10010001+11000000+1F 10010001+12000100+1F 10020001+11000100+12010100+1F 10FFFFFF+1F
+10010101+11000001+12000100+1F""".split()
 
 
 def stored_image(path):
@@ -256,7 +263,7 @@ def try_images():
         judge_shown(stored_image(path))
     for image in (full_image(), steps_image()):
         insist(judge_shown(image) is not None, "a large image is not shown")
-    for image in with_fields(every_kind_image()):
+    for image in [*map(plan_check.image_of, ODD), *with_fields(every_kind_image())]:
         judge_shown(image)
     for seed in range(SEEDS):
         chance, image = random.Random(seed), random_image(seed)
@@ -287,7 +294,8 @@ def try_bad_tables():
         ("module\n", "1: module: has 1 number(s) and a name"),
     ):
         text, errors = show(image, table)
-        insist(text is None and errors == "%s:%s\n" % (place("shown.names"), message), "of the table", table, "is told", errors)
+        expected = "%s:%s\n" % (place("shown.names"), message)
+        insist(text is None and errors == expected, "of the table", table, "is told", errors)
         count("bad tables")
 
 
@@ -303,6 +311,91 @@ def try_faults():
         count("texts with a fault")
 
 
+ODD_WORDS = ["", "=", "= 3", "9999999999", "-1", "0.1", "32", "#", "module", "like", "\u00e9", "\0", "\u2028", "a.b.c"]
+
+
+# Texts that say the same: a module like another, which adds a state and a move and has a procedure of its own; groups;
+# numbers; blocks in another order; lines that add up.
+SAME = """
+group closes b.close
+supervisor one = 0
+  states none
+  states some
+  events closes opens
+  none opens some
+  some closes none
+  disable some opens
+procedure a.open
+  on coil
+  respond done
+procedure a.close
+  off coil
+module a                      # the first
+  states shut open
+  command open close
+  response done
+  output lamp coil
+  shut open open
+  open close shut
+procedure b.open
+  wait 2.50 litres
+module b like a
+  states stuck
+  initial stuck
+  stuck close shut
+group opens a.open
+group opens b.open
+""", """
+module second = 1
+  states shut open stuck
+  command open = 3
+  output lamp = 0
+  shut open open
+  open close shut
+  initial stuck
+  stuck close shut
+  command close = 4
+  response done
+module first
+  states shut open
+  command open = 0
+  command close = 1
+  response done=2
+  output coil=1
+  shut open open
+  open close shut
+supervisor one
+  states none some
+  events second.close second.open first.open
+  none first.open second.open some
+  some second.close none
+  disable some second.open
+  disable some first.open
+procedure second.open
+  wait 2.5 litres
+procedure second.close
+  off 1
+procedure first.open
+  on coil
+  respond first.done
+procedure first.close
+  off coil
+"""
+
+
+def try_forms():
+    """Texts that say the same build the same image, also with a mark of UTF-8 before them and other line ends."""
+    images = set()
+    for text in SAME:
+        for content in (text.encode(), ("\ufeff" + text.replace("\n", "\r\n")).encode()):
+            write("form.plan", content)
+            image, _, errors = build(place("form.plan"))
+            insist(image is not None, "a good text is told as", errors)
+            images.add(image)
+            count("forms of one plan")
+    insist(len(images) == 1, "the forms of one plan build several images")
+
+
 def damaged_text(chance, text):
     """A text with some words or lines changed, or a byte."""
     lines = text.split("\n")
@@ -314,7 +407,7 @@ def damaged_text(chance, text):
         if x < 0.25:
             line[which] = chance.choice(words)
         elif x < 0.4:
-            line[which] = chance.choice(("", "=", "= 3", "9999999999999", "-1", "0.1", "32", "x", "#", "module", "like", "é", "\0", "\u2028", "a.b.c"))
+            line[which] = chance.choice(ODD_WORDS)
         elif x < 0.5:
             line.insert(which, chance.choice(words))
         elif x < 0.6:
@@ -337,7 +430,7 @@ def damaged_text(chance, text):
 
 
 def judge_messages(path, content, errors):
-    """Each message has a line of the text and a word of that line, unless it is of the whole plan or of a group's event."""
+    """Each message has a line of the text and a word of that line, unless it is of the plan or of a group's event."""
     lines = content.decode("utf-8-sig", "replace").split("\n")
     groups = re.findall(r"^\s*group\s+(\S+)", "\n".join(lines), re.M)
     for message in errors.splitlines():
@@ -351,6 +444,12 @@ def judge_messages(path, content, errors):
 
 def header_of(image):
     return "plan %d %d %d" % tuple(image[1:4])
+
+
+def listed(command):
+    """What the listing program says to the plan and an empty script."""
+    nothing, pipe = subprocess.DEVNULL, subprocess.PIPE
+    return subprocess.run(command, stdin=nothing, stdout=pipe, cwd=folder.name, check=True).stdout.decode()
 
 
 def try_texts(command):
@@ -369,8 +468,8 @@ def try_texts(command):
             count("damaged texts with faults")
         else:
             write("plan.bin", image)
-            said = subprocess.run(command, stdin=subprocess.DEVNULL, stdout=subprocess.PIPE, cwd=folder.name, check=True).stdout.decode()
-            insist(said.startswith(header_of(image) + "\n"), "a built plan is answered with", said, content.decode("utf-8", "replace"))
+            said = listed(command)
+            insist(said.startswith(header_of(image) + "\n"), "a built plan is answered with", said, content)
             count("damaged texts built and accepted")
 
 
@@ -410,13 +509,13 @@ def judge_drawings(path, known, drawings):
         dashed += sum(len(label.split("\\n")) for label, style in arrows if style)
         initial += re.findall(r"^  initial -> s([0-9]+);$", text, re.M)
     kinds = known.records
-    listed = [key[2] for kind in (plan_check.MODULE_MOVE, plan_check.SUPERVISOR_MOVE) for key in kinds[kind]]
-    owners = [fields for kind in (plan_check.MODULE, plan_check.SUPERVISOR) for fields in kinds[kind].values()]
+    moved = [key[2] for kind in (MODULE_MOVE, SUPERVISOR_MOVE) for key in kinds[kind]]
+    owners = [fields for kind in (MODULE, SUPERVISOR) for fields in kinds[kind].values()]
     insist(sorted(states) == sorted(fields[0] for fields in owners), path, "states drawn:", states)
     insist(sorted(map(int, initial)) == sorted(fields[1] for fields in owners), path, "initial states drawn:", initial)
-    insist(moves == len(listed), path, "moves drawn:", moves)
-    insist(dashed == sum(kinds[plan_check.EVENT][e,][1] == 0 for e in listed), path, "dashed moves drawn:", dashed)
-    masks = [fields[0] for fields in kinds[plan_check.DISABLING].values()]
+    insist(moves == len(moved), path, "moves drawn:", moves)
+    insist(dashed == sum(kinds[EVENT][e,][1] == 0 for e in moved), path, "dashed moves drawn:", dashed)
+    masks = [fields[0] for fields in kinds[DISABLING].values()]
     insist(disabled == sum(map(lambda mask: bin(mask).count("1"), masks)), path, "disablings drawn:", disabled)
 
 
@@ -431,6 +530,7 @@ def main(words):
             digits(file.read())
         return
     try_faults()
+    try_forms()
     try_bad_tables()
     try_images()
     try_texts(words)

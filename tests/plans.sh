@@ -51,6 +51,21 @@ cmp "$room/told" tests/plans/unknown-word.expected
 printf '\037' > "$room/end.bin"
 tools/plan show "$room/end.bin" 2> "$room/told" && fail "an image without a head is shown"
 [ "$(cat "$room/told")" = "$room/end.bin: byte 0: the first record is not the head but: end (number 4)" ] || fail "an image without a head is told otherwise"
+
+# a `dot` that draws, one that fails, and none
+mkdir "$room/bin"
+printf '%s\n' '#!/bin/sh' '[ "$1 $2" = "-Tsvg -o" ] && cp "$4" "$3"' > "$room/bin/dot"
+chmod +x "$room/bin/dot"
+PATH=$room/bin:$PATH tools/plan draw examples/plans/two-valve.plan -o "$room/drawn" || fail "the two-valve plan is not drawn"
+[ "$(cd "$room/drawn" && echo *)" = "module-pump.dot module-pump.svg module-valve.dot module-valve.svg supervisor-open_path.dot supervisor-open_path.svg" ] ||
+  fail "the drawings of the two-valve plan are not there"
+printf '%s\n' '#!/bin/sh' 'exit 3' > "$room/bin/dot"
+PATH=$room/bin:$PATH tools/plan draw examples/plans/two-valve.plan -o "$room/drawn" 2> /dev/null || fail "a dot that fails makes a drawing fail"
+rm "$room/bin/dot"
+python=$(python3 -c 'import sys; print(sys.executable)')
+PATH=$room/bin "$python" tools/plan draw examples/plans/two-valve.plan -o "$room/plain" || fail "without dot nothing is drawn"
+[ "$(cd "$room/plain" && echo *)" = "module-pump.dot module-valve.dot supervisor-open_path.dot" ] || fail "the drawings without dot are not there"
+
 tools/plan --help | grep -q 'THE TEXT' || fail "there is no help"
 
 found=$(python3 tests/plans.py "$loader" --library-path "$(dirname "$loader")" "$here/target/bin/listing") || exit 1
