@@ -3,11 +3,10 @@
 # are made here. Where python3 is there, the reference must give the same answers, to random plans and scripts too.
 set -eu
 cd "$(dirname "$0")/.."
-here=$PWD
-mkdir -p target
-rt check listing > target/listing.log 2>&1 || { tail -n 40 target/listing.log; exit 1; }
-kit=$(dirname "$(dirname "$(rt doc)")")
-loader=$(find "$kit" -name ld-linux-x86-64.so.2 | head -n 1)
+repo=$PWD
+# shellcheck source=tests/programs.sh
+. tests/programs.sh
+prove listing
 room=$(mktemp -d)
 trap 'rm -rf "$room"' EXIT
 python=$(command -v python3 || true)
@@ -15,7 +14,7 @@ count=0
 
 # Runs the program in the room on its plan.bin, if there is one, and its script, and compares.
 compare() { # NAME
-  (cd "$room" && "$loader" --library-path "$(dirname "$loader")" "$here/target/bin/listing" < script > given)
+  (cd "$room" && start listing < script > given)
   cmp "$room/given" "$room/expected" || { echo "listing: $1 is answered otherwise"; exit 1; }
   if [ -n "$python" ]; then
     python3 tests/reference/listing.py "$room/plan.bin" < "$room/script" | cmp - "$room/expected" || { echo "listing: $1: the reference answers otherwise"; exit 1; }
