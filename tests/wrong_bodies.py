@@ -235,16 +235,20 @@ ERROR = re.compile(r"^(\S+?):\d+:\d+: error: (.*)$")
 SHAPE = re.compile(r"that can be named from here|expected type `tie\.Need-|has no (?:field|member)|is not in scope")
 # What follows from an error above it.
 FOLLOWS = re.compile(r"was not admitted|so this cannot be checked")
+# A function whose proof the checker makes by itself, and the facts that it could not close.
+OPEN = re.compile(r"^fn \w+::(\w+): no proof: .*does not close (.*)$")
 
 
 def facts(log, root):
     """The facts that were refused, each as a file and a name. A file where the proof does not fit the code's shape shows none."""
-    errors = {}
+    errors, found = {}, []
     for line in log.splitlines():
         m = ERROR.match(line)
         if m and not FOLLOWS.search(m.group(2)):
             errors.setdefault(os.path.relpath(m.group(1), root), []).append(m.group(2))
-    found = []
+        m = OPEN.match(line)
+        if m:
+            found += [(f"fn {m.group(1)}", name) for name in re.findall(r"`([^`]*)`", m.group(2))]
     for path, said in errors.items():
         if any(SHAPE.search(s) for s in said):
             continue
@@ -259,7 +263,8 @@ def as_said(refused, found):
     name = re.search(r"`([^`]*)`", refused)
     where = re.match(r"(?:proofs/)?(\w+)\b", refused)
     for path, fact in found:
-        if name and fact == name.group(1) and (not where or re.search(rf"\b{where.group(1)}\b", path)):
+        same = name and fact == ("returns" if name.group(1) == "ensures" else name.group(1))
+        if same and (not where or where.group(1) == "its" or re.search(rf"\b{where.group(1)}\b", path)):
             return path, fact
     return None
 
@@ -320,7 +325,7 @@ def replay(crate, body, root):
         return False, said + f"REFUSED BY SHAPE ONLY (target/wrong-bodies-{crate}-{body.label}.log): {body.says}"
     path, name = as_said(body.refused, found) or found[0]
     other = "" if as_said(body.refused, found) else f" (the table: {body.refused})"
-    return True, said + f"refused at {os.path.relpath(path, os.path.join('crates', crate))} `{name}`{other}"
+    return True, said + f"refused at {path.removeprefix(f'crates/{crate}/')} `{name}`{other}"
 
 
 def play(crate, table, label):
