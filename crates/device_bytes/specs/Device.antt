@@ -1,4 +1,4 @@
--- "One device, 592 bytes: sixteen own parts of 35 bytes, then the states of 32 supervisors."
+-- include/pewterslug.h, the states by offset: "One device, 592 bytes: sixteen own parts of 35 bytes, then the states of 32 supervisors."
 use Prim.Native.Nat.{ℕ, _+_, _*_}
 use mathlib.Core.Path.{_≡_}
 use mathlib.Core.List.{List, [], _∷_, _++_}
@@ -39,7 +39,7 @@ stateByte b v = getD b (560 + v) 0
 abbrev pub deviceAt : List ℕ → Device
 deviceAt b = record { modules = listFrom (slotOf b) 0 16; supervisors = listFrom (stateByte b) 0 32 }
 
--- "Bytes of another length, a flag other than 0 and 1, .. and f64 bits of a NaN stand for no state"
+-- the header: "Bytes of another length, a flag other than 0 and 1, .. and f64 bits of a NaN stand for no state"
 unfoldable pub isSlot : List ℕ → ℕ → Bool
 isSlot b m = isOwn (drop (m * 35) b)
 

@@ -1,4 +1,5 @@
--- The fields of a state in its bytes: "Multi-byte values in states, messages and plans are big-endian." Bytes past the end count as 0.
+-- The fields of a state in its bytes, as include/pewterslug.h lays them out; the quotations are from it. "Multi-byte values in states, messages and
+-- plans are big-endian." Bytes past the end count as 0.
 use Prim.Native.Nat.{ℕ, zero, suc, _+_, _/_, _%_}
 use mathlib.Core.Path.{_≡_}
 use mathlib.Core.List.{List, [], _∷_}
@@ -20,7 +21,7 @@ halfBytes x = x / 0x100 % 256 ∷ x % 256 ∷ []
 unfoldable pub halfAt : List ℕ → ℕ → ℕ
 halfAt s o = appendByte (getD s o 0) (getD s (o + 1) 0)
 
--- a flag: "1 while ..., else 0"
+-- a flag: "1 while .., else 0"
 abbrev pub flagByte : Bool → ℕ
 flagByte b = cond b 1 0
 

@@ -1,5 +1,5 @@
--- What demand 3 compares, over bytes. "Equal are a turn's event, stray event or none, any refusal's number, and after each the module's state,
--- queue, procedure, water and outputs": the parts of the answer's number, and the 35 bytes of the module's own part.
+-- What demand 3 compares, over bytes. Document 01: "Equal are a turn's event, stray event or none, any refusal's number, and after each the
+-- module's state, queue, procedure, water and outputs": the parts of the answer's number, and the 35 bytes of the module's own part.
 use Prim.Native.Nat.{ℕ, _*_, _/_, _%_}
 use mathlib.Core.List.{List, [], _∷_, _++_}
 use mathlib.Core.Bool.{Bool, cond, _&&_}
@@ -22,7 +22,7 @@ pub record Outcome : Type 0 where
   pub value : ℕ
   pub own : List ℕ
 
--- as `pewterslug_value` takes it
+-- as `pewterslug_value` of include/pewterslug.h takes it
 abbrev pub valueOf : Answer → ℕ
 valueOf a = a .number / 65536 % 256
 
@@ -36,11 +36,11 @@ moduleOutcome m a = outcome m a (take 35 (a .state))
 abbrev pub deviceOutcome : ℕ → Answer → Outcome
 deviceOutcome m a = outcome m a (take 35 (drop (m * 35) (a .state)))
 
--- an accepted step that took a turn: "1: a turn: an event fired ..; 2: a turn: a stray response ..; 3: a turn: none"
+-- an accepted step that took a turn, by the header: 1 "a turn: an event fired", 2 "a turn: a stray response", 3 "a turn: none"
 abbrev pub tookTurn : Answer → Bool
 tookTurn a = eqb (numberOf a) 0 && ltb 0 (didOf a) && ltb (didOf a) 4
 
--- "Calls for a party that the plan lacks are merely refused, their numbers not compared."
+-- Document 01: "Calls for a party that the plan lacks are merely refused, their numbers not compared."
 unfoldable pub actBytesSeen : List ℕ → Memory → Act → List Outcome
 actBytesSeen image B (moduleStep m b) = let a = ModuleCalls.stepBytes image (B .moduleAt m) m b in cond (tookTurn a) (moduleOutcome m a ∷ []) []
 actBytesSeen image B (supervisorStep v b) = []
@@ -54,8 +54,8 @@ unfoldable pub bytesSeen : List ℕ → Memory → List Act → List Outcome
 bytesSeen image B [] = []
 bytesSeen image B (a ∷ l) = actBytesSeen image B a ++ bytesSeen image (bytesStep image B a .memory) l
 
--- "is fed each response and tick as called, and a turn for each module step that by the rules above takes one; nothing else": here by what the step
--- answered; that these are the turns which the rules take is `feeds` of specs/DemandOverBytes.antt
+-- Document 01: "is fed each response and tick as called, and a turn for each module step that by the rules above takes one; nothing else": here by
+-- what the step answered; that these are the turns which the rules take is `feeds` of specs/DemandOverBytes.antt
 unfoldable pub actBytesFed : List ℕ → Memory → Act → List DeviceAct
 actBytesFed image B (moduleStep m b) = cond (tookTurn (ModuleCalls.stepBytes image (B .moduleAt m) m b)) (deviceTurn m ∷ []) []
 actBytesFed image B (supervisorStep v b) = []

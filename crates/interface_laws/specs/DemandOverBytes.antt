@@ -20,8 +20,8 @@ use Rattle.interface_laws.specs.Run.{deviceBytesRun, deviceBytesStart, d
 use Rattle.interface_laws.specs.Compared.{bytesSeen, bytesFed, deviceBytesSeen}
 
 pub record OverBytes (image : List ℕ) (acts : List Act) : Type 0 where
-  -- "each turn taken, response and tick gets the answer that the one-device controller gives for the same turns, responses and ticks in the same
-  -- order", all of it in numbers and bytes
+  -- demand 3: "each turn taken, response and tick gets the answer that the one-device controller gives for the same turns, responses and ticks in
+  -- the same order", all of it in numbers and bytes
   pub equal : bytesSeen image (bytesStart image) acts ≡ deviceBytesSeen image (deviceBytesStart image) (bytesFed image (bytesStart image) acts)
   -- every answer, and the bytes at the end, are those of the calls on states by value
   pub calls : bytesRun image (bytesStart image) acts

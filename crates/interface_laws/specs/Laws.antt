@@ -1,4 +1,4 @@
--- What holds of every call over lent bytes, of every image, state, buffer, message and number.
+-- What holds of every call over lent bytes, of every image, state, buffer, message and number. The quotations are from include/pewterslug.h.
 use Prim.Native.Nat.{ℕ, _%_}
 use mathlib.Core.Path.{_≡_}
 use mathlib.Core.Logic.{_≢_}

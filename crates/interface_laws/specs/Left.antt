@@ -1,6 +1,6 @@
--- "State bytes .. go to the next call on the same party as the last call left them": whatever bytes a call gets, those that it leaves are bytes and
--- are read by the next call as the state that the call leaves of the state read before. Bytes that stand for no state are left, and are read
--- again as none.
+-- docs/EMBEDDING.md: "State bytes .. go to the next call on the same party as the last call left them": whatever bytes a call gets, those that it
+-- leaves are bytes and are read by the next call as the state that the call leaves of the state read before. Bytes that stand for no state are left,
+-- and are read again as none.
 use Prim.Native.Nat.{ℕ}
 use mathlib.Core.Path.{_≡_}
 use mathlib.Core.List.{List}

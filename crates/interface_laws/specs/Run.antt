@@ -1,5 +1,5 @@
--- Lists of calls over bytes: "State bytes are left alone between calls and go to the next call on the same party as the last call left them"
--- (docs/EMBEDDING.md), at first those of its start. The calls are those of demand 3, `Act` of crate agreement.
+-- Lists of calls over bytes. docs/EMBEDDING.md: "State bytes are left alone between calls and go to the next call on the same party as the last
+-- call left them", at first those of its start. The calls are those of demand 3, `Act` of crate agreement.
 use Prim.Native.Nat.{ℕ, _/_, _%_}
 use mathlib.Core.List.{List, [], _∷_, _++_}
 use mathlib.Core.Option.{Option, none, some}
@@ -43,19 +43,19 @@ pub record Given (A : Type 0) : Type 0 where
 
 -- ---- one call
 
--- of an accepted answer: what was done and how many bytes were written, as `pewterslug_did` and `pewterslug_length` take them
+-- of an accepted answer: what was done and how many bytes were written, as `pewterslug_did` and `pewterslug_length` of include/pewterslug.h take them
 abbrev pub didOf : Answer → ℕ
 didOf a = a .number / 256 % 256
 
 abbrev pub lengthOf : Answer → ℕ
 lengthOf a = a .number / 4294967296
 
--- what is sent after an accepted step of a module: a bid (4), or "releases of 4 bytes, each a message by itself; or waits, and nothing was
--- written"
+-- what is sent after an accepted step of a module: a bid (4), or, as docs/EMBEDDING.md says, "releases of 4 bytes, each a message by itself; or
+-- waits, and nothing was written"
 unfoldable pub moduleSends : Answer → List (List ℕ)
 moduleSends a = cond (eqb (numberOf a) 0) (cond (eqb (didOf a) 4) (take (lengthOf a) (a .buffer) ∷ []) (pieces (lengthOf a / 4) (a .buffer))) []
 
--- and of a supervisor: "send the permit if one was written" (5)
+-- and of a supervisor, there: "send the permit if one was written" (5)
 unfoldable pub supervisorSends : Answer → List (List ℕ)
 supervisorSends a = cond (eqb (numberOf a) 0) (cond (eqb (didOf a) 5) (take (lengthOf a) (a .buffer) ∷ []) []) []
 

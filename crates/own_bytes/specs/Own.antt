@@ -1,6 +1,6 @@
--- "A module's own part, 35 bytes: 0 state of the automaton; 1 responses queued, 0 to 8; 2..9 the queue, its head first; 10 1 while a
--- procedure runs, else 0; 11 its event; 12 its step's index; 13..14 ticks counted of a wait; 15..22 target of a litres step, f64 bits; 23..30
--- total of a litres step, f64 bits; 31..34 outputs, bit i for output i."
+-- include/pewterslug.h, the states by offset: "A module's own part, 35 bytes: 0 state of the automaton; 1 responses queued, 0 to 8; 2..9 the queue,
+-- its head first; places past the length are 0; 10 1 while a procedure runs, else 0; 11 its event; 12 its step's index; 13..14 ticks counted of a
+-- wait; 15..22 target of a litres step, f64 bits; 23..30 total of a litres step, f64 bits; 31..34 outputs, bit i for output i"
 use Prim.Native.Nat.{ℕ, _^_, _<_}
 use mathlib.Core.Path.{_≡_}
 use mathlib.Core.List.{List, _∷_, _++_}

@@ -1,6 +1,6 @@
--- "An answer is one number. Bits 0..7 are the refusal's number, 0 if the call is accepted. Of a refused call bits 32..63 are the byte
--- offset. Of an accepted one bits 8..15 say what was done, bits 16..23 of what, and bits 32..63 how many bytes were written (for a read record
--- or message: how many it has). All other bits are 0."
+-- include/pewterslug.h, from which the quotations of this file are: "An answer is one number. Bits 0..7 are the refusal's number, 0 if the call is
+-- accepted. Of a refused call bits 32..63 are the byte offset. Of an accepted one bits 8..15 say what was done, bits 16..23 of what, and bits 32..63
+-- how many bytes were written (for a read record or message: how many it has). All other bits are 0."
 use Prim.Native.Nat.{ℕ, _+_, _*_, _%_}
 use mathlib.Core.Path.{_≡_}
 use mathlib.Core.List.{List, []}
@@ -37,12 +37,13 @@ unfoldable pub verdictAnswer : Verdict → ℕ
 verdictAnswer Accepted = done 0 0 0
 verdictAnswer (CheckRefused n o) = refused n o
 
--- "0: taken; the value is 0"
+-- PEWTERSLUG_DONE, 0: "taken; the value is 0"
 unfoldable pub calledAnswer : Called → ℕ
 calledAnswer Done = done 0 0 0
 calledAnswer (Refused n o) = refused n o
 
--- "1: a turn: an event fired, the value is the event; 2: a turn: a stray response, the value is its event; 3: a turn: none"
+-- PEWTERSLUG_EVENT, 1: "a turn: an event fired, the value is the event"; PEWTERSLUG_STRAY, 2: "a turn: a stray response, the value is its event";
+-- PEWTERSLUG_NONE, 3: "a turn: none"
 unfoldable pub turnAnswer : Turn → ℕ → ℕ
 turnAnswer (Event e) size = done 1 e size
 turnAnswer (Stray e) size = done 2 e size
@@ -52,14 +53,14 @@ unfoldable pub turningAnswer : Turning → ℕ
 turningAnswer (Turned t) = turnAnswer t 0
 turningAnswer (TurnRefused n o) = refused n o
 
--- "4: a module bids, the value is the supervisor; 6: a step that waits"
+-- PEWTERSLUG_BIDS, 4: "a module bids, the value is the supervisor"; PEWTERSLUG_WAITS, 6: "a step that waits"
 unfoldable pub steppedAnswer : Stepped → ℕ
 steppedAnswer (Turns t size) = turnAnswer t size
 steppedAnswer (Bids v size) = done 4 v size
 steppedAnswer Waits = done 6 0 0
 steppedAnswer (StepRefused n o) = refused n o
 
--- "5: a supervisor sends its permit, the value is the module"
+-- PEWTERSLUG_SENDS, 5: "a supervisor sends its permit, the value is the module"
 unfoldable pub servedAnswer : Served → ℕ
 servedAnswer (Sends m size) = done 5 m size
 servedAnswer ServedWaits = done 6 0 0
@@ -83,8 +84,8 @@ pub record Answered (a : Answer) (r : ℕ) (s b : List ℕ) : Type 0 where
 unfoldable pub lentAfter : ℕ → List ℕ → List ℕ → List ℕ
 lentAfter n after before = cond (eqb n 0) after before
 
--- a start, whose state has so many bytes: the refusal's number, then 15, "output buffer shorter than the answer"; an accepted one writes the
--- state from the buffer's start
+-- a start, whose state has so many bytes: the refusal's number, then 15, document 01's "output buffer shorter than the answer"; an accepted one
+-- writes the state from the buffer's start
 unfoldable pub startAnswer : ℕ → Called → List ℕ → List ℕ → Answer
 startAnswer size Done bytes b =
     cond (ltb (length b) size) (record { number = refused 15 0; state = []; buffer = b })

@@ -1,4 +1,4 @@
--- "A tick with its flow reading: no sensor is fitted if sensor is 0, and litres is not looked at; else litres."
+-- include/pewterslug.h: "A tick with its flow reading: no sensor is fitted if sensor is 0, and litres is not looked at; else litres."
 use Prim.Native.Nat.{ℕ}
 use mathlib.Core.Bool.{cond}
 use lib.Dec.{eqb}

@@ -1,4 +1,4 @@
--- The parts of an answer are found in it, as `pewterslug_number` and the others take them.
+-- The parts of an answer are found in it, as `pewterslug_number` and the others of include/pewterslug.h take them.
 use Prim.Native.Nat.{ℕ, _/_, _%_, _<_}
 use mathlib.Core.Path.{_≡_}
 use Rattle.packing.specs.Answer.{packed}

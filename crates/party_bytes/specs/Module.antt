@@ -1,5 +1,5 @@
--- "A module on its own device, 48 bytes: its own part, then 35..38 permits held, bit v for supervisor v; 39..46 union of the masks received
--- with them; 47 1 while a bid is outstanding, else 0."
+-- include/pewterslug.h, the states by offset: "A module on its own device, 48 bytes: its own part, then 35..38 permits held, bit v for supervisor v;
+-- 39..46 union of the masks received with them; 47 1 while a bid is outstanding, else 0"
 use Prim.Native.Nat.{ℕ, _^_, _<_}
 use mathlib.Core.Path.{_≡_}
 use mathlib.Core.List.{List, [], _∷_, _++_}
@@ -21,7 +21,7 @@ moduleBytes x = ownBytes (x .own) ++ quadBytes (x .held) ++ wordBytes (x .receiv
 unfoldable pub moduleAt : List ℕ → Module
 moduleAt b = record { own = ownOf b; held = quadAt b 35; received = wordAt b 39; bid = flagOf (getD b 47 0) }
 
--- "Bytes of another length, a flag other than 0 and 1, .. and f64 bits of a NaN stand for no state"
+-- the header: "Bytes of another length, a flag other than 0 and 1, .. and f64 bits of a NaN stand for no state"
 unfoldable pub isModule : List ℕ → Bool
 isModule b = eqb (length b) 48 && isOwn b && isFlag (getD b 47 0)
 

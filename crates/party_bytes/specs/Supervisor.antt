@@ -1,5 +1,5 @@
--- "A supervisor on its own device, 6 bytes: 0 state of the automaton; 1..2 modules whose bids are noted, bit m for module m; 3 1 while the
--- permit is out, else 0; 4 its holder, 0 while the permit is home; 5 the module last served."
+-- include/pewterslug.h, the states by offset: "A supervisor on its own device, 6 bytes: 0 state of the automaton; 1..2 modules whose bids are noted,
+-- bit m for module m; 3 1 while the permit is out, else 0; 4 its holder, 0 while the permit is home; 5 the module last served"
 use Prim.Native.Nat.{ℕ, _^_, _<_}
 use mathlib.Core.Path.{_≡_}
 use mathlib.Core.List.{List, [], _∷_, _++_}
@@ -33,7 +33,7 @@ unfoldable pub supervisorAt : List ℕ → Supervisor
 supervisorAt b =
     record { state = getD b 0 0; noted = halfAt b 1; holder = holderOf (flagOf (getD b 3 0)) (getD b 4 0); last = getD b 5 0 }
 
--- "Bytes of another length, a flag other than 0 and 1, a holder of a permit at home .. stand for no state"
+-- the header: "Bytes of another length, a flag other than 0 and 1, a holder of a permit at home .. stand for no state"
 unfoldable pub isSupervisor : List ℕ → Bool
 isSupervisor b = eqb (length b) 6 && isFlag (getD b 3 0) && (flagOf (getD b 3 0) || eqb (getD b 4 0) 0)
 

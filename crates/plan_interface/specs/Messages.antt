@@ -1,4 +1,4 @@
--- The reader and the writer of one message over lent bytes.
+-- The reader and the writer of one message over lent bytes. The quotations are from include/pewterslug.h.
 use Prim.Native.Nat.{ℕ}
 use mathlib.Core.List.{List, []}
 use mathlib.Core.Bool.{cond}
@@ -33,7 +33,7 @@ messageBy kind first second event mask =
     (cond (eqb kind 0x02) (Whole (Permit first second mask))
     (cond (eqb kind 0x03) (Whole (Release first second event)) Misshapen))
 
--- "A kind that is none is 10." Then 15, "output buffer shorter than the answer".
+-- "A kind that is none is 10." Then 15, document 01's "output buffer shorter than the answer".
 unfoldable pub writeParsed : Parsed → List ℕ → Answer
 writeParsed (Whole g) b =
     cond (short (messageBytes g) b) (record { number = refused 15 0; state = []; buffer = b })

@@ -1,4 +1,4 @@
--- The check of a plan, and the reader and the writer of one record, over lent bytes.
+-- The check of a plan, and the reader and the writer of one record, over lent bytes. The quotations are from include/pewterslug.h.
 use Prim.Native.Nat.{ℕ}
 use mathlib.Core.List.{List, []}
 use mathlib.Core.Bool.{cond}
