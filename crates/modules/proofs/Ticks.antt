@@ -7,8 +7,10 @@ use mathlib.Core.List.{List}
 use mathlib.Core.Bool.{Bool, true, false, cond, not, _&&_}
 use lib.Dec.{eqb, ltb}
 use lib.Bits.{bitOr, bitAnd}
+use lib.Ieee.{Float}
 use borrow.Author.Tests.{lt-ltb, le-ltb, lt-leb, le-leb, ne-eqb, not-true, not-false}
 use Rattle.bits.proofs.Laws.{shl-one}
+use Rattle.litres.specs.Eighths.{litresOk}
 use Rattle.records.specs.declared.Record.{Record}
 use Rattle.records.specs.declared.Record.the-variants.{Step}
 use Rattle.reader.specs.Find.{found}
@@ -16,6 +18,7 @@ use Rattle.plan.specs.Plan.{counts, stepIn, operationOf, operandOf}
 use Rattle.water.specs.Water.{flowOk, noWater, waterOf, added, reached, running, Summed, Compared}
 use Rattle.water.specs.declared.Water.{Water}
 use Rattle.water.specs.declared.Flow.{Flow}
+use Rattle.water.specs.declared.Flow.the-variants.{Litres, NoSensor}
 use Rattle.water.proofs.Laws.{reading-exact}
 use Rattle.modules.specs.declared.Own.{Own}
 use Rattle.modules.specs.declared.Procedure.{Procedure}
@@ -146,11 +149,29 @@ pub ticked-idle : (rs : List Record) (f : Flow) (own : Own) → not (own .proced
 ticked-idle rs f own n =
     sym (ap (λ (b : Bool). cond (b && found (stepIn rs (own .procedure .event) (own .procedure .index))) (performed rs (operationOf rs (own .procedure .event) (own .procedure .index)) (operandOf rs (own .procedure .event) (own .procedure .index)) f own) own) (not-true (own .procedure .running) n))
 
-module _ (rs : List Record) (f : Flow) (own : Own) {b : Bool} (p : b ≡ flowOk f) where
-  pub tick-taken : {next : Own} → b ≡ true → next ≡ ticked rs f own → taken next ≡ tickOf rs f own
-  unfolding tickOf
-  tick-taken h q = simp (sym p ∙ h) (ap taken q)
+-- litres are taken or refused as they are judged
+module _ (f : Flow) {x : Float} (e : f ≡ Litres x) {b : Bool} (p : b ≡ litresOk x) where
+  judged : b ≡ flowOk f
+  unfolding flowOk
+  judged = p ∙ sym (ap flowOk e)
 
-  pub tick-refused : b ≡ false → refused 14 own ≡ tickOf rs f own
+  pub litres-ok : b ≡ true → flowOk f ≡ true
+  litres-ok h = sym judged ∙ h
+
+  pub litres-taken : (rs : List Record) (own : Own) {next : Own} → b ≡ true → next ≡ ticked rs (Litres x) own → taken next ≡ tickOf rs f own
   unfolding tickOf
-  tick-refused h = simp (sym p ∙ h)
+  litres-taken rs own h q = simp (litres-ok h) (ap taken (q ∙ ap (λ (g : Flow). ticked rs g own) (sym e)))
+
+  pub litres-refused : (rs : List Record) (own : Own) → b ≡ false → refused 14 own ≡ tickOf rs f own
+  unfolding tickOf
+  litres-refused rs own h = simp (sym judged ∙ h)
+
+-- and without a sensor there is nothing to judge
+module _ (f : Flow) (e : f ≡ NoSensor) where
+  pub no-sensor-ok : flowOk f ≡ true
+  unfolding flowOk
+  no-sensor-ok = ap flowOk e
+
+  pub no-sensor-taken : (rs : List Record) (own : Own) {next : Own} → next ≡ ticked rs f own → taken next ≡ tickOf rs f own
+  unfolding tickOf
+  no-sensor-taken rs own q = simp no-sensor-ok (ap taken q)

@@ -380,11 +380,20 @@ fn ticked(image: &[u8], places: Places, f: Flow, own: Own) -> Own
 pub fn tick(image: &[u8], places: Places, f: Flow, own: Own) -> Replied
     ensures { λ r. ⌜ r ≡ tickOf (recordsBy (now (image .entry)) places) f own ⌝ }
 {
-    if water::flow_ok(f) {
-        let next = ticked(image, places, f, own);
-        Replied {
-            reply: Reply::Taken,
-            own: next,
+    match f {
+        Flow::Litres(x) => {
+            if litres::litres_ok(x) {
+                let next = ticked(image, places, f, own);
+                Replied {
+                    reply: Reply::Taken,
+                    own: next,
+                }
+            } else {
+                Replied {
+                    reply: Reply::Refused(14),
+                    own,
+                }
+            }
         }
     } else {
         Replied {

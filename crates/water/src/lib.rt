@@ -1,7 +1,7 @@
 // The water of a running litres step, and a flow reading. Their rules are specs/Water.antt.
 ghost use mathlib.Core.Path.{_≡_};
 ghost use Rattle.water.specs.Water as Rules;
-ghost use Rattle.water.specs.Water.{flowOk, noWater, waterOf, Summed, Compared, isZero, waterZero};
+ghost use Rattle.water.specs.Water.{noWater, waterOf, Summed, Compared, isZero, waterZero};
 
 // One small record of target and total, in litres.
 pub struct Water {
@@ -9,20 +9,10 @@ pub struct Water {
     pub total: f64,
 }
 
-// Litres, or the word that no sensor is fitted.
+// A flow reading: litres, or that no sensor is fitted.
 pub enum Flow {
     Litres(f64),
     NoSensor,
-}
-
-// Whether a reading is taken.
-pub fn flow_ok(f: Flow) -> bool
-    ensures { λ r. ⌜ r ≡ flowOk f ⌝ }
-{
-    match f {
-        Flow::Litres(x) => litres::litres_ok(x),
-        Flow::NoSensor => true,
-    }
 }
 
 // The water where no litres step runs.
