@@ -89,9 +89,9 @@ neighbour rs m v = someBelow (λ e. eqb (ownerOf rs e) m && inAlphabet rs v e) (
 abbrev pub neighbours : List Record → ℕ → ℕ
 neighbours rs m = maskOf (λ v. ltb v (supervisorsOf rs) && neighbour rs m v) 32
 
--- "The count of neighbours is the number of ones in the neighbour mask."
-abbrev pub neighbourCount : List Record → ℕ → ℕ
-neighbourCount rs m = ones (neighbours rs m)
+-- document 01's count of neighbours: "The count of neighbours is the number of ones in the neighbour mask.", by that mask
+abbrev pub neighbourCount : ℕ → ℕ
+neighbourCount mask = ones mask
 
 -- A step counts with its fields in range and, where it is a respond, with the number of an event. In an accepted plan every step does.
 abbrev pub counts : Record → Bool

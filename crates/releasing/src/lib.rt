@@ -1,11 +1,11 @@
 // The releases of a turn: specs/Released.antt.
 ghost use mathlib.Core.Path.{_≡_};
 ghost use Prim.Native.Nat.{_*_, _≤_};
-ghost use lib.Count.{ones};
 ghost use lib.ListN.{length};
 ghost use Rattle.places.specs.Places.{recordsBy};
 ghost use Rattle.messages.specs.Message.{messageBytes, written, putAt};
 ghost use Rattle.messages.specs.declared.Message.the-variants.{Release};
+ghost use Rattle.plan.specs.Plan.{neighbourCount};
 ghost use Rattle.permits.specs.Module.{eventFor};
 ghost use Rattle.releasing.specs.Released.{releaseBytes, Released};
 use messages::Message;
@@ -60,9 +60,9 @@ fn release_all(image: &[u8], places: Places, m: u8, mask: u32, t: Turn, buffer: 
     }
 }
 
-// The bytes of the releases to the supervisors of a mask, 4 of each.
+// The bytes of the releases to all neighbours of a mask, 4 of each.
 pub fn length_of(mask: u32) -> usize
-    ensures { λ r. ⌜ r ≡ 4 * ones mask ⌝ }
+    ensures { λ r. ⌜ r ≡ 4 * neighbourCount mask ⌝ }
 {
     4 * u32::count_ones(mask) as usize
 }
