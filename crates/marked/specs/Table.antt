@@ -1,5 +1,5 @@
--- Document 01, "Marked ◆", as one table over the definitions, each row by computation. `p-length` is the length that the sheet gives for P,
--- not a marked row.
+-- Document 01, "Marked ◆", as one table over the definitions, each row by computation. A quotation above rows is a marked one of document 01; rows
+-- that are not marked there follow a comment that says so.
 use Prim.Native.Nat.{ℕ}
 use mathlib.Core.Path.{_≡_, refl}
 use mathlib.Core.List.{List, [], _∷_}
@@ -20,7 +20,9 @@ use Rattle.rules.specs.Rules.{indexRuns, inOrder, namesDeclared, keepsRules, al
 use Rattle.rules.specs.Check.{faultOf, checkWalk, verdictOf}
 use Rattle.rules.specs.declared.Verdict.the-variants.{Accepted, Refused}
 use Rattle.plan.specs.Plan.{field4, target, stateOr, supervisorAfter, counting}
-use Rattle.water.specs.Water.{flowOk, waterOf, added}
+use Rattle.water.specs.Water.{flowOk, waterOf, added, sum}
+use Rattle.water.specs.declared.Water.{Water}
+use Rattle.water.specs.declared.Flow.{Flow}
 use Rattle.water.specs.declared.Flow.the-variants.{Litres}
 use Rattle.modules.specs.Procedure.{calledBy, arriveAt, performed, tickOf, respondOf}
 use Rattle.modules.specs.Turn.{byResponse, byCommand, enabled, byChoice, turnOn, turnOf, queuedAny, wish, startOwn}
@@ -86,9 +88,14 @@ m2 = M.moduleDeliver planP 0 m1 (0x02 ∷ 0 ∷ 0 ∷ 0 ∷ 0 ∷ 0 ∷ 0 ∷ 0 
 abbrev pub f64 : ℕ → ℕ → Float
 f64 a b = round binary64 false a b
 
+-- the water of a litres step of 3 litres after the readings 2.5 and 0.125, each put to it by `plus`
+abbrev pub twoReadings : (Water → Flow → Water) → Water
+twoReadings plus = plus (plus (record { target = f64 3 1; total = f64 0 1 }) (Litres (f64 5 2))) (Litres (f64 1 8))
+
 pub record Marked : Type 0 where
-  -- "P accepted; empty image 3 at 0; `1F` 4 at 0; `10 01 00 01 1F` 8 at 4"
+  -- not marked: the length that the sheet gives for P
   pub p-length : length planP ≡ 82
+  -- "P accepted; empty image 3 at 0; `1F` 4 at 0; `10 01 00 01 1F` 8 at 4"
   pub p-accepted : verdictOf planP ≡ Accepted
   pub empty-image : verdictOf [] ≡ Refused 3 0
   pub end-alone : verdictOf (0x1f ∷ []) ≡ Refused 4 0
@@ -101,27 +108,30 @@ pub record Marked : Type 0 where
   pub fourth-queued : queueOf (ownAt d4 1) ≡ 3 ∷ []
   pub fifth : turnCall planP d4 1 .answer ≡ Turned (Event 3)
   pub sixth : turnCall planP d5 0 .answer ≡ Turned Nothing
+  -- not marked: the last line of the sheet, `states 1 0 0`
   pub module-0 : ownAt (turnCall planP d5 0 .device) 0 .state ≡ 1
   pub module-1 : ownAt (turnCall planP d5 0 .device) 1 .state ≡ 0
   pub supervisor-0 : stateAt (turnCall planP d5 0 .device) 0 ≡ 0
   -- "module 0's bid `01 00 00`"
   pub bid : M.moduleStep planP 0 m0 buffer .answer ≡ Bids 0 3
   pub bid-bytes : take 4 (M.moduleStep planP 0 m0 buffer .buffer) ≡ 0x01 ∷ 0 ∷ 0 ∷ 0xaa ∷ []
-  -- "the permit `02 00 00 0000000000000001`"
+  -- not marked: the bid is noted
   pub noted : S.supervisorDeliver planP 0 v0 (0x01 ∷ 0 ∷ 0 ∷ []) .answer ≡ Done
+  -- "the permit `02 00 00 0000000000000001`"
   pub permit : S.supervisorStep planP 0 v1 buffer .answer ≡ Sends 0 11
   pub permit-bytes : take 12 (S.supervisorStep planP 0 v1 buffer .buffer) ≡ 0x02 ∷ 0 ∷ 0 ∷ 0 ∷ 0 ∷ 0 ∷ 0 ∷ 0 ∷ 0 ∷ 0 ∷ 1 ∷ 0xaa ∷ []
   -- "its release `03 00 00 FF`"
   pub release : M.moduleStep planP 0 m2 buffer .answer ≡ Turns Nothing 4
   pub release-bytes : take 5 (M.moduleStep planP 0 m2 buffer .buffer) ≡ 0x03 ∷ 0 ∷ 0 ∷ 0xff ∷ 0xaa ∷ []
-  -- "readings 2.5 then 0.125 total 21 eighths"
-  pub readings : count (added (added (record { target = f64 3 1; total = f64 0 1 }) (Litres (f64 5 2))) (Litres (f64 1 8)) .total) ≡ 21
+  -- "readings 2.5 then 0.125 total 21 eighths": by the whole-number sum, and by the f64 sum that the code makes
+  pub readings : count (twoReadings added .total) ≡ 21
+  pub readings-f64 : count (twoReadings sum .total) ≡ 21
   -- "64 taken, 64.125 gets 14"
   pub reading-64 : tickCall planP d0 0 (Litres (f64 64 1)) .answer ≡ Done
   pub reading-more : tickCall planP d0 0 (Litres (f64 513 8)) .answer ≡ NotDone 14 0
 
 pub marked : Marked
-unfolding planP d0 d1 d2 d3 d4 d5 m0 m1 m2 v0 v1 bit allBelow putBit least orElse someBelow maskOf wordAt wordBytes isEighths count eighths round add ofBits bodyLen kindOf inRange operandInRange keyOf sameKey precedes recordOf walkOf recordsIn findIn field1 field2 field3 wordField found fieldOf stepsOf indexRuns inOrder namesDeclared keepsRules allDeclared faultOf checkWalk verdictOf field4 target stateOr supervisorAfter counting waterOf flowOk added arriveAt performed tickOf respondOf byResponse byCommand enabled byChoice turnOn turnOf queuedAny wish startOwn every queueFits idleFits stepFits procedureFits ownFits ownEmpty listFrom ownSlotFits stateSlotFits startSlot startState deviceFits shownBy stateAfterTurn turned afterTurn turnIn turnBy calledBy replyIn replyBy startBy messageBytes parse named M.missingIn M.heldIn M.fitsIn M.choiceOn M.choice M.eventFor M.releasesIn bytesOfMessages M.sentBy M.answerBy M.stateBy M.stepIn M.stepBy M.isFor M.bidWith M.takenBy M.deliverIn M.deliverBy M.startBy S.holderFits S.supervisorFits S.moduleAfter S.nextNoted S.servedOn S.sentTo S.answerBy S.stateAfter S.stepIn S.stepBy S.takenBy S.deliverIn S.deliverBy S.startBy
+unfolding planP d0 d1 d2 d3 d4 d5 m0 m1 m2 v0 v1 bit allBelow putBit least orElse someBelow maskOf wordAt wordBytes isEighths count eighths round add ofBits bodyLen kindOf inRange operandInRange keyOf sameKey precedes recordOf walkOf recordsIn findIn field1 field2 field3 wordField found fieldOf stepsOf indexRuns inOrder namesDeclared keepsRules allDeclared faultOf checkWalk verdictOf field4 target stateOr supervisorAfter counting waterOf flowOk added sum arriveAt performed tickOf respondOf byResponse byCommand enabled byChoice turnOn turnOf queuedAny wish startOwn every queueFits idleFits stepFits procedureFits ownFits ownEmpty listFrom ownSlotFits stateSlotFits startSlot startState deviceFits shownBy stateAfterTurn turned afterTurn turnIn turnBy calledBy replyIn replyBy startBy messageBytes parse named M.missingIn M.heldIn M.fitsIn M.choiceOn M.choice M.eventFor M.releasesIn bytesOfMessages M.sentBy M.answerBy M.stateBy M.stepIn M.stepBy M.isFor M.bidWith M.takenBy M.deliverIn M.deliverBy M.startBy S.holderFits S.supervisorFits S.moduleAfter S.nextNoted S.servedOn S.sentTo S.answerBy S.stateAfter S.stepIn S.stepBy S.takenBy S.deliverIn S.deliverBy S.startBy
 marked = record {
   p-length = refl;
   p-accepted = refl;
@@ -146,6 +156,7 @@ marked = record {
   release = refl;
   release-bytes = refl;
   readings = refl;
+  readings-f64 = refl;
   reading-64 = refl;
   reading-more = refl;
 }
