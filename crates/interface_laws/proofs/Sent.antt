@@ -215,14 +215,14 @@ module _ (rs : List Record) (plan : Sound rs) (m : ℕ) where
       last = cond (bit (neighbours rs m) n) (Release m n (M.eventFor rs n t) ∷ []) []
 
   -- an accepted bid is to one of the 32 supervisors
-  bid-to : (o : Option ℕ) (n w b h : Bool) (v : ℕ) → M.choiceOn o n w b h ≡ M.bidsTo v → o ≡ some v
+  bid-to : (o : Option ℕ) (n b h w : Bool) (v : ℕ) → M.choiceOn o n b h w ≡ M.bidsTo v → o ≡ some v
   unfolding M.choiceOn
-  bid-to none true w b h v e = let z : _≡_ {A = ℕ} 0 1 = cc in absurd (omega arith)
-  bid-to none false true b h v e = let z : _≡_ {A = ℕ} 0 1 = cc in absurd (omega arith)
-  bid-to none false false b h v e = let z : _≡_ {A = ℕ} 0 1 = cc in absurd (omega arith)
-  bid-to (some u) n w true h v e = let z : _≡_ {A = ℕ} 0 1 = cc in absurd (omega arith)
-  bid-to (some u) n w false true v e = let z : u ≡ v = cc in ap some z
-  bid-to (some u) n true false false v e = let z : u ≡ v = cc in ap some z
+  bid-to none true b h w v e = let z : _≡_ {A = ℕ} 0 1 = cc in absurd (omega arith)
+  bid-to none false b h true v e = let z : _≡_ {A = ℕ} 0 1 = cc in absurd (omega arith)
+  bid-to none false b h false v e = let z : _≡_ {A = ℕ} 0 1 = cc in absurd (omega arith)
+  bid-to (some u) n true h w v e = let z : _≡_ {A = ℕ} 0 1 = cc in absurd (omega arith)
+  bid-to (some u) n false true w v e = let z : u ≡ v = cc in ap some z
+  bid-to (some u) n false false true v e = let z : u ≡ v = cc in ap some z
   bid-to (some u) n false false false v e = let z : _≡_ {A = ℕ} 0 1 = cc in absurd (omega arith)
 
   module _ (x : Module) (b : List ℕ) (l : length b ≡ bufferLength) where

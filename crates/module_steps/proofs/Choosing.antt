@@ -29,37 +29,37 @@ module _ (rs : List Record) (m : ℕ) (sure : Bool) (own : Own) where
 
 -- ---- the choice
 
-turns : (o : Option ℕ) (n w b h : Bool) → isSome o ≡ false → (n || w) ≡ true → takesTurn ≡ choiceOn o n w b h
+turns : (o : Option ℕ) (n b h w : Bool) → isSome o ≡ false → (n || w) ≡ true → takesTurn ≡ choiceOn o n b h w
 unfolding choiceOn
-turns none true w b h p q = refl
-turns none false true b h p q = refl
-turns none false false b h p q = absurd (true≢false (sym q))
-turns (some v) n w b h p q = absurd (true≢false p)
+turns none true b h w p q = refl
+turns none false b h true p q = refl
+turns none false b h false p q = absurd (true≢false (sym q))
+turns (some v) n b h w p q = absurd (true≢false p)
 
-rests : (o : Option ℕ) (n w b h : Bool) → isSome o ≡ false → (n || w) ≡ false → waits ≡ choiceOn o n w b h
+rests : (o : Option ℕ) (n b h w : Bool) → isSome o ≡ false → (n || w) ≡ false → waits ≡ choiceOn o n b h w
 unfolding choiceOn
-rests none true w b h p q = absurd (true≢false q)
-rests none false true b h p q = absurd (true≢false q)
-rests none false false b h p q = refl
-rests (some v) n w b h p q = absurd (true≢false p)
+rests none true b h w p q = absurd (true≢false q)
+rests none false b h true p q = absurd (true≢false q)
+rests none false b h false p q = refl
+rests (some v) n b h w p q = absurd (true≢false p)
 
-stands : (o : Option ℕ) (n w h : Bool) → isSome o ≡ true → waits ≡ choiceOn o n w true h
+stands : (o : Option ℕ) (n h w : Bool) → isSome o ≡ true → waits ≡ choiceOn o n true h w
 unfolding choiceOn
-stands none n w h p = absurd (true≢false (sym p))
-stands (some v) n w h p = refl
+stands none n h w p = absurd (true≢false (sym p))
+stands (some v) n h w p = refl
 
-idles : (o : Option ℕ) (n w b h : Bool) → isSome o ≡ true → (h || w) ≡ false → waits ≡ choiceOn o n w b h
+idles : (o : Option ℕ) (n b h w : Bool) → isSome o ≡ true → (h || w) ≡ false → waits ≡ choiceOn o n b h w
 unfolding choiceOn
-idles none n w b h p q = absurd (true≢false (sym p))
-idles (some v) n w true h p q = refl
-idles (some v) n w false true p q = absurd (true≢false q)
-idles (some v) n true false false p q = absurd (true≢false q)
+idles none n b h w p q = absurd (true≢false (sym p))
+idles (some v) n true h w p q = refl
+idles (some v) n false true w p q = absurd (true≢false q)
+idles (some v) n false false true p q = absurd (true≢false q)
 idles (some v) n false false false p q = refl
 
-bids : (v : ℕ) (n w h : Bool) → (h || w) ≡ true → bidsTo v ≡ choiceOn (some v) n w false h
+bids : (v : ℕ) (n h w : Bool) → (h || w) ≡ true → bidsTo v ≡ choiceOn (some v) n false h w
 unfolding choiceOn
-bids v n w true q = refl
-bids v n true false q = refl
+bids v n true w q = refl
+bids v n false true q = refl
 bids v n false false q = absurd (true≢false (sym q))
 
 module _ (rs : List Record) (m adjacent : ℕ) (x : Module) (e : adjacent ≡ neighbours rs m) where
@@ -71,17 +71,17 @@ module _ (rs : List Record) (m adjacent : ℕ) (x : Module) (e : adjacent ≡ ne
 
   -- the choice by the code's numbers, with a bid outstanding or not
   abbrev by : Option ℕ → Bool → Choice
-  by o b = choiceOn o (not (eqb adjacent 0)) wishes b (not (eqb (x .held) 0))
+  by o b = choiceOn o (not (eqb adjacent 0)) b (not (eqb (x .held) 0)) wishes
 
   by-is : by lowest (x .bid) ≡ choice rs m x
   unfolding choice
-  by-is = ap (λ (n : ℕ). choiceOn lowest (not (eqb n 0)) wishes (x .bid) (not (eqb (x .held) 0))) e
+  by-is = ap (λ (n : ℕ). choiceOn lowest (not (eqb n 0)) (x .bid) (not (eqb (x .held) 0)) wishes) e
 
   -- w is whether a permit is held or there is a wish
   pub bid-by : {w : Bool} {r : Maybe} {v : ℕ} → x .bid ≡ false → w ≡ (not (eqb (x .held) 0) || wish rs m (x .own)) → not w ≡ false
       → optionOf r ≡ missingIn adjacent (x .held) → r ≡ Just v → bidsTo v ≡ choice rs m x
   bid-by {w} {v = v} p g q h t =
-      bids v (not (eqb adjacent 0)) wishes (not (eqb (x .held) 0)) (sym g ∙ not-false w q)
+      bids v (not (eqb adjacent 0)) (not (eqb (x .held) 0)) wishes (sym g ∙ not-false w q)
       ∙ ap₂ by (ap optionOf (sym t) ∙ h ∙ missing-is adjacent (x .held) rs m e) (sym p) ∙ by-is
 
   module _ {l : Bool} (u : heldFits rs m (x .held) ≡ true) (f : Lacking adjacent (x .held) l) where
@@ -90,16 +90,16 @@ module _ (rs : List Record) (m adjacent : ℕ) (x : Module) (e : adjacent ≡ ne
 
     -- here w is whether there are neighbours or a wish
     pub turn-by : {w : Bool} → l ≡ false → w ≡ (not (eqb adjacent 0) || wish rs m (x .own)) → w ≡ true → takesTurn ≡ choice rs m x
-    turn-by p g q = turns lowest (not (eqb adjacent 0)) wishes (x .bid) (not (eqb (x .held) 0)) (is ∙ p) (sym g ∙ q) ∙ by-is
+    turn-by p g q = turns lowest (not (eqb adjacent 0)) (x .bid) (not (eqb (x .held) 0)) wishes (is ∙ p) (sym g ∙ q) ∙ by-is
 
     pub rest-by : {w : Bool} → l ≡ false → w ≡ (not (eqb adjacent 0) || wish rs m (x .own)) → w ≡ false → waits ≡ choice rs m x
-    rest-by p g q = rests lowest (not (eqb adjacent 0)) wishes (x .bid) (not (eqb (x .held) 0)) (is ∙ p) (sym g ∙ q) ∙ by-is
+    rest-by p g q = rests lowest (not (eqb adjacent 0)) (x .bid) (not (eqb (x .held) 0)) wishes (is ∙ p) (sym g ∙ q) ∙ by-is
 
     pub stand-by : l ≡ true → x .bid ≡ true → waits ≡ choice rs m x
-    stand-by p q = stands lowest (not (eqb adjacent 0)) wishes (not (eqb (x .held) 0)) (is ∙ p) ∙ ap (by lowest) (sym q) ∙ by-is
+    stand-by p q = stands lowest (not (eqb adjacent 0)) (not (eqb (x .held) 0)) wishes (is ∙ p) ∙ ap (by lowest) (sym q) ∙ by-is
 
     pub idle-by : {w : Bool} → l ≡ true → w ≡ (not (eqb (x .held) 0) || wish rs m (x .own)) → not w ≡ true → waits ≡ choice rs m x
-    idle-by {w} p g q = idles lowest (not (eqb adjacent 0)) wishes (x .bid) (not (eqb (x .held) 0)) (is ∙ p) (sym g ∙ not-true w q) ∙ by-is
+    idle-by {w} p g q = idles lowest (not (eqb adjacent 0)) (x .bid) (not (eqb (x .held) 0)) wishes (is ∙ p) (sym g ∙ not-true w q) ∙ by-is
 
     -- where a permit is missing there is a lowest
     pub none-by : {r : Maybe} → l ≡ true → optionOf r ≡ missingIn adjacent (x .held) → r ≡ Nothing → waits ≡ choice rs m x

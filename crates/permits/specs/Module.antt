@@ -63,20 +63,19 @@ pub data Choice : Type 0 where
   takesTurn waits : Choice
   bidsTo : ℕ → Choice
 
--- "Module step: with every neighbour's permit held, it takes a turn .. Otherwise, with no bid outstanding and either a permit held or a wish,
--- it bids to its lowest neighbour not held. Otherwise it waits. .. A module without neighbours takes its turn if it has a wish, else waits."
--- The arguments: the lowest neighbour not held, whether there are neighbours, a wish, a bid outstanding, a permit held.
-unfoldable pub choiceOn : Option ℕ → Bool → Bool → Bool → Bool → Choice
-choiceOn none true w b h = takesTurn
-choiceOn none false true b h = takesTurn
-choiceOn none false false b h = waits
-choiceOn (some v) n w true h = waits
-choiceOn (some v) n w false true = bidsTo v
-choiceOn (some v) n true false false = bidsTo v
-choiceOn (some v) n false false false = waits
+-- The choice of a module step, in the order of its sentences: by its lowest neighbour not held, if any; whether it has neighbours; whether a bid is
+-- outstanding; whether a permit is held; whether it has a wish.
+unfoldable pub choiceOn : (notHeld : Option ℕ) (anyNeighbour outstanding holds wishes : Bool) → Choice
+-- "with every neighbour's permit held, it takes a turn"
+choiceOn none true outstanding holds wishes = takesTurn
+-- "A module without neighbours takes its turn if it has a wish, else waits."
+choiceOn none false outstanding holds wishes = cond wishes takesTurn waits
+-- "Otherwise, with no bid outstanding and either a permit held or a wish, it bids to its lowest neighbour not held. Otherwise it waits."
+choiceOn (some v) anyNeighbour false holds wishes = cond (holds || wishes) (bidsTo v) waits
+choiceOn (some v) anyNeighbour true holds wishes = waits
 
 unfoldable pub choice : List Record → ℕ → Module → Choice
-choice rs m x = choiceOn (missing rs m (x .held)) (not (eqb (neighbours rs m) 0)) (wish rs m (x .own)) (x .bid) (not (eqb (x .held) 0))
+choice rs m x = choiceOn (missing rs m (x .held)) (not (eqb (neighbours rs m) 0)) (x .bid) (not (eqb (x .held) 0)) (wish rs m (x .own))
 
 -- "it takes a turn over the union of the masks received, releases all .. and holds none"
 abbrev pub turnTaken : List Record → ℕ → Module → Turned

@@ -105,23 +105,23 @@ module _ (P : Plan) (A : Laws P) (O : OneDevice) (m : ℕ) (mine : m < P .module
     turn-leads Nothing o l = same-state P O m o p (λ i. l) a
 
 -- ---- what a choice says
-pub choice-turn : (o : Option ℕ) (n w : Bool) (b : Option ℕ) (h : Bool) → choiceOn o n w b h ≡ takesTurn → o ≡ none
+pub choice-turn : (o : Option ℕ) (n : Bool) (b : Option ℕ) (h w : Bool) → choiceOn o n b h w ≡ takesTurn → o ≡ none
 unfolding choiceOn
-choice-turn none n w b h e = refl
-choice-turn (some s) n w (some b) h e = let z : _≡_ {A = ℕ} 0 1 = cc in absurd (omega arith)
-choice-turn (some s) n w none true e = let z : _≡_ {A = ℕ} 0 1 = cc in absurd (omega arith)
-choice-turn (some s) n true none false e = let z : _≡_ {A = ℕ} 0 1 = cc in absurd (omega arith)
-choice-turn (some s) n false none false e = let z : _≡_ {A = ℕ} 0 1 = cc in absurd (omega arith)
+choice-turn none n b h w e = refl
+choice-turn (some s) n (some b) h w e = let z : _≡_ {A = ℕ} 0 1 = cc in absurd (omega arith)
+choice-turn (some s) n none true w e = let z : _≡_ {A = ℕ} 0 1 = cc in absurd (omega arith)
+choice-turn (some s) n none false true e = let z : _≡_ {A = ℕ} 0 1 = cc in absurd (omega arith)
+choice-turn (some s) n none false false e = let z : _≡_ {A = ℕ} 0 1 = cc in absurd (omega arith)
 
-pub choice-bid : (o : Option ℕ) (n w : Bool) (b : Option ℕ) (h : Bool) (s : ℕ) → choiceOn o n w b h ≡ bidsTo s → (o ≡ some s) × (b ≡ none)
+pub choice-bid : (o : Option ℕ) (n : Bool) (b : Option ℕ) (h w : Bool) (s : ℕ) → choiceOn o n b h w ≡ bidsTo s → (o ≡ some s) × (b ≡ none)
 unfolding choiceOn
-choice-bid none true w b h s e = let z : _≡_ {A = ℕ} 0 1 = cc in absurd (omega arith)
-choice-bid none false true b h s e = let z : _≡_ {A = ℕ} 0 1 = cc in absurd (omega arith)
-choice-bid none false false b h s e = let z : _≡_ {A = ℕ} 0 1 = cc in absurd (omega arith)
-choice-bid (some t) n w (some b) h s e = let z : _≡_ {A = ℕ} 0 1 = cc in absurd (omega arith)
-choice-bid (some t) n w none true s e = let z : t ≡ s = cc in (ap {B = Option ℕ} some z, refl)
-choice-bid (some t) n true none false s e = let z : t ≡ s = cc in (ap {B = Option ℕ} some z, refl)
-choice-bid (some t) n false none false s e = let z : _≡_ {A = ℕ} 0 1 = cc in absurd (omega arith)
+choice-bid none true b h w s e = let z : _≡_ {A = ℕ} 0 1 = cc in absurd (omega arith)
+choice-bid none false b h true s e = let z : _≡_ {A = ℕ} 0 1 = cc in absurd (omega arith)
+choice-bid none false b h false s e = let z : _≡_ {A = ℕ} 0 1 = cc in absurd (omega arith)
+choice-bid (some t) n (some b) h w s e = let z : _≡_ {A = ℕ} 0 1 = cc in absurd (omega arith)
+choice-bid (some t) n none true w s e = let z : t ≡ s = cc in (ap {B = Option ℕ} some z, refl)
+choice-bid (some t) n none false true s e = let z : t ≡ s = cc in (ap {B = Option ℕ} some z, refl)
+choice-bid (some t) n none false false s e = let z : _≡_ {A = ℕ} 0 1 = cc in absurd (omega arith)
 
 -- the module served is noted, and the permit was home
 pub served-noted : (y : SupervisorState) (m : ℕ) → served y ≡ some m → (y .holder ≡ none) × (bit (y .noted) m ≡ true)
@@ -157,7 +157,7 @@ module _ (P : Plan) (A : Laws P) (D : System) (O : OneDevice) (I : Inv P D O) wh
   module-step-good m b (bidsTo s) e = unfold stepFed stepSeen in (nothing P O (afterModuleStep P D m (bidsTo s)) (bidding-keeps P D O I m s (c .1) (c .0)))
     where
       c : (missing P m (D .moduleAt m .held) ≡ some s) × (D .moduleAt m .outstanding ≡ none)
-      c = unfold choice in (choice-bid (missing P m (D .moduleAt m .held)) _ _ (D .moduleAt m .outstanding) _ s e)
+      c = unfold choice in (choice-bid (missing P m (D .moduleAt m .held)) _ (D .moduleAt m .outstanding) _ _ s e)
   module-step-good m b waits e = unfold stepFed stepSeen afterModuleStep in (nothing P O D I)
 
   supervisor-step-keeps : (s : ℕ) (o : Option ℕ) → served (D .supervisorAt s) ≡ o → Inv P (afterSupervisorStep P D s o) O

@@ -1,6 +1,6 @@
 -- Document 01, "Turns on one device" and "Permits and messages", over an abstract plan: one rule for each change of state.
 use Prim.Native.Nat.{ℕ, zero, suc}
-use mathlib.Core.Bool.{Bool, true, false, cond, not, _&&_}
+use mathlib.Core.Bool.{Bool, true, false, cond, not, _&&_, _||_}
 use mathlib.Core.List.{List, [], _∷_, _++_}
 use mathlib.Core.Option.{Option, none, some, Option·getD, Option·map}
 use lib.Dec.{eqb}
@@ -80,22 +80,19 @@ pub data Choice : Type 0 where
   takesTurn waits : Choice
   bidsTo : ℕ → Choice
 
--- "Module step: with every neighbour's permit held, it takes a turn over the union of the masks received, releases all in ascending order
--- and holds none."
--- "Otherwise, with no bid outstanding and either a permit held or a wish, it bids to its lowest neighbour not held. Otherwise it waits."
+-- The choice of a module step, in the order of its sentences: by its lowest neighbour not held, if any; whether it has neighbours; the supervisor of
+-- the bid outstanding, if any; whether a permit is held; whether it has a wish.
+unfoldable pub choiceOn : (notHeld : Option ℕ) (anyNeighbour : Bool) (outstanding : Option ℕ) (holds wishes : Bool) → Choice
+-- "with every neighbour's permit held, it takes a turn"
+choiceOn none true outstanding holds wishes = takesTurn
 -- "A module without neighbours takes its turn if it has a wish, else waits."
--- Here over: the lowest neighbour not held, whether it has neighbours, a wish, the bid outstanding, whether a permit is held.
-unfoldable pub choiceOn : Option ℕ → Bool → Bool → Option ℕ → Bool → Choice
-choiceOn none true wish bids holds = takesTurn
-choiceOn none false true bids holds = takesTurn
-choiceOn none false false bids holds = waits
-choiceOn (some s) neighbours wish (some b) holds = waits
-choiceOn (some s) neighbours wish none true = bidsTo s
-choiceOn (some s) neighbours true none false = bidsTo s
-choiceOn (some s) neighbours false none false = waits
+choiceOn none false outstanding holds wishes = cond wishes takesTurn waits
+-- "Otherwise, with no bid outstanding and either a permit held or a wish, it bids to its lowest neighbour not held. Otherwise it waits."
+choiceOn (some s) anyNeighbour none holds wishes = cond (holds || wishes) (bidsTo s) waits
+choiceOn (some s) anyNeighbour (some b) holds wishes = waits
 
 unfoldable pub choice : Plan → ℕ → ModuleState → Choice
-choice P m x = choiceOn (missing P m (x .held)) (hasNeighbour P m) (P .wish m (x .own)) (x .outstanding) (not (eqb (x .held) 0))
+choice P m x = choiceOn (missing P m (x .held)) (hasNeighbour P m) (x .outstanding) (not (eqb (x .held) 0)) (P .wish m (x .own))
 
 unfoldable pub afterTurn : Plan → ℕ → ModuleState → ModuleState
 afterTurn P m x = record { own = P .turn m (x .received) (x .own) .own; held = 0; received = 0; outstanding = x .outstanding }
