@@ -39,7 +39,7 @@ use Rattle.protocol.proofs.Theorem.{start-inv, whole, demand3, choice-bid, serv
 use Rattle.agreement.specs.PlanOf.{planOf}
 use Rattle.agreement.specs.System as A
 use Rattle.agreement.specs.Compared as C
-use Rattle.agreement.specs.Demand.{Taken, Progress, Demand}
+use Rattle.agreement.specs.Demand.{Taken, Progress, Demand3, Besides, Demand}
 use Rattle.agreement.proofs.Names.{messageOf, choiceOf}
 use Rattle.agreement.proofs.Fit.{SameModule, holderOf, module-fits, supervisor-fits}
 use Rattle.agreement.proofs.Steps.{afterOf, after-is, step-absent, serve-absent}
@@ -51,8 +51,8 @@ use Rattle.agreement.proofs.Start.{start-sim, start-same}
 use Rattle.agreement.proofs.Whole.{ran}
 
 -- the record is the rules' record
-record-same : (l : List P.Seen) → C.recordOf (map seenOf l) ≡ P.recordOf l
-unfolding C.recordOf P.recordOf seenOf
+record-same : (l : List P.Seen) → C.recordOfEvents (map seenOf l) ≡ P.recordOfEvents l
+unfolding C.recordOfEvents P.recordOfEvents seenOf
 record-same [] = refl
 record-same (P.turnSeen m t o ∷ l) = ap (λ (w : List ℕ). P.turnEvents t ++ w) (record-same l)
 record-same (P.replySeen m r o ∷ l) = record-same l
@@ -207,26 +207,31 @@ demand image bytes plan acts n =
     let r = ran image plan L acts (A.start image) (P.startSystem (planOf rs)) (P.startDevice (planOf rs)) (startCall image .device) n (start-sim image plan L) I (start-same image plan L) in
     let w = whole (planOf rs) L (map actOf acts) (P.startSystem (planOf rs)) (P.startDevice (planOf rs)) I in
     let d = demand3 (planOf rs) L (map actOf acts) in
-    let e : C.recordOf (C.seen image (A.start image) acts) ≡ P.recordOf (P.seen (planOf rs) (P.startSystem (planOf rs)) (map actOf acts)) = ap C.recordOf (r .seen) ∙ record-same (P.seen (planOf rs) (P.startSystem (planOf rs)) (map actOf acts)) in
+    let e : C.recordOfEvents (C.seen image (A.start image) acts) ≡ P.recordOfEvents (P.seen (planOf rs) (P.startSystem (planOf rs)) (map actOf acts)) = ap C.recordOfEvents (r .seen) ∙ record-same (P.seen (planOf rs) (P.startSystem (planOf rs)) (map actOf acts)) in
     let same : C.seen image (A.start image) acts ≡ C.deviceSeen image (startCall image .device) (C.fed image (A.start image) acts) =
     r .seen ∙ ap (map seenOf) (d .equal) ∙ sym (r .device) in
+    let claimed : Demand3 image acts =
     record {
-      equal = same;
-      records = ap C.recordOf same;
-      commands = ap (λ l. P.commandsOf (planOf rs) (C.recordOf l)) same;
-      legal = rw e (d .legal);
-      supervised = rw e (d .supervised);
-      home = λ v l h. r .sim .supervisors v l .state ∙ d .home v l (home-none _ _ (r .sim .supervisors v l .holder) (sym (permit-holder image v acts) ∙ h)) ∙ rw e;
-      out = λ v m l h. progress-same image plan L _ _ _ (r .sim) (w .inv) (d .out v m l (out-some _ _ m (r .sim .supervisors v l .holder) (sym (permit-holder image v acts) ∙ h)));
-      holder = λ v. permit-holder image v acts;
-      taken = all-taken image plan L _ _ _ (r .sim) (w .inv);
-      module-fits = λ m l. module-fits rs L _ _ (w .inv) m _ l (r .sim .modules m l);
-      supervisor-fits = λ v l. supervisor-fits rs L _ _ (w .inv) v _ l (r .sim .supervisors v l);
-      module-steps = λ m b k o l c q. module-accepts rs m _ _ k o (sym (ap (λ z. z .answer) (module-call image plan L _ _ _ (r .sim) (w .inv) m b l c)) ∙ q);
-      device-fits = r .device-fits;
       absent-module-step = λ m b l. step-absent rs m _ (verdictOf image) b plan l;
       absent-supervisor-step = λ v b l. serve-absent rs v _ (verdictOf image) b plan l;
       absent-respond = λ m e l. reply-absent image plan L _ _ _ (r .sim) (w .inv) m _ l;
       absent-tick = λ m f l. reply-absent image plan L _ _ _ (r .sim) (w .inv) m _ l;
+      equal = same;
+      records = ap C.recordOfEvents same;
+      commands = ap (λ l. P.commandsOf (planOf rs) (C.recordOfEvents l)) same;
+      legal = rw e (d .legal);
+      home = λ v l h. r .sim .supervisors v l .state ∙ d .home v l (home-none _ _ (r .sim .supervisors v l .holder) (sym (permit-holder image v acts) ∙ h)) ∙ rw e;
+      out = λ v m l h. progress-same image plan L _ _ _ (r .sim) (w .inv) (d .out v m l (out-some _ _ m (r .sim .supervisors v l .holder) (sym (permit-holder image v acts) ∙ h)));
+    } in
+    let more : Besides image acts =
+    record {
+      supervised = rw e (d .supervised);
+      holder = λ v. permit-holder image v acts;
+      taken = all-taken image plan L _ _ _ (r .sim) (w .inv);
+      module-fits = λ m l. module-fits rs L _ _ (w .inv) m _ l (r .sim .modules m l);
+      supervisor-fits = λ v l. supervisor-fits rs L _ _ (w .inv) v _ l (r .sim .supervisors v l);
+      device-fits = r .device-fits;
+      module-steps = λ m b k o l c q. module-accepts rs m _ _ k o (sym (ap (λ z. z .answer) (module-call image plan L _ _ _ (r .sim) (w .inv) m b l c)) ∙ q);
       supervisor-steps = λ v b k o l c q. supervisor-accepts _ _ k o (sym (ap (λ z. z .answer) (supervisor-call image plan L _ _ _ (r .sim) (w .inv) v b l c)) ∙ q);
-    }
+    } in
+    (claimed, more)

@@ -10,7 +10,7 @@ use Rattle.rules.specs.Check.{IsPlan}
 use Rattle.device.specs.Device.{startCall}
 use Rattle.agreement.specs.System.{Act, AllLent, start, run}
 use Rattle.agreement.specs.Compared.{fed, deviceRun}
-use Rattle.agreement.specs.Demand.{Demand3}
+use Rattle.agreement.specs.Demand.{Demand3, Besides}
 use Rattle.device_bytes.specs.Device.{deviceBytes, deviceOf}
 use Rattle.packing.specs.Flow.{flowOf}
 use Rattle.device_interface.specs.Calls as DeviceCalls
@@ -29,6 +29,7 @@ pub record OverBytes (image : List ℕ) (acts : List Act) : Type 0 where
   -- and they are read as the states of which demand 3 holds
   pub states : decoded (bytesRun image (bytesStart image) acts .memory) ≡ run image (start image) acts
   pub demand : Demand3 image acts
+  pub besides : Besides image acts
   -- the turns fed, told by the answers, are those that the rules take, so that `equal` leaves none out; the one device then gives the answers and the
   -- bytes of its calls by value
   pub feeds : bytesFed image (bytesStart image) acts ≡ fed image (start image) acts

@@ -19,7 +19,7 @@ use Rattle.modules.specs.declared.Reply.{Reply}
 use Rattle.protocol.specs.Generic.{update, Picked, pick}
 use Rattle.protocol.specs.Plan.{Plan, Fired, TurnLaw, OwnLaws, Laws}
 use Rattle.protocol.specs.Rules.{OneDevice, stateAfter, shownBelow, deviceTurn, DeviceAct, deviceResponds, deviceTicks, deviceStep, Message, bid, permit, release, missing, Choice, takesTurn, waits, bidsTo, choiceOn, choice, SupervisorState, firstNoted, servedOn, served}
-use Rattle.protocol.specs.System.{System, Act, moduleStep, supervisorStep, deliver, respond, tick, afterModuleStep, afterSupervisorStep, afterMessage, afterDelivery, afterOwn, step, run, startSystem, startDevice, Seen, turnSeen, replySeen, repliedSeen, stepSeen, actSeen, seen, stepFed, actFed, fed, deviceActSeen, deviceRun, deviceSeen, turnEvents, recordOf, commandsOf, Position, startPosition, afterEvent, replay, LegalEvent, Legal, none-left, next}
+use Rattle.protocol.specs.System.{System, Act, moduleStep, supervisorStep, deliver, respond, tick, afterModuleStep, afterSupervisorStep, afterMessage, afterDelivery, afterOwn, step, run, startSystem, startDevice, Seen, turnSeen, replySeen, repliedSeen, stepSeen, actSeen, seen, stepFed, actFed, fed, deviceActSeen, deviceRun, deviceSeen, turnEvents, recordOfEvents, commandsOf, Position, startPosition, afterEvent, replay, LegalEvent, Legal, none-left, next}
 use Rattle.protocol.specs.Demand.{Demand3}
 use Rattle.bits.proofs.Least.{least-some}
 use Rattle.protocol.proofs.Tools.{clash, either-way, digit, oneAt, update-same, update-other, update-each, count-nil, nil, Inserted, pick-inserted}
@@ -38,11 +38,11 @@ pub record StandsAt (P : Plan) (O : OneDevice) (p : Position) : Type 0 where
 pub record Good (P : Plan) (O : OneDevice) (D′ : System) (fs : List DeviceAct) (vs : List Seen) : Type 0 where
   pub inv : Inv P D′ (deviceRun P O fs)
   pub equal : vs ≡ deviceSeen P O fs
-  pub legal : (p : Position) → StandsAt P O p → Legal P p (recordOf vs)
-  pub stands : (p : Position) → StandsAt P O p → StandsAt P (deviceRun P O fs) (replay P p (recordOf vs))
+  pub legal : (p : Position) → StandsAt P O p → Legal P p (recordOfEvents vs)
+  pub stands : (p : Position) → StandsAt P O p → StandsAt P (deviceRun P O fs) (replay P p (recordOfEvents vs))
 
 nothing : (P : Plan) (O : OneDevice) (D′ : System) → Inv P D′ O → Good P O D′ [] []
-unfolding deviceRun deviceSeen recordOf replay
+unfolding deviceRun deviceSeen recordOfEvents replay
 nothing P O D′ I = record { inv = I; equal = refl; legal = λ p a. none-left; stands = λ p a. a }
 
 -- an act on a party that the plan may lack
@@ -144,8 +144,8 @@ module _ (P : Plan) (A : Laws P) (D : System) (O : OneDevice) (I : Inv P D O) wh
   turn-good m b h = record {
     inv = turn-keeps P A D O I m b h;
     equal = rw (turn-agrees P A D O I m b h);
-    legal = λ p a. unfold recordOf in (rw (turn-agrees P A D O I m b h) (turn-legal P A O m b p a (deviceTurn P O m .turn) (deviceTurn P O m .own) law));
-    stands = λ p a. unfold recordOf deviceStep in (rw (turn-agrees P A D O I m b h) (turn-leads P A O m b p a (deviceTurn P O m .turn) (deviceTurn P O m .own) law));
+    legal = λ p a. unfold recordOfEvents in (rw (turn-agrees P A D O I m b h) (turn-legal P A O m b p a (deviceTurn P O m .turn) (deviceTurn P O m .own) law));
+    stands = λ p a. unfold recordOfEvents deviceStep in (rw (turn-agrees P A D O I m b h) (turn-leads P A O m b p a (deviceTurn P O m .turn) (deviceTurn P O m .own) law));
   }
     where
       law : TurnLaw P m (shownBelow P (O .states) (P .supervisors)) (O .owns m) (deviceTurn P O m .turn) (deviceTurn P O m .own)
@@ -176,7 +176,7 @@ module _ (P : Plan) (A : Laws P) (D : System) (O : OneDevice) (I : Inv P D O) wh
   reply-good : (m : ℕ) (n : Reply) (o : Own) (act : DeviceAct) → P .fits m o ≡ true → o .state ≡ O .owns m .state
       → deviceStep P O act ≡ record { owns = update (O .owns) m o; states = O .states } → deviceActSeen P O act ≡ replySeen m n o
       → Good P O (afterOwn D m o) (act ∷ []) (replySeen m n o ∷ [])
-  unfolding deviceRun deviceSeen recordOf replay
+  unfolding deviceRun deviceSeen recordOfEvents replay
   reply-good m n o act k t e f = record {
     inv = rw e (own-keeps P D O m o I k);
     equal = rw f;
@@ -220,11 +220,11 @@ unfolding deviceRun deviceSeen
 deviceSeen-append P O [] r = refl
 deviceSeen-append P O (a ∷ l) r = ap (λ (x : List Seen). deviceActSeen P O a ∷ x) (deviceSeen-append P (deviceStep P O a) l r)
 
-recordOf-append : (l r : List Seen) → recordOf (l ++ r) ≡ recordOf l ++ recordOf r
-unfolding recordOf
-recordOf-append [] r = refl
-recordOf-append (turnSeen m t o ∷ l) r = ap (λ (y : List ℕ). turnEvents t ++ y) (recordOf-append l r) ∙ sym (append-assoc (turnEvents t) (recordOf l) (recordOf r))
-recordOf-append (replySeen m n o ∷ l) r = recordOf-append l r
+recordOfEvents-append : (l r : List Seen) → recordOfEvents (l ++ r) ≡ recordOfEvents l ++ recordOfEvents r
+unfolding recordOfEvents
+recordOfEvents-append [] r = refl
+recordOfEvents-append (turnSeen m t o ∷ l) r = ap (λ (y : List ℕ). turnEvents t ++ y) (recordOfEvents-append l r) ∙ sym (append-assoc (turnEvents t) (recordOfEvents l) (recordOfEvents r))
+recordOfEvents-append (replySeen m n o ∷ l) r = recordOfEvents-append l r
 
 replay-append : (P : Plan) (p : Position) (l r : List ℕ) → replay P p (l ++ r) ≡ replay P (replay P p l) r
 unfolding replay
@@ -239,8 +239,8 @@ legal-append P p (e ∷ l) r (next m t) h = next m (legal-append P (afterEvent P
 pub record Whole (P : Plan) (D : System) (O : OneDevice) (acts : List Act) : Type 0 where
   pub inv : Inv P (run P D acts) (deviceRun P O (fed P D acts))
   pub equal : seen P D acts ≡ deviceSeen P O (fed P D acts)
-  pub legal : (p : Position) → StandsAt P O p → Legal P p (recordOf (seen P D acts))
-  pub stands : (p : Position) → StandsAt P O p → StandsAt P (deviceRun P O (fed P D acts)) (replay P p (recordOf (seen P D acts)))
+  pub legal : (p : Position) → StandsAt P O p → Legal P p (recordOfEvents (seen P D acts))
+  pub stands : (p : Position) → StandsAt P O p → StandsAt P (deviceRun P O (fed P D acts)) (replay P p (recordOfEvents (seen P D acts)))
 
 whole-cons : (P : Plan) (D : System) (O : OneDevice) (a : Act) (l : List Act) → Good P O (step P D a) (actFed P D a) (actSeen P D a)
     → Whole P (step P D a) (deviceRun P O (actFed P D a)) l → Whole P D O (a ∷ l)
@@ -251,13 +251,13 @@ whole-cons P D O a l g w =
     record {
       inv = rw (deviceRun-append P O (actFed P D a) (fed P (step P D a) l)) (w .inv);
       equal = ap₂ (λ (x y : List Seen). x ++ y) (g .equal) (w .equal) ∙ sym (deviceSeen-append P O (actFed P D a) (fed P (step P D a) l));
-      legal = λ p t. rw (recordOf-append vs rest) (legal-append P p (recordOf vs) (recordOf rest) (g .legal p t) (w .legal (replay P p (recordOf vs)) (g .stands p t)));
-      stands = λ p t. rw (recordOf-append vs rest, replay-append P p (recordOf vs) (recordOf rest), deviceRun-append P O (actFed P D a) (fed P (step P D a) l))
-          (w .stands (replay P p (recordOf vs)) (g .stands p t));
+      legal = λ p t. rw (recordOfEvents-append vs rest) (legal-append P p (recordOfEvents vs) (recordOfEvents rest) (g .legal p t) (w .legal (replay P p (recordOfEvents vs)) (g .stands p t)));
+      stands = λ p t. rw (recordOfEvents-append vs rest, replay-append P p (recordOfEvents vs) (recordOfEvents rest), deviceRun-append P O (actFed P D a) (fed P (step P D a) l))
+          (w .stands (replay P p (recordOfEvents vs)) (g .stands p t));
     }
 
 pub whole : (P : Plan) → Laws P → (acts : List Act) (D : System) (O : OneDevice) → Inv P D O → Whole P D O acts
-whole P A [] D O I = unfold run fed seen deviceRun deviceSeen recordOf replay in (record { inv = I; equal = refl; legal = λ p t. none-left; stands = λ p t. t })
+whole P A [] D O I = unfold run fed seen deviceRun deviceSeen recordOfEvents replay in (record { inv = I; equal = refl; legal = λ p t. none-left; stands = λ p t. t })
 whole P A (a ∷ l) D O I = let g = good P A D O I a in whole-cons P D O a l g (whole P A l (step P D a) (deviceRun P O (actFed P D a)) (g .inv))
 
 -- ---- the start
@@ -300,10 +300,10 @@ demand3-from P A D O p I t acts =
     let O′ : OneDevice = deviceRun P O (fed P D acts) in
     record {
       equal = w .equal;
-      records-equal = ap recordOf (w .equal);
-      commands-equal = ap (λ (l : List Seen). commandsOf P (recordOf l)) (w .equal);
+      records-equal = ap recordOfEvents (w .equal);
+      commands-equal = ap (λ (l : List Seen). commandsOf P (recordOfEvents l)) (w .equal);
       legal = w .legal p t;
-      supervised = legal-supervised P A p (recordOf (seen P D acts)) (w .legal p t);
+      supervised = legal-supervised P A p (recordOfEvents (seen P D acts)) (w .legal p t);
       home = λ s l h. home-stands P D′ O′ (w .inv) s h ∙ w .stands p t .supervisors s;
       out = λ s m l h. progress P A D′ O′ (w .inv) s m l h;
       taken = all-accepted P A D′ O′ (w .inv);

@@ -158,10 +158,10 @@ turnEvents (Event e) = e ∷ []
 turnEvents (Stray e) = []
 turnEvents Nothing = []
 
-unfoldable pub recordOf : List Seen → List ℕ
-recordOf [] = []
-recordOf (turnSeen m t o ∷ l) = turnEvents t ++ recordOf l
-recordOf (replySeen m r o ∷ l) = recordOf l
+unfoldable pub recordOfEvents : List Seen → List ℕ
+recordOfEvents [] = []
+recordOfEvents (turnSeen m t o ∷ l) = turnEvents t ++ recordOfEvents l
+recordOfEvents (replySeen m r o ∷ l) = recordOfEvents l
 
 unfoldable pub commandsOf : Plan → List ℕ → List ℕ
 commandsOf P [] = []

@@ -74,13 +74,13 @@ pub record Overtaken : Type 0 where
   pub response-out : s4 .supervisorAt 0 ≡ record { state = 1; noted = 0; holder = Out 1; last = 1 }
   pub last-release : s4 .underWay ≡ (0x03 ∷ 1 ∷ 0 ∷ 3 ∷ []) ∷ []
   -- the turns taken, and what the one device answers to them
-  pub events : C.recordOf (C.seen planP (start planP) (overtaking ++ other ++ served ++ response)) ≡ 2 ∷ 0 ∷ 3 ∷ []
+  pub events : C.recordOfEvents (C.seen planP (start planP) (overtaking ++ other ++ served ++ response)) ≡ 2 ∷ 0 ∷ 3 ∷ []
   pub fed : C.fed planP (start planP) (overtaking ++ other ++ served ++ response)
       ≡ C.deviceTurn 0 ∷ C.deviceTurn 1 ∷ C.deviceRespond 1 3 ∷ C.deviceTurn 0 ∷ C.deviceTurn 1 ∷ []
-  pub one-device : C.recordOf (C.deviceSeen planP (startCall planP .device) (C.fed planP (start planP) (overtaking ++ other ++ served ++ response))) ≡ 2 ∷ 0 ∷ 3 ∷ []
+  pub one-device : C.recordOfEvents (C.deviceSeen planP (startCall planP .device) (C.fed planP (start planP) (overtaking ++ other ++ served ++ response))) ≡ 2 ∷ 0 ∷ 3 ∷ []
 
 pub overtaken : Overtaken
-unfolding planP s1 s2 s3 s4 bit allBelow putBit least orElse someBelow maskOf wordAt wordBytes isEighths count eighths round ofBits bodyLen kindOf inRange operandInRange keyOf sameKey precedes recordOf walkOf recordsIn findIn field1 field2 field3 wordField found fieldOf stepsOf indexRuns inOrder namesDeclared keepsRules allDeclared faultOf checkWalk verdictOf field4 target stateOr supervisorAfter counting waterOf calledBy respondOf byResponse byCommand enabled byChoice turnOn turnOf queuedAny wish startOwn every queueFits idleFits stepFits procedureFits ownFits ownEmpty messageBytes parse named M.missingIn M.heldIn M.fitsIn M.choiceOn M.choice M.eventFor M.releasesIn bytesOfMessages M.sentBy M.answerBy M.stateBy M.stepIn M.stepBy M.isFor M.bidWith M.takenBy M.deliverIn M.deliverBy M.startBy S.holderFits S.supervisorFits S.moduleAfter S.nextNoted S.servedOn S.sentTo S.answerBy S.stateAfter S.stepIn S.stepBy S.takenBy S.deliverIn S.deliverBy S.startBy update behind pick start step run pieces sent sentOut delivered deliveredAt C.stepSeen C.actSeen C.seen turnEvents C.recordOf C.choiceFed C.actFed C.fed C.deviceStep C.turningSeen C.deviceActSeen C.deviceSeen listFrom ownSlotFits stateSlotFits startSlot startState deviceFits shownBy stateAfterTurn turned afterTurn turnIn turnBy replyIn replyBy startBy S.applied S.heldBy M.replyBy arriveAt performed tickOf flowOk added
+unfolding planP s1 s2 s3 s4 bit allBelow putBit least orElse someBelow maskOf wordAt wordBytes isEighths count eighths round ofBits bodyLen kindOf inRange operandInRange keyOf sameKey precedes recordOf walkOf recordsIn findIn field1 field2 field3 wordField found fieldOf stepsOf indexRuns inOrder namesDeclared keepsRules allDeclared faultOf checkWalk verdictOf field4 target stateOr supervisorAfter counting waterOf calledBy respondOf byResponse byCommand enabled byChoice turnOn turnOf queuedAny wish startOwn every queueFits idleFits stepFits procedureFits ownFits ownEmpty messageBytes parse named M.missingIn M.heldIn M.fitsIn M.choiceOn M.choice M.eventFor M.releasesIn bytesOfMessages M.sentBy M.answerBy M.stateBy M.stepIn M.stepBy M.isFor M.bidWith M.takenBy M.deliverIn M.deliverBy M.startBy S.holderFits S.supervisorFits S.moduleAfter S.nextNoted S.servedOn S.sentTo S.answerBy S.stateAfter S.stepIn S.stepBy S.takenBy S.deliverIn S.deliverBy S.startBy update behind pick start step run pieces sent sentOut delivered deliveredAt C.stepSeen C.actSeen C.seen turnEvents C.recordOfEvents C.choiceFed C.actFed C.fed C.deviceStep C.turningSeen C.deviceActSeen C.deviceSeen listFrom ownSlotFits stateSlotFits startSlot startState deviceFits shownBy stateAfterTurn turned afterTurn turnIn turnBy replyIn replyBy startBy S.applied S.heldBy M.replyBy arriveAt performed tickOf flowOk added
 overtaken = record {
   noted-while-out = refl;
   release-behind = refl;

@@ -117,9 +117,9 @@ module _ (image : List ℕ) (bytes : (i : ℕ) → getD image i 0 < 256) (plan :
       let r : p .wire .count + 32 ≤ 96 = omega (arith, few-from p done n f) in
       let D : A.System = A.run image (A.start image) done in
       let d : Device = startCall image .device in
-      let taken : AllTaken image (systemOf p) = subst (AllTaken image) (sym (f .system)) (demand image bytes plan done n .taken) in
+      let taken : AllTaken image (systemOf p) = subst (AllTaken image) (sym (f .system)) (demand image bytes plan done n .1 .taken) in
       let fits : (m : ℕ) → m < modulesOf rs → M.moduleFits rs m (P.moduleAt p m) ≡ true =
-      subst (λ (E : A.System). (m : ℕ) → m < modulesOf rs → M.moduleFits rs m (E .moduleAt m) ≡ true) (sym (f .system)) (demand image bytes plan done n .module-fits) in
+      subst (λ (E : A.System). (m : ℕ) → m < modulesOf rs → M.moduleFits rs m (E .moduleAt m) ≡ true) (sym (f .system)) (demand image bytes plan done n .1 .module-fits) in
       record {
         system = line-system image plan T p (f .whole) a r taken ∙ ap (λ (E : A.System). A.run image E (callOf a)) (f .system) ∙ sym (run-append image (A.start image) done (callOf a));
         device =
@@ -157,4 +157,4 @@ pub simulated : Simulated
 simulated image bytes plan lines =
     let n : A.AllLent (callsOf lines) = calls-lent lines in
     let f = lines-from image bytes plan lines (P.start image) [] tt (start-from image bytes plan) in
-    record { lent = n; demand = demand image bytes plan (callsOf lines) n; system = f .system; device = f .device; answers = seen-from image bytes plan lines (P.start image) [] tt (start-from image bytes plan) ∙ (unfold A.run in refl); whole = f .whole; few = few-from image bytes plan (playedAll image (P.start image) lines) (callsOf lines) n f }
+    record { lent = n; demand = demand image bytes plan (callsOf lines) n .0; besides = demand image bytes plan (callsOf lines) n .1; system = f .system; device = f .device; answers = seen-from image bytes plan lines (P.start image) [] tt (start-from image bytes plan) ∙ (unfold A.run in refl); whole = f .whole; few = few-from image bytes plan (playedAll image (P.start image) lines) (callsOf lines) n f }

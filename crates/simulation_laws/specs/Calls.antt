@@ -24,7 +24,7 @@ use Rattle.simulation.specs.declared.Answer.the-variants.{Module as ModuleGot, 
 use Rattle.simulation.specs.Play.{played}
 use Rattle.agreement.specs.System.{System, Act, moduleStep, supervisorStep, deliver, respond, tick, bufferLength, AllLent, start, run}
 use Rattle.agreement.specs.Compared.{Seen, callSeen, stepSeen, seen, fed, deviceRun}
-use Rattle.agreement.specs.Demand.{Demand3}
+use Rattle.agreement.specs.Demand.{Demand3, Besides}
 
 abbrev pub bytesOf : Sent → List ℕ
 bytesOf s = messageBytes (s .message)
@@ -80,6 +80,7 @@ pub record Plays (image : List ℕ) (lines : List Line) : Type 0 where
   -- the lines are a list of calls that demand 3 speaks of
   pub lent : AllLent (callsOf lines)
   pub demand : Demand3 image (callsOf lines)
+  pub besides : Besides image (callsOf lines)
   -- "Each call gets the state that the last call on its module or supervisor left, at first the starting state": the states and the messages
   -- under way are those that the calls leave
   pub system : systemOf (playedAll image (P.start image) lines) ≡ run image (start image) (callsOf lines)
