@@ -1,4 +1,5 @@
--- The language of the modules under their supervisors, in the terms of source document 004, chapter 2, from a position on.
+-- The language of the modules under their supervisors, in the terms of source document 004, chapter 2, from a position on. `Besides` of crate
+-- agreement names `Supervised`; demand 3 itself does not ask for it.
 use Prim.Native.Nat.{ℕ, _<_}
 use mathlib.Core.Path.{_≡_}
 use mathlib.Core.Bool.{Bool, true, false, cond}

@@ -1,4 +1,5 @@
--- What the rules of permits use of a plan, and what an accepted plan promises of it. Modules, supervisors, events and states are numbers.
+-- What the rules of permits use of a plan, and what an accepted plan promises of it. Modules, supervisors, events and states are numbers. `Demand` of
+-- crate agreement names the record `Plan`, by its `planOf`; the laws are a step of its proof.
 use Prim.Native.Nat.{ℕ, _^_, _≤_, _<_}
 use mathlib.Core.Path.{_≡_}
 use mathlib.Core.Logic.{_⊎_}

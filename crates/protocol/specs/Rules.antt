@@ -1,4 +1,5 @@
--- Document 01, "Turns on one device" and "Permits and messages", over an abstract plan: one rule for each change of state.
+-- Document 01, "Turns on one device" and "Permits and messages", over an abstract plan and without bytes: one rule for each change of state. These
+-- are steps of a proof: what has to be believed is `Demand` of crate agreement, which names of this file only `stateAfter`, by replay.
 use Prim.Native.Nat.{ℕ, zero, suc}
 use mathlib.Core.Bool.{Bool, true, false, cond, not, _&&_, _||_}
 use mathlib.Core.List.{List, [], _∷_, _++_}
