@@ -18,7 +18,7 @@ A line is a letter and decimal numbers without leading zeros, one space before e
     k M N    a tick with a reading of N eighths of a litre: `tick M`
     k M -    a tick where no sensor is fitted: `tick M`
 
-Numbers are up to 255, a reading up to 65,535; any other line is `refused 10`. A call that is turned down is `refused N`. A step's answer is
+Numbers are up to 255, a reading up to 65,535; any other line is `refused 10`. A call that is refused prints `refused N`. A step's answer is
 followed by `sent BYTES` for each message that it writes. At the end stand the events fired, the commands, the states of the modules and
 supervisors, and those of one device that is fed the same turns, responses and ticks. A row of events breaks after 1024.
 """
@@ -46,7 +46,7 @@ ROW = 1024
 
 
 class Refused(Exception):
-    """A call turned down, with its number and offset."""
+    """A refused call, with its number and offset."""
 
     def __init__(self, number, offset=0):
         self.number, self.offset = number, offset

@@ -324,7 +324,7 @@ fn metered(image: &[u8], places: Places, x: u64, f: Flow, own: Own) -> Own
     }
 }
 
-// A respond step by the event x: it stays put while the queue is full.
+// A respond step by the event x: while the queue is full it does not end.
 fn responded(image: &[u8], places: Places, x: u64, own: Own) -> Own
     requires { ⌜ own .procedure .index < 64 ⌝ }
     requires { ⌜ x < 64 ⌝ }

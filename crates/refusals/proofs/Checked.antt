@@ -16,7 +16,7 @@ use Rattle.rules.specs.Check.{faultOf, endAt, checkWalk, limit, verdictOf}
 use Rattle.rules.specs.declared.Verdict.{Verdict}
 use Rattle.rules.specs.declared.Verdict.the-variants.{Accepted, Refused}
 use Rattle.refusals.specs.Numbers.{verdictNumber, verdictOffset}
-use Rattle.refusals.specs.Refusals.{TurnedDown, InTable, Placed, CheckAnswer, Checker}
+use Rattle.refusals.specs.Refusals.{IsRefusal, InTable, Placed, CheckAnswer, Checker}
 use Rattle.refusals.proofs.Cases.{either, never, in-table, at-zero, accepts, refuses}
 
 -- a walk whose last number is 2 or 3
@@ -34,7 +34,7 @@ stops (suc n) o (b ∷ bs) = stops n (suc o) bs
 
 -- a number of a record, if there is one
 abbrev OfRecord : ℕ → Type 0
-OfRecord n = (TurnedDown n → 2 ≤ n) × (n ≤ 8)
+OfRecord n = (IsRefusal n → 2 ≤ n) × (n ≤ 8)
 
 fault : (rs : List Record) (r : Record) → OfRecord (faultOf rs r)
 unfolding faultOf

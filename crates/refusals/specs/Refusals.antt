@@ -48,9 +48,9 @@ use Rattle.permits.specs.declared.Served.{Served}
 use Rattle.permits.specs.declared.Served.the-variants.{Refused as ServeRefused}
 use Rattle.refusals.specs.Numbers.{verdictNumber, verdictOffset, writtenNumber, writtenOffset, writtenLength, rewrittenNumber, rewrittenOffset, rewrittenLength}
 
--- what is turned down has a number, and what is taken has 0
-abbrev pub TurnedDown : ℕ → Type 0
-TurnedDown n = n ≢ 0
+-- a refusal has a number, and what is accepted has 0
+abbrev pub IsRefusal : ℕ → Type 0
+IsRefusal n = n ≢ 0
 
 -- a number of the table
 abbrev pub InTable : ℕ → Type 0
@@ -69,12 +69,12 @@ pub record Answer {E : Type 0} (number offset : E → ℕ) (refusal : ℕ → �
 
 -- "a refused call returns the state unchanged": x is given and y returned, with the number n
 abbrev pub Unchanged : {A : Type 0} → ℕ → A → A → Type 0
-Unchanged n x y = TurnedDown n → y ≡ x
+Unchanged n x y = IsRefusal n → y ≡ x
 
 -- "writes nothing into lent memory": the buffer is b before and c after, with the number n and k bytes written
 pub record Lent (n k : ℕ) (b c : List ℕ) : Type 0 where
   pub untouched : Unchanged n b c
-  pub nothing : TurnedDown n → k ≡ 0
+  pub nothing : IsRefusal n → k ≡ 0
   -- "An accepted call writes its answer from the buffer's start and nothing else."
   pub rest : drop k c ≡ drop k b
   pub size : length c ≡ length b
@@ -136,8 +136,8 @@ pub record DeviceTurn (d : Device) (c : DeviceTurned) : Type 0 where
   pub answer : TurnAnswer (c .answer)
   pub state : Unchanged (turningNumber (c .answer)) d (c .device)
   -- a refused turn has no event, fired or stray
-  pub event : TurnedDown (turningNumber (c .answer)) → turningEvent (c .answer) ≡ none
-  pub stray : TurnedDown (turningNumber (c .answer)) → turningStray (c .answer) ≡ none
+  pub event : IsRefusal (turningNumber (c .answer)) → turningEvent (c .answer) ≡ none
+  pub stray : IsRefusal (turningNumber (c .answer)) → turningStray (c .answer) ≡ none
 
 pub record ModuleStep (x : Module) (b : List ℕ) (c : StepCall) : Type 0 where
   pub answer : StepAnswer (c .answer)

@@ -15,7 +15,7 @@ pub const SENDS: u8 = 5;
 /// A step that waits.
 pub const WAITS: u8 = 6;
 
-/// What is turned down: a number of document 01 and a byte offset.
+/// A refusal: a number of document 01 and a byte offset.
 #[derive(Clone, Copy, Debug, PartialEq, Eq)]
 pub struct Refusal {
     pub number: u8,

@@ -2,7 +2,7 @@
 
 use crate::answer::{refusal, Refusal, Result};
 
-/// An image over this many bytes is turned down with 1.
+/// An image over this many bytes is refused with 1.
 pub const IMAGE_LIMIT: usize = 49_152;
 /// The longest record, its kind included.
 pub const RECORD_BYTES: usize = 12;

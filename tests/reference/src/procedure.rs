@@ -3,7 +3,7 @@
 use crate::plan::{self, Plan};
 use crate::state::{Own, Procedure, Water};
 
-/// A flow reading: litres, or the word that no sensor is fitted.
+/// A flow reading: litres, or that no sensor is fitted.
 #[derive(Clone, Copy, Debug)]
 pub enum Reading {
     Litres(f64),
