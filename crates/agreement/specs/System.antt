@@ -20,7 +20,7 @@ use Rattle.permits.specs.Module as M
 use Rattle.permits.specs.Supervisor as S
 use Rattle.protocol.specs.Generic.{update, Picked, pick}
 
--- the states of all modules and supervisors, and the bytes of the messages under way
+-- the states of all modules and supervisors, and the bytes of the messages under way; document 01's term: "under way until delivered"
 pub record System : Type 0 where
   pub moduleAt : ℕ → Module
   pub supervisorAt : ℕ → Supervisor

@@ -1,4 +1,4 @@
--- Document 01, "A state fits when ..": the clauses of a module's own part.
+-- Document 01's term fits, "A state fits when ..": the clauses of a module's own part.
 use Prim.Native.Nat.{ℕ}
 use mathlib.Core.List.{List, [], _∷_}
 use mathlib.Core.Bool.{Bool, true, cond, not, _&&_}

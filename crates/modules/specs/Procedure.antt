@@ -90,7 +90,7 @@ unfoldable pub calledBy : Reply → Called
 calledBy Taken = Done
 calledBy (Refused n) = CallRefused n 0
 
--- a tick: 14 "bad flow reading", "checked even when idle"
+-- document 01's term tick: "A tick is one module's"; 14 "bad flow reading", "checked even when idle"
 unfoldable pub tickOf : List Record → Flow → Own → Replied
 tickOf rs f own = cond (flowOk f) (taken (ticked rs f own)) (refused 14 own)
 

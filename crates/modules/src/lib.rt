@@ -38,7 +38,7 @@ pub struct Own {
     pub outputs: u32,
 }
 
-// What a turn did: an event fired, a response was stray, or nothing.
+// What a turn did: an event fired, a response was stray, document 01's term for one that the module has no move by, or nothing.
 pub enum Turn {
     Event(u8),
     Stray(u8),
@@ -376,7 +376,7 @@ fn ticked(image: &[u8], places: Places, f: Flow, own: Own) -> Own
     }
 }
 
-// A tick with a flow reading.
+// A tick with a flow reading. Litres are judged, also when idle; without a sensor there is nothing to judge.
 pub fn tick(image: &[u8], places: Places, f: Flow, own: Own) -> Replied
     ensures { λ r. ⌜ r ≡ tickOf (recordsBy (now (image .entry)) places) f own ⌝ }
 {
@@ -395,10 +395,12 @@ pub fn tick(image: &[u8], places: Places, f: Flow, own: Own) -> Replied
                 }
             }
         }
-    } else {
-        Replied {
-            reply: Reply::Refused(14),
-            own,
+        Flow::NoSensor => {
+            let next = ticked(image, places, f, own);
+            Replied {
+                reply: Reply::Taken,
+                own: next,
+            }
         }
     }
 }

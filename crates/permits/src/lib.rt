@@ -21,13 +21,14 @@ pub struct Module {
     pub bid: bool,
 }
 
-// Where a supervisor's permit is: home, or out at a module.
+// Where a supervisor's permit is, in document 01's terms: home, or out, here with the module that it was sent to.
 pub enum Holder {
     Home,
     Out(u8),
 }
 
-// A supervisor on its own device: its state, the modules whose bids are noted, its permit's holder and the module last served.
+// A supervisor on its own device: its state, the modules whose bids are noted, its permit's holder and the module last served. Noted and last
+// served are document 01's terms.
 pub struct Supervisor {
     pub state: u8,
     pub noted: u16,
