@@ -1,13 +1,14 @@
 -- The cases of `parse`, from what the code of `read` is told: the kind k, the length n and its tests.
-use mathlib.Core.Path.{_≡_}
+use mathlib.Core.Path.{_≡_, refl, ap, _∙_}
 use mathlib.Core.List.{List}
-use mathlib.Core.Bool.{true, false, _&&_}
+use mathlib.Core.Bool.{Bool, true, false, cond, _&&_, _||_}
 use Prim.Native.Nat.{ℕ}
 use lib.ListN.{length, getD}
 use lib.Dec.{eqb}
 use Rattle.words.specs.Word.{wordAt}
-use Rattle.messages.specs.Message.{parse, shaped}
+use Rattle.messages.specs.Message.{parse, shaped, parsedNumber, ParsedAs}
 use Rattle.messages.specs.declared.Message.the-variants.{Bid, Permit, Release}
+use Rattle.messages.specs.declared.Parsed.{Parsed}
 use Rattle.messages.specs.declared.Parsed.the-variants.{Whole, Misshapen}
 
 module _ (s : List ℕ) {k a b : ℕ} where
@@ -41,3 +42,20 @@ module _ (s : List ℕ) {k a b : ℕ} where
           let i : shaped 2 10 s ≡ false = cc in
           let j : shaped 3 3 s ≡ false = cc in
           simp (h, i, j)
+
+-- the number of the case is that of the bytes
+pub parsed-as : (s : List ℕ) {r : Parsed} → r ≡ parse s → ParsedAs s r
+unfolding parse
+parsed-as s e = record { answer = e; number = ap parsedNumber e ∙ number (shaped 1 2 s) (shaped 2 10 s) (shaped 3 3 s) }
+  where
+    read : Bool → Bool → Bool → Parsed
+    read x y z =
+        cond x (Whole (Bid (getD s 1 0) (getD s 2 0)))
+        (cond y (Whole (Permit (getD s 1 0) (getD s 2 0) (wordAt s 3)))
+        (cond z (Whole (Release (getD s 1 0) (getD s 2 0) (getD s 3 0))) Misshapen))
+
+    number : (x y z : Bool) → parsedNumber (read x y z) ≡ cond (x || (y || z)) 0 10
+    number true y z = refl
+    number false true z = refl
+    number false false true = refl
+    number false false false = refl

@@ -1,8 +1,9 @@
 -- Document 01, "Permits and messages": "Messages: `01` bid (module, supervisor); `02` permit (supervisor, module, 8-byte mask); `03` release
 -- (module, supervisor, event, or FF for no event). Body lengths are 2, 10 and 3, and nothing may follow".
 use Prim.Native.Nat.{ℕ, suc}
+use mathlib.Core.Path.{_≡_}
 use mathlib.Core.List.{List, [], _∷_}
-use mathlib.Core.Bool.{Bool, cond, _&&_}
+use mathlib.Core.Bool.{Bool, cond, _&&_, _||_}
 use lib.ListN.{length, getD}
 use lib.Dec.{eqb, ltb}
 use Rattle.words.specs.Word.{wordAt, wordBytes}
@@ -42,3 +43,12 @@ parse bs =
 abbrev pub parsedNumber : Parsed → ℕ
 parsedNumber (Whole g) = 0
 parsedNumber Misshapen = 10
+
+-- whether bytes have the shape of a message
+abbrev pub isMessage : List ℕ → Bool
+isMessage bs = shaped 0x01 2 bs || (shaped 0x02 10 bs || shaped 0x03 3 bs)
+
+-- the whole answer r of reading bytes: its case with the message, and the number of that case, by the bytes alone
+pub record ParsedAs (bs : List ℕ) (r : Parsed) : Type 0 where
+  pub answer : r ≡ parse bs
+  pub number : parsedNumber r ≡ cond (isMessage bs) 0 10

@@ -3,7 +3,7 @@ ghost use mathlib.Core.Path.{_≡_};
 ghost use Prim.Native.Nat.{_+_, _≤_};
 ghost use lib.ListN.{length};
 ghost use lib.Seq.{sets};
-ghost use Rattle.messages.specs.Message.{messageBytes, parse};
+ghost use Rattle.messages.specs.Message.{messageBytes, ParsedAs};
 ghost use Rattle.messages.specs.Write.{Wrote};
 
 // A bid of a module to a supervisor, the supervisor's permit with its shown mask, and the module's release with the event that fired, or
@@ -33,7 +33,7 @@ pub enum Parsed {
 
 // The message that the bytes are.
 pub fn read(bytes: &[u8]) -> Parsed
-    ensures { λ r. ⌜ r ≡ parse (now (bytes .entry)) ⌝ }
+    ensures { λ r. ⌜ ParsedAs (now (bytes .entry)) r ⌝ }
 {
     let n = bytes.len();
     let kind = words::byte_at(bytes, 0);

@@ -15,7 +15,7 @@ use Rattle.records.specs.Kinds.{bodyLen, noLen}
 use Rattle.records.specs.Key.{keyOf}
 use Rattle.records.specs.declared.Record.{Record}
 use Rattle.records.specs.declared.Record.the-variants.{Head, Event, Module, ModuleMove, Supervisor, SupervisorMove, Disabling, Step, End}
-use Rattle.reader.specs.Read.{recordOf, shapeAt, readBy, readAt, readNumber}
+use Rattle.reader.specs.Read.{recordOf, shapeAt, readBy, readAt, readNumber, readOffset, numberAt, offsetAt, ReadsAs}
 use Rattle.reader.specs.Walk.{Walk, more, stop, walkOf, walkFrom, Stopped, StopsAsRead, GoesOnAsRead}
 use Rattle.reader.specs.declared.Shape.{Shape}
 use Rattle.reader.specs.declared.Shape.the-variants.{Whole as WholeThere, Unknown as UnknownThere, Cut as CutThere, Nothing as NothingThere}
@@ -91,6 +91,35 @@ seen s i = go (leb (length s) i) (eqb (bodyLen (getD s i 0)) noLen) (leb (bodyLe
 pub reads-by : (s : List ℕ) (i : ℕ) {x : Shape} → x ≡ shapeAt s i → readAt s i ≡ readBy s x
 unfolding readAt
 reads-by s i e = ap (readBy s) (sym e)
+
+-- the number and the offset of a read's case are those of the bytes
+pub reads-as : (s : List ℕ) (i : ℕ) {r : Read} → r ≡ readAt s i → ReadsAs s i r
+unfolding readAt shapeAt numberAt offsetAt
+reads-as s i e = record { answer = e; number = ap readNumber e ∙ number ended unknown whole; offset = ap (readOffset s i) e ∙ offset ended unknown whole }
+  where
+    ended : Bool
+    ended = leb (length s) i
+
+    unknown : Bool
+    unknown = eqb (bodyLen (getD s i 0)) noLen
+
+    whole : Bool
+    whole = leb (bodyLen (getD s i 0)) (length s - (i + 1))
+
+    read : Bool → Bool → Bool → Read
+    read a u w = readBy s (cond a NothingThere (cond u UnknownThere (cond w (WholeThere (getD s i 0) (i + 1) (i + 1 + bodyLen (getD s i 0))) CutThere)))
+
+    number : (a u w : Bool) → readNumber (read a u w) ≡ cond a 3 (cond u 2 (cond w 0 3))
+    number true u w = refl
+    number false true w = refl
+    number false false true = refl
+    number false false false = refl
+
+    offset : (a u w : Bool) → readOffset s i (read a u w) ≡ cond a (length s) (cond u i (cond w 0 i))
+    offset true u w = refl
+    offset false true w = refl
+    offset false false true = refl
+    offset false false false = refl
 
 -- a walk, by what stands at its offset
 abbrev pub next : List ℕ → ℕ → Read → Walk

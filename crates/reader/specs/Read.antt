@@ -1,5 +1,6 @@
 -- What stands at an offset of an image: a whole record and the next offset, an unknown kind, a cut body, or nothing.
 use Prim.Native.Nat.{ℕ, _+_, _-_}
+use mathlib.Core.Path.{_≡_}
 use mathlib.Core.List.{List}
 use mathlib.Core.Bool.{cond}
 use lib.ListN.{length, getD, drop}
@@ -55,3 +56,22 @@ readOffset s at (Whole r n) = 0
 readOffset s at Unknown = at
 readOffset s at Cut = at
 readOffset s at Nothing = length s
+
+-- the same two from the bytes alone: where no record is left, at a byte that is no kind, at a whole record, and at one whose body is cut
+unfoldable pub numberAt : List ℕ → ℕ → ℕ
+numberAt s at =
+    cond (leb (length s) at) 3
+    (cond (eqb (bodyLen (getD s at 0)) noLen) 2
+    (cond (leb (bodyLen (getD s at 0)) (length s - (at + 1))) 0 3))
+
+unfoldable pub offsetAt : List ℕ → ℕ → ℕ
+offsetAt s at =
+    cond (leb (length s) at) (length s)
+    (cond (eqb (bodyLen (getD s at 0)) noLen) at
+    (cond (leb (bodyLen (getD s at 0)) (length s - (at + 1))) 0 at))
+
+-- "The answer is the number and a byte offset": the whole answer r of a read, its case with its values, and the number and offset of that case
+pub record ReadsAs (s : List ℕ) (at : ℕ) (r : Read) : Type 0 where
+  pub answer : r ≡ readAt s at
+  pub number : readNumber r ≡ numberAt s at
+  pub offset : readOffset s at r ≡ offsetAt s at

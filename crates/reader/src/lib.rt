@@ -3,7 +3,7 @@ ghost use mathlib.Core.Path.{_≡_};
 ghost use Prim.Native.Nat.{_≤_};
 ghost use lib.ListN.{length, drop};
 ghost use Rattle.records.specs.Key.{keyBy, keyOf};
-ghost use Rattle.reader.specs.Read.{recordOf, shapeAt, readAt};
+ghost use Rattle.reader.specs.Read.{recordOf, shapeAt, ReadsAs};
 use records::Record;
 use records::RecordKey;
 
@@ -125,7 +125,7 @@ fn shape_at(s: &[u8], at: usize) -> Shape
 }
 
 pub fn read_at(s: &[u8], at: usize) -> Read
-    ensures { λ r. ⌜ r ≡ readAt (now (s .entry)) at ⌝ }
+    ensures { λ r. ⌜ ReadsAs (now (s .entry)) at r ⌝ }
 {
     match shape_at(s, at) {
         Shape::Whole(k, b, next) => Read::Whole(record_of(k, s, b), next),

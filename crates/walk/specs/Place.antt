@@ -3,7 +3,7 @@ use Prim.Native.Nat.{ℕ}
 use mathlib.Core.Path.{_≡_}
 use mathlib.Core.List.{List}
 use denote.Ref.{RefT, now}
-use Rattle.reader.specs.Read.{readAt}
+use Rattle.reader.specs.Read.{readAt, ReadsAs}
 use Rattle.reader.specs.declared.Read.{Read}
 use Rattle.reader.specs.declared.Read.the-variants.{Whole, Unknown, Cut, Nothing}
 use Rattle.walk.specs.declared.Reader.{Reader}
@@ -24,7 +24,12 @@ placeAfter i Nothing = i
 abbrev pub readOn : List ℕ → ℕ → PlacedRead
 readOn s i = record { read = readAt s i; place = placeAfter i (readAt s i) }
 
--- a reader gives what stands at its place, and goes on to the place after it, over the same image
+-- the whole answer of such a read: what stands there with its place, and the number and offset of what stands there
+pub record ReadsOn (s : List ℕ) (i : ℕ) (y : PlacedRead) : Type 0 where
+  pub answer : y ≡ readOn s i
+  pub read : ReadsAs s i (y .read)
+
+-- a reader gives what stands at its place, with its number and offset, and goes on to the place after it, over the same image
 pub record Moved (r : Reader) (x : Read) (after : Reader) : Type 0 where
-  pub read : x ≡ readAt (now (r .image)) (r .offset)
+  pub read : ReadsAs (now (r .image)) (r .offset) x
   pub moved : after ≡ record { image = r .image; offset = placeAfter (r .offset) x }

@@ -1,7 +1,7 @@
 // A reader over a plan image that keeps its place between records. It holds the image's slice, so each function over it is
 // proved by hand; `read_on`, which takes and gives plain data, serves the callers.
 ghost use mathlib.Core.Path.{_≡_};
-ghost use Rattle.walk.specs.Place.{placeAfter, started, Moved, readOn};
+ghost use Rattle.walk.specs.Place.{placeAfter, started, Moved, ReadsOn};
 use reader::Read;
 
 pub struct Reader<'a> {
@@ -49,7 +49,7 @@ pub struct PlacedRead {
 }
 
 pub fn read_on(image: &[u8], offset: usize) -> PlacedRead
-    ensures { λ r. ⌜ r ≡ readOn (now (image .entry)) offset ⌝ }
+    ensures { λ r. ⌜ ReadsOn (now (image .entry)) offset r ⌝ }
 {
     let mut r = new(image);
     r.offset = offset;

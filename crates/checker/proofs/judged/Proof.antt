@@ -62,13 +62,16 @@ with-record-requires : tie.Need-with-record-requires Inv-loop μ-loop
 with-record-requires c κs = search needs
 
 loop-less : tie.Need-loop-less Inv-loop μ-loop
-loop-less c = search less-by
+loop-less c =
+    let k = c .before .before .before .before .before .before .before in
+    let read = k .before .before .before .read-at .ensures .answer in
+    search less-by
 
 loop-again : tie.Need-loop-again Inv-loop μ-loop
 loop-again c =
     let a = c .before .before .before .before .before .before in
     let b = a .before .before .before .before in
-    goes-on-by _ _ _ _ _ (c .with-record .ensures) (search needs) (b .read-at .ensures) (c .before .before .noted .ensures)
+    goes-on-by _ _ _ _ _ (c .with-record .ensures) (search needs) (b .read-at .ensures .answer) (c .before .before .noted .ensures)
     (c .before .before .before .before .kind-of .ensures) (c .before .if2 .left) (a .judge .ensures) (c .before .before .before .before .before .if1 .left)
     (b .before .loop .inv)
 

@@ -1,4 +1,4 @@
-use Rattle.messages.proofs.Reading.{bid-by, permit-by, release-by, misshapen-by}
+use Rattle.messages.proofs.Reading.{bid-by, permit-by, release-by, misshapen-by, parsed-as}
 use borrow.Author.Needs.{needs}
 use Rattle.messages.proofs.read.Statement.{statement}
 use Rattle.messages.proofs.read.Tie as tie
@@ -13,22 +13,22 @@ byte-at-requires-3 : tie.Need-byte-at-requires-3
 byte-at-requires-3 c κs = search needs
 
 returns : tie.Need-returns
-returns c = search bid-by
+returns c = parsed-as _ (search bid-by)
 
 word-at-requires : tie.Need-word-at-requires
 word-at-requires c κs = search needs
 
 returns-2 : tie.Need-returns-2
-returns-2 c = search permit-by
+returns-2 c = parsed-as _ (search permit-by)
 
 byte-at-requires-4 : tie.Need-byte-at-requires-4
 byte-at-requires-4 c κs = search needs
 
 returns-3 : tie.Need-returns-3
-returns-3 c = search release-by
+returns-3 c = parsed-as _ (search release-by)
 
 returns-4 : tie.Need-returns-4
-returns-4 c = search misshapen-by
+returns-4 c = parsed-as _ (search misshapen-by)
 
 pub read-spec : {M : Type 1} → statement M
 read-spec =

@@ -1,4 +1,4 @@
-use Rattle.reader.proofs.Reading.{whole-there, other-there}
+use Rattle.reader.proofs.Reading.{whole-there, other-there, reads-as}
 use borrow.Author.Needs.{needs}
 use Rattle.reader.proofs.read_at.Statement.{statement}
 use Rattle.reader.proofs.read_at.Tie as tie
@@ -22,16 +22,16 @@ enum-told-3 : tie.Need-enum-told-3
 enum-told-3 c = search needs
 
 returns : tie.Need-returns
-returns c = search whole-there
+returns c = reads-as _ _ (search whole-there)
 
 returns-2 : tie.Need-returns-2
-returns-2 c = search other-there
+returns-2 c = reads-as _ _ (search other-there)
 
 returns-3 : tie.Need-returns-3
-returns-3 c = search other-there
+returns-3 c = reads-as _ _ (search other-there)
 
 returns-4 : tie.Need-returns-4
-returns-4 c = search other-there
+returns-4 c = reads-as _ _ (search other-there)
 
 pub read-at-spec : {M : Type 1} → statement M
 read-at-spec =

@@ -45,7 +45,7 @@ use denote.Triple.Entry.{Vals, onEntry}
 use denote.Triple.Spec.{Meets, tripleOf}
 use denote.Triple.Table.{entered, cited}
 use denote.Triple.Walked.{says, Stays, stay-ref, walkOf, goes-ref, Walks, ends-at, walked, walk-meets}
-use Rattle.reader.specs.Read.{readAt}
+use Rattle.reader.specs.Read.{ReadsAs}
 use Rattle.reader.specs.declared.Read.{Read}
 use Rattle.reader.proofs.Read as S
 use Rattle.reader.proofs.Read.Laws as S′
@@ -99,8 +99,8 @@ module _ {M : Type 1} (𝓤 : URA M) (H : Heap 𝓤) (A : Atoms 𝓤) (W : Given
   abbrev moved-to : ℕ → Reader
   moved-to n = record { image = h .image; offset = n }
 
-  abbrev found : Read
-  found = readAt (now (h .image)) (h .offset)
+  abbrev Found : Read → Type 0
+  Found r = ReadsAs (now (h .image)) (h .offset) r
 
   abbrev v : Val
   v = sliceVal (h .image .ptr) (length (h .image .now))
@@ -141,8 +141,8 @@ module _ {M : Type 1} (𝓤 : URA M) (H : Heap 𝓤) (A : Atoms 𝓤) (W : Given
       move ! (1 ∷ []) $ drop ! $ nothing ! $ owned ! usize (Is usize) (uint-makes 𝓤 H A W w64) (h .offset) _ (refl, fits) $ fjoin ! $ move ! (1 ∷ 0 ∷ []) $ fjoin ! $
       move ! (2 ∷ 0 ∷ []) $ use2 W (raw (ReadAt 𝓤 H A at-mem run .pre to-read)) asked $ frame ! $ done !)
 
-  read-said : (r : Read) → ent 𝓤 (ensured 𝓤 H A read-at.ended (read-at.clauses 𝓤 H A at-mem run) (κ′, tt) (h .image, (h .offset, tt)) tt r) (fact 𝓤 (r ≡ found))
-  read-said r = exE 𝓤 _ (λ ws. snd∗ 𝓤 (sem 𝓤 H A (lasts read-at.ended (κ′, tt) (h .image, (h .offset, tt)) ws)) (fact 𝓤 (r ≡ found)))
+  read-said : (r : Read) → ent 𝓤 (ensured 𝓤 H A read-at.ended (read-at.clauses 𝓤 H A at-mem run) (κ′, tt) (h .image, (h .offset, tt)) tt r) (fact 𝓤 (Found r))
+  read-said r = exE 𝓤 _ (λ ws. snd∗ 𝓤 (sem 𝓤 H A (lasts read-at.ended (κ′, tt) (h .image, (h .offset, tt)) ws)) (fact 𝓤 (Found r)))
 
   -- the call of `place_after`, at the answer r with the machine value u
   abbrev to-place : Read → Val → PlaceAfter 𝓤 H A at-mem run .Ghost
@@ -159,7 +159,7 @@ module _ {M : Type 1} (𝓤 : URA M) (H : Heap 𝓤) (A : Atoms 𝓤) (W : Given
   again : (n : ℕ) → n < 2 ^ 64 → ent 𝓤 (sem 𝓤 H A (Own h)) (sem 𝓤 H A (Own (moved-to n)))
   again n fits = qed W (‵ (Own h) ∷ []) ∵ owned ! usize (Is usize) (uint-makes 𝓤 H A W w64) n _ (refl, fits) $ move ! (1 ∷ 0 ∷ []) $ by ! (own-put 𝓤 H A W D L 1 vh n (T′.lowered h))
 
-  exits : (r : Read) (u : Val) (n : ℕ) → Is S.the-row r (u ∷ []) → r ≡ found → n ≡ placeAfter (h .offset) r
+  exits : (r : Read) (u : Val) (n : ℕ) → Is S.the-row r (u ∷ []) → Found r → n ≡ placeAfter (h .offset) r
       → ent 𝓤 (sep 𝓤 (A .obs γ (B κ′ .coded .code (moved-to n))) (sep 𝓤 (A .bor κ (Body (mem (B κ′)) b o γ)) (sep 𝓤 (A .lft κ q) (sep 𝓤 (A .lft κ′ q′) (emp 𝓤))))) (Post u)
   exits r u n is e e′ =
       qed W (‵ (fobs γ (B κ′ .coded .code (moved-to n))) ∷ ‵ (fbor κ (Body (mem (B κ′)) b o γ)) ∷ ‵ (flft κ q) ∷ (‵ (flft κ′ q′) ⊛ ‵ ftrue) ∷ []) ∵
@@ -184,7 +184,7 @@ module _ {M : Type 1} (𝓤 : URA M) (H : Heap 𝓤) (A : Atoms 𝓤) (W : Given
         move ! (1 ∷ 5 ∷ []) $ use2 W (raw (ReadAt 𝓤 H A at-mem run .pre to-read) ⊛ ‵ (Own h)) (apart (was .1 .1 .1 .0 .1)) $ split ! $
         calls-at ! fm (ReadAt 𝓤 H A at-mem run) known-read to-read (and-then ! (load ! (from ! (stop !)) (look ! 9 refl)) (and-then ! (load ! (from ! (stop !)) (look ! 13 refl)) (no-more !))) (λ u.
         use1 W (later (some (λ (r : Read). ((‵ (flft κ′ q′) ⊛ ‵ ftrue) ⊛ ‵ (S.the-row .own r (u ∷ []))) ⊛ raw (ensured 𝓤 H A read-at.ended (read-at.clauses 𝓤 H A at-mem run) (κ′, tt) (h .image, (h .offset, tt)) tt r)))) (id⊢ 𝓤 _) $ await ! tt $ pick ! (λ r.
-        split ! $ move ! (1 ∷ []) $ use1 W (raw (fact 𝓤 (r ≡ found))) (read-said r) $ heard ! (r ≡ found) (λ e. split ! $ move ! (1 ∷ []) $
+        split ! $ move ! (1 ∷ []) $ use1 W (raw (fact 𝓤 (Found r))) (read-said r) $ heard ! (Found r) (λ e. split ! $ move ! (1 ∷ []) $
         peeks ! S.the-row (Is S.the-row) (shows 𝓤 H A S.the-row) r (u ∷ []) (λ is.
         -- [the answer; 'a's token; what a Reader owns; the struct's cell; the open borrow; obs; auth; true; _5; …; _4; …; _3; …; _2; …; _1; …; room for _0; …]
         land ! (from ! (stop !)) (init ! 12 refl (EL.lawful S.the-type S′.the-laws 𝓤 H A W tt .typed r _ is .0)) $

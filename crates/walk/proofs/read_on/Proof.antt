@@ -51,7 +51,7 @@ use denote.Exit.{yes}
 use Rattle.reader.specs.declared.Read.{Read}
 use Rattle.reader.proofs.Read as S
 use Rattle.reader.proofs.Read.Laws as S′
-use Rattle.walk.specs.Place.{started, placeAfter, Moved, readOn}
+use Rattle.walk.specs.Place.{started, placeAfter, Moved, ReadsOn}
 use Rattle.walk.specs.declared.Reader.{Reader}
 use Rattle.walk.specs.declared.PlacedRead.{PlacedRead}
 use Rattle.walk.proofs.Reader as T
@@ -217,7 +217,7 @@ module _ {M : Type 1} (𝓤 : URA M) (H : Heap 𝓤) (A : Atoms 𝓤) (W : Given
     is-made : Is O.the-row made (value ∷ [])
     is-made = LL.owes O.the-type O′.the-laws made (is, ((refl, fits), tt))
 
-    exits : made ≡ readOn (now s) i → ent 𝓤 (⋆ 𝓤 H A ((‵ (flft κ q) ⊛ ‵ ftrue) ∷ ‵ Own ∷ [])) (Post value)
+    exits : ReadsOn (now s) i made → ent 𝓤 (⋆ 𝓤 H A ((‵ (flft κ q) ⊛ ‵ ftrue) ∷ ‵ Own ∷ [])) (Post value)
     exits e =
         qed W ((‵ (flft κ q) ⊛ ‵ ftrue) ∷ ‵ Own ∷ []) ∵
         suffices ! _ (ends-at 𝓤 H A read-on.ended stayed (read-on.clauses 𝓤 H A at-mem run) W (((κ, tt), (q, tt), tt, (s, (i, tt)), at), tt) value made (tt, (tt, tt)) (tt, (tt, tt))) $ says ! e $
@@ -271,7 +271,7 @@ module _ {M : Type 1} (𝓤 : URA M) (H : Heap 𝓤) (A : Atoms 𝓤) (W : Given
         (init ! 19 refl (LL.lawful O.the-type O′.the-laws 𝓤 H A W .typed (made x n (isn .1) (known x w isx)) _ (is-made x n (isn .1) (known x w isx)) .0)) $
         returns ! (look ! 19 refl) $ forget ! 2 refl $ forget ! 6 refl $ forget ! 8 refl $ forget ! 10 refl $ forget ! 12 refl $ forget ! 15 refl $ forget ! 17 refl $ forget ! 19 refl $
         move ! (19 ∷ 20 ∷ []) $ free1 ! $ move ! (17 ∷ 18 ∷ []) $ free1 ! $ move ! (15 ∷ 16 ∷ []) $ free1 ! $ move ! (2 ∷ 14 ∷ []) $ free1 ! $ move ! (11 ∷ 12 ∷ []) $ free1 ! $ move ! (9 ∷ 10 ∷ []) $ free1 ! $ move ! (7 ∷ 8 ∷ []) $ free1 ! $ move ! (5 ∷ 6 ∷ []) $ free1 ! $ free0 ! $
-        keep ! (1 ∷ 4 ∷ []) $ by ! (exits x n (isn .1) (known x w isx) (λ j. record { read = e .read j; place = (e′ ∙ ap (λ (d : Reader). d .offset) (e .moved) ∙ ap (placeAfter i) (e .read)) j })))))))))))))))))))))))))))
+        keep ! (1 ∷ 4 ∷ []) $ by ! (exits x n (isn .1) (known x w isx) (record { answer = (λ j. record { read = e .read .answer j; place = (e′ ∙ ap (λ (d : Reader). d .offset) (e .moved) ∙ ap (placeAfter i) (e .read .answer)) j }); read = e .read })))))))))))))))))))))))))))
 
 module _ {M : Type 1} (𝓤 : URA M) (H : Heap 𝓤) (A : Atoms 𝓤) (W : Given 𝓤 H A) (mem′ : Memory → SProp 𝓤) (run : Routine → Fun 𝓤) where
   read-on-walks : (C : Calls 𝓤 H) (Λ : Loops 𝓤 H) → FmC 𝓤 H (W .laws) C → Triple 𝓤 (C #walk·new) (New 𝓤 H A mem′ run) → Triple 𝓤 (C #walk·next) (Next 𝓤 H A mem′ run) → Triple 𝓤 (C #walk·place) (Place 𝓤 H A mem′ run)
