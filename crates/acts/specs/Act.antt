@@ -3,8 +3,9 @@
 -- eighths of a litre, `k M -` a tick where no sensor is fitted. Any other line is misshapen, as are numbers over 255, a reading's over 65,535.
 use Prim.Native.Nat.{ℕ, _+_}
 use Prim.Native.Char.{code}
+use mathlib.Core.Path.{_≡_}
 use mathlib.Core.List.{List}
-use mathlib.Core.Bool.{cond, _&&_}
+use mathlib.Core.Bool.{Bool, true, false, cond, _&&_, _||_}
 use lib.ListN.{length, getD, take, drop}
 use lib.Dec.{eqb}
 use Rattle.bits.specs.declared.Maybe.{Maybe}
@@ -16,7 +17,7 @@ use Rattle.lines.specs.Number.{numberUpTo, numberOf, spaceIn, starts}
 use Rattle.lines.specs.Partial.{partly, TakenWhole}
 use Rattle.script.specs.declared.Line.{Line}
 use Rattle.script.specs.declared.Line.the-variants.{Turn, Response as PairOf, Misshapen as NoPair}
-use Rattle.script.specs.Line.{pairOf}
+use Rattle.script.specs.Line.{pairOf, given, isPair}
 use Rattle.acts.specs.declared.Act.{Act}
 use Rattle.acts.specs.declared.Act.the-variants.{Module, Supervisor, Delivery, Response, Tick, Unfitted, Misshapen}
 use Rattle.acts.specs.declared.Reading.{Reading}
@@ -70,6 +71,36 @@ actOf bs =
 -- the line so far, as if it ended here
 abbrev pub parsedAct : Partial → Act
 parsedAct p = partly actOf Misshapen p
+
+-- 10 is "script line misshapen"; 0 for a line
+abbrev pub actNumber : Act → ℕ
+actNumber (Module m) = 0
+actNumber (Supervisor v) = 0
+actNumber (Delivery k) = 0
+actNumber (Response m e) = 0
+actNumber (Tick m n) = 0
+actNumber (Unfitted m) = 0
+actNumber Misshapen = 10
+
+-- whether a reading stands there
+abbrev pub read : Reading → Bool
+read (Eighths n) = true
+read NoSensor = true
+read NoReading = false
+
+-- whether bytes are `M N` or `M -`, and whether they are a line
+unfoldable pub isTick : List ℕ → Bool
+isTick bs = given (numberOf (take (spaceIn bs) bs)) && read (readingOf (drop (spaceIn bs + 1) bs))
+
+unfoldable pub isAct : List ℕ → Bool
+isAct bs =
+    cond (starts (code "m") bs || (starts (code "s") bs || starts (code "d") bs)) (given (numberOf (drop 2 bs)))
+    (cond (starts (code "r") bs) (isPair (drop 2 bs)) (starts (code "k") bs && isTick (drop 2 bs)))
+
+-- the whole answer r: its case with its numbers, and the number of that case, by whether the bytes are a line
+pub record ActAs (p : Partial) (r : Act) : Type 0 where
+  pub answer : r ≡ parsedAct p
+  pub number : actNumber r ≡ cond (partly isAct false p) 0 10
 
 -- whatever the bytes of a line are, taking them one after the other and then parsing gives the line
 abbrev pub ActTaken : Type 0

@@ -1,6 +1,6 @@
 // The script of the simulation: what a line asks.
 ghost use mathlib.Core.Path.{_≡_};
-ghost use Rattle.acts.specs.Act.{readingBy, readingOf, moduleBy, supervisorBy, deliveryBy, responseBy, tickBy, tickOf, actOf, parsedAct};
+ghost use Rattle.acts.specs.Act.{readingBy, readingOf, moduleBy, supervisorBy, deliveryBy, responseBy, tickBy, tickOf, actOf, ActAs};
 use bits::Maybe;
 use lines::Number;
 use lines::Partial;
@@ -135,7 +135,7 @@ fn act_of(s: &[u8]) -> Act
 
 // What the line asks, if it ends here.
 pub fn parsed(p: Partial) -> Act
-    ensures { λ r. ⌜ r ≡ parsedAct p ⌝ }
+    ensures { λ r. ⌜ ActAs p r ⌝ }
 {
     let length = p.length;
     if length < 12 {

@@ -28,7 +28,7 @@ use Rattle.texts.specs.Ascii.{ascii, digits}
 use Rattle.script.specs.Line.{pairOf, lineOf}
 use Rattle.texts.specs.Numbers.{spacedAll}
 use Rattle.script.specs.Answers.{headerLine, refusedLine, turnLine, responseLine, statesRow}
-use Rattle.sheet.specs.Listing.{lineNumber, deviceAfter, answerTo, onFirst, linesOf, answersTo, listedBy, listed}
+use Rattle.sheet.specs.Listing.{deviceAfter, answerTo, onFirst, linesOf, answersTo, listedBy, listed}
 use Rattle.marked.specs.Sheet.{planP}
 
 -- the six lines, and what is printed of them
@@ -39,5 +39,5 @@ abbrev pub printed : List ℕ
 printed = ascii "plan 2 1 4\nturn 0 none\nturn 1 event 2\nturn 0 event 0\nresponse 1 queued 3\nturn 1 event 3\nturn 0 none\nstates 1 0 0\n"
 
 pub sheet : listed planP script ≡ printed
-unfolding planP ascii digits numberFrom begins upTo numberUpTo numberOf spaceIn pairOf lineOf spacedAll headerLine refusedLine turnLine responseLine statesRow lineNumber deviceAfter answerTo onFirst linesOf answersTo listedBy bit allBelow putBit least orElse someBelow maskOf wordAt wordBytes isEighths count eighths round ofBits bodyLen kindOf inRange operandInRange keyOf sameKey precedes recordOf walkOf recordsIn findIn field1 field2 field3 wordField found fieldOf stepsOf indexRuns inOrder namesDeclared keepsRules allDeclared faultOf checkWalk verdictOf field4 target stateOr supervisorAfter counting waterOf flowOk added arriveAt performed tickOf respondOf byResponse byCommand enabled byChoice turnOn turnOf queuedAny wish startOwn every queueFits idleFits stepFits procedureFits ownFits ownEmpty listFrom ownSlotFits stateSlotFits startSlot startState deviceFits shownBy stateAfterTurn turned afterTurn turnIn turnBy calledBy replyIn replyBy startBy
+unfolding planP ascii digits numberFrom begins upTo numberUpTo numberOf spaceIn pairOf lineOf spacedAll headerLine refusedLine turnLine responseLine statesRow deviceAfter answerTo onFirst linesOf answersTo listedBy bit allBelow putBit least orElse someBelow maskOf wordAt wordBytes isEighths count eighths round ofBits bodyLen kindOf inRange operandInRange keyOf sameKey precedes recordOf walkOf recordsIn findIn field1 field2 field3 wordField found fieldOf stepsOf indexRuns inOrder namesDeclared keepsRules allDeclared faultOf checkWalk verdictOf field4 target stateOr supervisorAfter counting waterOf flowOk added arriveAt performed tickOf respondOf byResponse byCommand enabled byChoice turnOn turnOf queuedAny wish startOwn every queueFits idleFits stepFits procedureFits ownFits ownEmpty listFrom ownSlotFits stateSlotFits startSlot startState deviceFits shownBy stateAfterTurn turned afterTurn turnIn turnBy calledBy replyIn replyBy startBy
 sheet = refl

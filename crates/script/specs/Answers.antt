@@ -6,9 +6,11 @@ use Rattle.modules.specs.declared.Own.{Own}
 use Rattle.modules.specs.declared.Turn.the-variants.{Event, Stray, Nothing}
 use Rattle.modules.specs.declared.Called.{Called}
 use Rattle.modules.specs.declared.Called.the-variants.{Done, Refused as CallRefused}
+use Rattle.modules.specs.Numbers.{calledNumber}
 use Rattle.device_states.specs.declared.Device.{Device}
 use Rattle.device.specs.declared.Turning.{Turning}
 use Rattle.device.specs.declared.Turning.the-variants.{Turned, Refused as TurnRefused}
+use Rattle.device.specs.Numbers.{turningNumber}
 use Rattle.texts.specs.Ascii.{ascii}
 use Rattle.texts.specs.Numbers.{spaced, spacedAll}
 
@@ -29,12 +31,12 @@ unfoldable pub turnLine : ℕ → Turning → List ℕ
 turnLine m (Turned (Event e)) = ascii "turn" ++ spaced m ++ ascii " event" ++ spaced e ++ ascii "\n"
 turnLine m (Turned (Stray e)) = ascii "turn" ++ spaced m ++ ascii " stray" ++ spaced e ++ ascii "\n"
 turnLine m (Turned Nothing) = ascii "turn" ++ spaced m ++ ascii " none\n"
-turnLine m (TurnRefused n o) = refusedLine n
+turnLine m (TurnRefused n o) = refusedLine (turningNumber (TurnRefused n o))
 
 -- "response 1 queued 3"
 unfoldable pub responseLine : ℕ → ℕ → Called → List ℕ
 responseLine m e Done = ascii "response" ++ spaced m ++ ascii " queued" ++ spaced e ++ ascii "\n"
-responseLine m e (CallRefused n o) = refusedLine n
+responseLine m e (CallRefused n o) = refusedLine (calledNumber (CallRefused n o))
 
 abbrev pub statesOf : List Own → List ℕ
 statesOf ws = map (λ (w : Own). w .state) ws

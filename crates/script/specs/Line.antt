@@ -2,8 +2,9 @@
 -- numbers without leading zeros, one space before each, and a line feed (the last may lack it); any other is 10", and "numbers over 255 are 10".
 use Prim.Native.Nat.{ℕ, _+_}
 use Prim.Native.Char.{code}
+use mathlib.Core.Path.{_≡_}
 use mathlib.Core.List.{List}
-use mathlib.Core.Bool.{cond}
+use mathlib.Core.Bool.{Bool, true, false, cond, _&&_}
 use lib.ListN.{take, drop}
 use Rattle.bits.specs.declared.Maybe.{Maybe}
 use Rattle.bits.specs.declared.Maybe.the-variants.{Just, Nothing}
@@ -35,6 +36,29 @@ lineOf bs =
 -- the line so far, as if it ended here
 abbrev pub parsedOf : Partial → Line
 parsedOf p = partly lineOf Misshapen p
+
+-- "any other is 10"; 0 for a line
+abbrev pub lineNumber : Line → ℕ
+lineNumber (Turn m) = 0
+lineNumber (Response m e) = 0
+lineNumber Misshapen = 10
+
+-- whether a number stands there
+abbrev pub given : Maybe → Bool
+given (Just n) = true
+given Nothing = false
+
+-- whether bytes are `M E`, and whether they are a line
+unfoldable pub isPair : List ℕ → Bool
+isPair bs = given (numberOf (take (spaceIn bs) bs)) && given (numberOf (drop (spaceIn bs + 1) bs))
+
+unfoldable pub isLine : List ℕ → Bool
+isLine bs = cond (starts (code "t") bs) (given (numberOf (drop 2 bs))) (starts (code "r") bs && isPair (drop 2 bs))
+
+-- the whole answer r: its case with its numbers, and the number of that case, by whether the bytes are what they should be
+pub record LineAs (line : Line) (shaped : Bool) (r : Line) : Type 0 where
+  pub answer : r ≡ line
+  pub number : lineNumber r ≡ cond shaped 0 10
 
 -- whatever the bytes of a line are, taking them one after the other and then parsing gives the line
 abbrev pub LineTaken : Type 0

@@ -5,10 +5,12 @@ use Rattle.device_states.specs.declared.Device.{Device}
 use Rattle.modules.specs.declared.Turn.the-variants.{Event, Stray, Nothing}
 use Rattle.modules.specs.declared.Called.{Called}
 use Rattle.modules.specs.declared.Called.the-variants.{Done, Refused as CallRefused}
+use Rattle.modules.specs.Numbers.{calledNumber}
 use Rattle.permits.specs.declared.Stepped.{Stepped}
 use Rattle.permits.specs.declared.Stepped.the-variants.{Turned, Bids, Waits, Refused as StepRefused}
 use Rattle.permits.specs.declared.Served.{Served}
 use Rattle.permits.specs.declared.Served.the-variants.{Sends, Waits as ServedWaits, Refused as ServedRefused}
+use Rattle.permits.specs.Numbers.{steppedNumber, servedNumber}
 use Rattle.texts.specs.Ascii.{ascii}
 use Rattle.texts.specs.Digits.{hexes}
 use Rattle.texts.specs.Numbers.{spaced}
@@ -22,7 +24,7 @@ deliveredLine bs = ascii "delivered " ++ hexes bs ++ ascii "\n"
 
 unfoldable pub tickLine : ℕ → Called → List ℕ
 tickLine m Done = ascii "tick" ++ spaced m ++ ascii "\n"
-tickLine m (CallRefused n o) = refusedLine n
+tickLine m (CallRefused n o) = refusedLine (calledNumber (CallRefused n o))
 
 unfoldable pub steppedLine : ℕ → Stepped → List ℕ
 steppedLine m (Turned (Event e) k) = ascii "module" ++ spaced m ++ ascii " event" ++ spaced e ++ ascii "\n"
@@ -30,12 +32,12 @@ steppedLine m (Turned (Stray e) k) = ascii "module" ++ spaced m ++ ascii " stray
 steppedLine m (Turned Nothing k) = ascii "module" ++ spaced m ++ ascii " none\n"
 steppedLine m (Bids v k) = ascii "module" ++ spaced m ++ ascii " bids" ++ spaced v ++ ascii "\n"
 steppedLine m Waits = ascii "module" ++ spaced m ++ ascii " waits\n"
-steppedLine m (StepRefused n o) = refusedLine n
+steppedLine m (StepRefused n o) = refusedLine (steppedNumber (StepRefused n o))
 
 unfoldable pub servedLine : ℕ → Served → List ℕ
 servedLine v (Sends m k) = ascii "supervisor" ++ spaced v ++ ascii " permits" ++ spaced m ++ ascii "\n"
 servedLine v ServedWaits = ascii "supervisor" ++ spaced v ++ ascii " waits\n"
-servedLine v (ServedRefused n o) = refusedLine n
+servedLine v (ServedRefused n o) = refusedLine (servedNumber (ServedRefused n o))
 
 -- no message stands at the place
 unfoldable pub nothingLine : List ℕ

@@ -1,13 +1,15 @@
 // The lines of the listing and the simulation: what a line of the listing's script is, and lines of output as values.
 ghost use mathlib.Core.Path.{_≡_};
 ghost use mathlib.Core.List.{_++_};
+ghost use mathlib.Core.Bool.{false};
 ghost use Prim.Native.Nat.{_+_, _≤_};
 ghost use lib.ListN.{length, take};
+ghost use Rattle.lines.specs.Partial.{partly};
 ghost use Rattle.texts.specs.Ascii.{ascii};
 ghost use Rattle.texts.specs.Digits.{hexes};
 ghost use Rattle.texts.specs.Numbers.{spaced, spacedAll};
 ghost use Rattle.texts.specs.Text.{textOf, appended, cut};
-ghost use Rattle.script.specs.Line.{turnBy, responseBy, pairOf, lineOf, parsedOf};
+ghost use Rattle.script.specs.Line.{turnBy, responseBy, pairOf, lineOf, parsedOf, isPair, isLine, LineAs};
 ghost use Rattle.script.specs.Answers.{statesOf, headerLine, planRefusedLine, refusedLine, turnLine, responseLine, statesRow, statesLine};
 ghost use Rattle.script.specs.SimulationLines.{sentLine, deliveredLine, steppedLine, servedLine, tickLine, nothingLine, deviceLine};
 use bits::Maybe;
@@ -51,7 +53,7 @@ fn response_by(m: Maybe, e: Maybe) -> Line
 
 // The two numbers behind `r `.
 pub fn pair_of(s: &[u8]) -> Line
-    ensures { λ r. ⌜ r ≡ pairOf (now (s .entry)) ⌝ }
+    ensures { λ r. ⌜ LineAs (pairOf (now (s .entry))) (isPair (now (s .entry))) r ⌝ }
 {
     let k = lines::space_in(s);
     if k < s.len() {
@@ -84,7 +86,7 @@ fn line_of(s: &[u8]) -> Line
 
 // What the line is, if it ends here.
 pub fn parsed(p: Partial) -> Line
-    ensures { λ r. ⌜ r ≡ parsedOf p ⌝ }
+    ensures { λ r. ⌜ LineAs (parsedOf p) (partly isLine false p) r ⌝ }
 {
     let length = p.length;
     if length < 12 {

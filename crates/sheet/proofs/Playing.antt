@@ -11,7 +11,7 @@ use Rattle.script.specs.declared.Line.the-variants.{Turn, Response, Misshapen}
 use Rattle.texts.specs.declared.Text.{Text}
 use Rattle.texts.specs.Text.{textOf}
 use Rattle.script.specs.Answers.{refusedLine, turnLine, responseLine}
-use Rattle.sheet.specs.Listing.{lineNumber, deviceAfter, answerTo, played}
+use Rattle.sheet.specs.Listing.{deviceAfter, answerTo, played}
 
 module _ (image : List ℕ) (d : Device) {l : Line} {t : Text} where
   pub play-turn : {m : ℕ} {c : DeviceTurned} → l ≡ Turn m → c ≡ turnCall image d m → t ≡ textOf (turnLine m (c .answer)) → record { device = c .device; line = t } ≡ played image d l
@@ -29,5 +29,5 @@ module _ (image : List ℕ) (d : Device) {l : Line} {t : Text} where
       ∙ ap (played image d) (sym e)
 
   pub play-misshapen : l ≡ Misshapen → t ≡ textOf (refusedLine 10) → record { device = d; line = t } ≡ played image d l
-  unfolding deviceAfter answerTo lineNumber
+  unfolding deviceAfter answerTo
   play-misshapen e h = ap (λ (x : Text). record { device = d; line = x }) h ∙ ap (played image d) (sym e)

@@ -15,18 +15,12 @@ use Rattle.lines.specs.declared.Partial.{Partial}
 use Rattle.lines.specs.Partial.{begun, withByte, hasByte}
 use Rattle.script.specs.declared.Line.{Line}
 use Rattle.script.specs.declared.Line.the-variants.{Turn, Response, Misshapen}
-use Rattle.script.specs.Line.{lineOf, parsedOf}
+use Rattle.script.specs.Line.{lineOf, parsedOf, lineNumber}
 use Rattle.texts.specs.Text.{textOf}
 use Rattle.script.specs.Answers.{headerLine, planRefusedLine, refusedLine, turnLine, responseLine, statesLine}
 use Rattle.sheet.specs.declared.Played.{Played}
 
 -- ---- a line
-
--- "any other is 10", and 0 where no number applies
-unfoldable pub lineNumber : Line → ℕ
-lineNumber (Turn m) = 0
-lineNumber (Response m e) = 0
-lineNumber Misshapen = 10
 
 -- "`t M` is a turn of module M, `r M E` a queued response E"
 unfoldable pub deviceAfter : List ℕ → Device → Line → Device

@@ -1,6 +1,6 @@
 use borrow.Author.Needs.{needs}
 use Rattle.script.proofs.Parts.{slice-count}
-use Rattle.script.proofs.Lines.{pair-by, pair-none}
+use Rattle.script.proofs.Lines.{pair-by, pair-none, pair-as}
 use Rattle.script.proofs.pair_of.Statement.{statement}
 use Rattle.script.proofs.pair_of.Tie as tie
 
@@ -32,10 +32,10 @@ response-by-requires : tie.Need-response-by-requires
 response-by-requires c κs = search needs
 
 returns : tie.Need-returns
-returns c = search pair-by
+returns c = pair-as _ (search pair-by)
 
 returns-2 : tie.Need-returns-2
-returns-2 c = search pair-none
+returns-2 c = pair-as _ (search pair-none)
 
 pub pair-of-spec : {M : Type 1} → statement M
 pair-of-spec =
