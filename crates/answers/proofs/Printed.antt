@@ -2,6 +2,7 @@
 use Prim.Native.Nat.{ℕ, _*_}
 use native.Mathlib.Omega.{arith}
 use mathlib.Core.Path.{_≡_, refl, sym, ap, _∙_}
+use mathlib.Core.Logic.{_≢_}
 use mathlib.Core.List.{List, [], _∷_}
 use mathlib.Core.Bool.{Bool, true, false, cond}
 use lib.ListN.{length, length-append}
@@ -22,6 +23,7 @@ use Rattle.permits.specs.declared.Stepped.{Stepped}
 use Rattle.permits.specs.declared.Stepped.the-variants.{Turned, Bids, Waits, Refused as StepRefused}
 use Rattle.permits.proofs.Stepped as SteppedType
 use Rattle.permits.specs.declared.Served.{Served}
+use Rattle.permits.specs.declared.Served.the-variants.{Sends, Waits as ServedWaits, Refused as ServeRefused}
 use Rattle.texts.specs.declared.Text.{Text}
 use Rattle.texts.specs.Ascii.{ascii}
 use Rattle.texts.specs.Text.{textOf, cut}
@@ -32,7 +34,8 @@ use Rattle.texts.proofs.Texts.{appended-text}
 use Rattle.simulation.specs.declared.Answer.{Answer}
 use Rattle.simulation.specs.declared.Answer.the-variants.{Module, Supervisor, Delivery, NoMessage, Response, Tick, Misshapen}
 use Rattle.simulation.proofs.Answer as AnswerType
-use Rattle.answers.specs.AnswerLines.{deliveryLine, answerLine, eventOf, stepEvent, fired, commandOf, command}
+use Rattle.simulation.specs.Numbers.{answerNumber}
+use Rattle.answers.specs.AnswerLines.{deliveryLine, answerLine, LineOf, eventOf, stepEvent, fired, commandOf, command}
 use Rattle.simulation.proofs.Playing.{message-length}
 
 -- ---- a message's bytes are few
@@ -98,6 +101,28 @@ module _ {a : Answer} {r : Text} where
   pub line-misshapen : a ≡ Misshapen → r ≡ textOf (refusedLine 10) → r ≡ textOf (answerLine a)
   unfolding answerLine
   line-misshapen e f = said-as _ e f
+
+-- an answer that has a number is printed by it
+refused-line : (a : Answer) → answerNumber a ≢ 0 → answerLine a ≡ refusedLine (answerNumber a)
+unfolding answerLine steppedLine servedLine deliveryLine responseLine tickLine
+refused-line (Module m (Turned t n)) h = absurd (h refl)
+refused-line (Module m (Bids v n)) h = absurd (h refl)
+refused-line (Module m Waits) h = absurd (h refl)
+refused-line (Module m (StepRefused n o)) h = refl
+refused-line (Supervisor v (Sends m n)) h = absurd (h refl)
+refused-line (Supervisor v ServedWaits) h = absurd (h refl)
+refused-line (Supervisor v (ServeRefused n o)) h = refl
+refused-line (Delivery g Done) h = absurd (h refl)
+refused-line (Delivery g (CallRefused n o)) h = refl
+refused-line NoMessage h = absurd (h refl)
+refused-line (Response m e Done) h = absurd (h refl)
+refused-line (Response m e (CallRefused n o)) h = refl
+refused-line (Tick m Done) h = absurd (h refl)
+refused-line (Tick m (CallRefused n o)) h = refl
+refused-line Misshapen h = refl
+
+pub line-of : (a : Answer) {r : Text} → r ≡ textOf (answerLine a) → LineOf a r
+line-of a e = record { line = e; refused = λ h. e ∙ ap textOf (refused-line a h) }
 
 -- ---- the event that fired
 

@@ -1,5 +1,7 @@
 -- The line that the simulation prints of what a line of its script got.
 use Prim.Native.Nat.{ℕ, _+_}
+use mathlib.Core.Path.{_≡_}
+use mathlib.Core.Logic.{_≢_}
 use mathlib.Core.List.{List}
 use mathlib.Core.Bool.{Bool, cond}
 use lib.ListN.{set, replicate}
@@ -12,29 +14,23 @@ use Rattle.modules.specs.declared.Turn.{Turn}
 use Rattle.modules.specs.declared.Turn.the-variants.{Event, Stray, Nothing as NoTurn}
 use Rattle.modules.specs.declared.Called.{Called}
 use Rattle.modules.specs.declared.Called.the-variants.{Done, Refused}
+use Rattle.modules.specs.Numbers.{calledNumber}
 use Rattle.messages.specs.Message.{messageBytes}
 use Rattle.messages.specs.declared.Message.{Message}
+use Rattle.texts.specs.declared.Text.{Text}
+use Rattle.texts.specs.Text.{textOf}
 use Rattle.script.specs.Answers.{refusedLine, responseLine}
 use Rattle.script.specs.SimulationLines.{deliveredLine, steppedLine, servedLine, tickLine, nothingLine}
 use Rattle.permits.specs.declared.Stepped.{Stepped}
 use Rattle.permits.specs.declared.Stepped.the-variants.{Turned, Bids, Waits, Refused as StepRefused}
 use Rattle.simulation.specs.declared.Answer.{Answer}
 use Rattle.simulation.specs.declared.Answer.the-variants.{Module, Supervisor, Delivery, NoMessage, Response, Tick, Misshapen}
+use Rattle.simulation.specs.Numbers.{answerNumber}
 use Rattle.answers.specs.declared.Row.{Row}
 
 unfoldable pub deliveryLine : Message → Called → List ℕ
 deliveryLine g Done = deliveredLine (messageBytes g)
-deliveryLine g (Refused n o) = refusedLine n
-
--- "any other is 10"
-abbrev pub answerNumber : Answer → ℕ
-answerNumber (Module m a) = 0
-answerNumber (Supervisor v a) = 0
-answerNumber (Delivery g a) = 0
-answerNumber NoMessage = 0
-answerNumber (Response m e a) = 0
-answerNumber (Tick m a) = 0
-answerNumber Misshapen = 10
+deliveryLine g (Refused n o) = refusedLine (calledNumber (Refused n o))
 
 unfoldable pub answerLine : Answer → List ℕ
 answerLine (Module m a) = steppedLine m a
@@ -44,6 +40,11 @@ answerLine NoMessage = nothingLine
 answerLine (Response m e a) = responseLine m e a
 answerLine (Tick m a) = tickLine m a
 answerLine Misshapen = refusedLine (answerNumber Misshapen)
+
+-- the text t of an answer, which is "`refused N`" of one that has a number
+pub record LineOf (a : Answer) (t : Text) : Type 0 where
+  pub line : t ≡ textOf (answerLine a)
+  pub refused : answerNumber a ≢ 0 → t ≡ textOf (refusedLine (answerNumber a))
 
 -- "The record lists the events fired, in order"
 unfoldable pub eventOf : Turn → Maybe

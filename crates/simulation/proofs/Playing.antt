@@ -1,7 +1,7 @@
 -- Each way through a line, with every fact that the code is told as a premise.
 use Prim.Native.Nat.{ℕ, min, _+_, _≤_}
 use native.Mathlib.Omega.{arith}
-use mathlib.Core.Path.{_≡_, sym, ap, ap₂, _∙_, subst}
+use mathlib.Core.Path.{_≡_, refl, sym, ap, ap₂, _∙_, subst}
 use mathlib.Core.List.{List, [], _++_}
 use mathlib.Core.Bool.{Bool, true, false, cond}
 use lib.ListN.{length, take, drop, replicate, length-append}
@@ -47,6 +47,7 @@ use Rattle.parties.specs.Parties.{moduleAt, supervisorAt, withModule, withSuper
 use Rattle.simulation.specs.declared.Answer.the-variants.{Module as ModuleGot, Supervisor as SupervisorGot, Delivery, NoMessage, Response, Tick, Misshapen}
 use Rattle.simulation.specs.declared.Played.{Played}
 use Rattle.simulation.specs.Play.{read, inFours, lentFor, afterStep, moduleStepped, afterServing, supervisorStepped, wireAfter, toModule, toSupervisor, deliveredBy, delivered, responded, ticked, played}
+use Rattle.simulation.specs.Numbers.{answerNumber, deliveryNumber, callNumber, PlayedAs}
 use Rattle.simulation.proofs.Sending.{part}
 
 -- ---- a buffer's first bytes
@@ -249,3 +250,23 @@ module _ (image : List ℕ) (p : Parties) {a : Act} {r : Played} where
 pub play-misshapen : (image : List ℕ) (p : Parties) {a : Act} → a ≡ MisshapenLine → record { answer = Misshapen; play = p } ≡ played image p a
 unfolding played
 play-misshapen image p e = ap (played image p) (sym e)
+
+-- the number of the case is that of the line's call
+pub played-as : (image : List ℕ) (p : Parties) (a : Act) {r : Played} → r ≡ played image p a → PlayedAs image p a r
+unfolding played moduleStepped supervisorStepped deliveredBy toModule toSupervisor responded ticked callNumber deliveryNumber
+played-as image p a e = record { answer = e; number = ap (λ (x : Played). answerNumber (x .answer)) e ∙ number a }
+  where
+    delivery : (k : ℕ) (l : Place) → answerNumber (deliveredBy image p k l .answer) ≡ deliveryNumber image p l
+    delivery k Missing = refl
+    delivery k (It (Bid m v)) = refl
+    delivery k (It (Permit v m x)) = refl
+    delivery k (It (Release m v x)) = refl
+
+    number : (b : Act) → answerNumber (played image p b .answer) ≡ callNumber image p b
+    number (ModuleLine m) = refl
+    number (SupervisorLine v) = refl
+    number (DeliveryLine k) = delivery k (nthOf (under (p .wire)) k)
+    number (ResponseLine m x) = refl
+    number (TickLine m n) = refl
+    number (UnfittedLine m) = refl
+    number MisshapenLine = refl

@@ -4,7 +4,8 @@ ghost use Prim.Native.Nat.{min};
 ghost use Rattle.litres.specs.Eighths.{eighths};
 ghost use Rattle.messages.specs.Message.{messageBytes};
 ghost use Rattle.wire.specs.Wire.{withMessages};
-ghost use Rattle.simulation.specs.Play.{read, inFours, afterStep, afterServing, moduleStepped, supervisorStepped, lentFor, wireAfter, toModule, toSupervisor, deliveredBy, delivered, responded, ticked, played};
+ghost use Rattle.simulation.specs.Play.{read, inFours, afterStep, afterServing, moduleStepped, supervisorStepped, lentFor, wireAfter, toModule, toSupervisor, deliveredBy, delivered, responded, ticked};
+ghost use Rattle.simulation.specs.Numbers.{PlayedAs};
 use acts::Act;
 use messages::Message;
 use messages::Parsed;
@@ -282,7 +283,7 @@ fn litres_of(n: u16) -> f64
 
 // Does what a line asks.
 pub fn play(image: &[u8], p: Parties, a: Act) -> Played
-    ensures { λ r. ⌜ r ≡ played (now (image .entry)) p a ⌝ }
+    ensures { λ r. ⌜ PlayedAs (now (image .entry)) p a r ⌝ }
 {
     match a {
         Act::Module(m) => module_step(image, p, m),

@@ -1,4 +1,4 @@
-use Rattle.answers.proofs.Printed.{line-module, line-supervisor, line-delivery, line-nothing, line-response, line-tick, line-misshapen}
+use Rattle.answers.proofs.Printed.{line-module, line-supervisor, line-delivery, line-nothing, line-response, line-tick, line-misshapen, line-of}
 use borrow.Author.Needs.{needs}
 use Rattle.answers.proofs.answer_line.Statement.{statement}
 use Rattle.answers.proofs.answer_line.Tie as tie
@@ -46,25 +46,25 @@ refused-line-requires : tie.Need-refused-line-requires
 refused-line-requires c κs = search needs
 
 returns : tie.Need-returns
-returns c = search line-module
+returns c = line-of _ (search line-module)
 
 returns-2 : tie.Need-returns-2
-returns-2 c = search line-supervisor
+returns-2 c = line-of _ (search line-supervisor)
 
 returns-3 : tie.Need-returns-3
-returns-3 c = search line-delivery
+returns-3 c = line-of _ (search line-delivery)
 
 returns-4 : tie.Need-returns-4
-returns-4 c = search line-nothing
+returns-4 c = line-of _ (search line-nothing)
 
 returns-5 : tie.Need-returns-5
-returns-5 c = search line-response
+returns-5 c = line-of _ (search line-response)
 
 returns-6 : tie.Need-returns-6
-returns-6 c = search line-tick
+returns-6 c = line-of _ (search line-tick)
 
 returns-7 : tie.Need-returns-7
-returns-7 c = search line-misshapen
+returns-7 c = line-of _ (search line-misshapen)
 
 pub answer-line-spec : {M : Type 1} → statement M
 answer-line-spec =

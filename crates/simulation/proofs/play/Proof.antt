@@ -1,4 +1,4 @@
-use Rattle.simulation.proofs.Playing.{play-module, play-supervisor, play-delivery, play-response, play-tick, play-unfitted, play-misshapen}
+use Rattle.simulation.proofs.Playing.{play-module, play-supervisor, play-delivery, play-response, play-tick, play-unfitted, play-misshapen, played-as}
 use borrow.Author.Needs.{needs}
 use Rattle.simulation.proofs.play.Statement.{statement}
 use Rattle.simulation.proofs.play.Tie as tie
@@ -49,25 +49,25 @@ enum-told : tie.Need-enum-told
 enum-told c = search needs
 
 returns : tie.Need-returns
-returns c = search play-module
+returns c = played-as _ _ _ (search play-module)
 
 returns-2 : tie.Need-returns-2
-returns-2 c = search play-supervisor
+returns-2 c = played-as _ _ _ (search play-supervisor)
 
 returns-3 : tie.Need-returns-3
-returns-3 c = search play-delivery
+returns-3 c = played-as _ _ _ (search play-delivery)
 
 returns-4 : tie.Need-returns-4
-returns-4 c = search play-response
+returns-4 c = played-as _ _ _ (search play-response)
 
 returns-5 : tie.Need-returns-5
-returns-5 c = search play-tick
+returns-5 c = played-as _ _ _ (search play-tick)
 
 returns-6 : tie.Need-returns-6
-returns-6 c = search play-unfitted
+returns-6 c = played-as _ _ _ (search play-unfitted)
 
 returns-7 : tie.Need-returns-7
-returns-7 c = search play-misshapen
+returns-7 c = played-as _ _ _ (search play-misshapen)
 
 pub play-spec : {M : Type 1} → statement M
 play-spec =
