@@ -8,11 +8,12 @@ use Rattle.places.specs.Places.{placesOf, recordsBy}
 use Rattle.places.specs.declared.Places.{Places}
 use Rattle.placed.proofs.Placed.{all-found}
 use Rattle.rules.specs.Check.{verdictOf}
+use Rattle.rules.specs.Numbers.{verdictNumber, verdictOffset}
 use Rattle.rules.specs.declared.Verdict.{Verdict}
 use Rattle.rules.specs.declared.Verdict.the-variants.{Accepted as VerdictAccepted, Refused as VerdictRefused}
 use Rattle.checker.specs.declared.Examined.{Examined}
 use Rattle.checker.specs.declared.Examined.the-variants.{Accepted, Refused}
-use Rattle.checker.specs.Examined.{examinedBy, examinedOf}
+use Rattle.checker.specs.Examined.{examinedBy, examinedOf, examinedNumber, examinedOffset, ExaminedAs}
 
 -- the verdict, and the places, that an answer tells
 verdictIn : Examined → Verdict
@@ -61,6 +62,19 @@ module _ (s : List ℕ) where
 
   pub refuses : {x : Examined} {n o : ℕ} → x ≡ examinedOf s → x ≡ Refused n o → VerdictRefused n o ≡ verdictOf s
   refuses e g = sym (refused-is e g)
+
+  -- the number and the offset of its case are the verdict's
+  pub examined-as : {x : Examined} → x ≡ examinedOf s → ExaminedAs s x
+  unfolding examinedOf examinedBy
+  examined-as e = record { answer = e; number = ap examinedNumber e ∙ number (verdictOf s); offset = ap examinedOffset e ∙ offset (verdictOf s) }
+    where
+      number : (v : Verdict) → examinedNumber (examinedBy (placesOf s) v) ≡ verdictNumber v
+      number VerdictAccepted = refl
+      number (VerdictRefused n o) = refl
+
+      offset : (v : Verdict) → examinedOffset (examinedBy (placesOf s) v) ≡ verdictOffset v
+      offset VerdictAccepted = refl
+      offset (VerdictRefused n o) = refl
 
   -- a look-up by the places finds the plan's records
   pub records-by : {x : Examined} {p : Places} → x ≡ examinedOf s → x ≡ Accepted p → recordsBy s p ≡ recordsOf s

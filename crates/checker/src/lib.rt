@@ -5,7 +5,7 @@ ghost use lib.Dec.{eqb};
 ghost use Prim.Native.Nat.{_+_, _%_, _≤_, _<_};
 ghost use Rattle.rules.specs.Check.{verdictOf, endAt};
 ghost use Rattle.places.specs.Places.{nowhere};
-ghost use Rattle.checker.specs.Examined.{examinedBy, examinedOf};
+ghost use Rattle.checker.specs.Examined.{examinedBy, examinedOf, ExaminedAs};
 ghost use Rattle.checker.specs.Stretch.{Reached, Passed, notedPast, contextBy, eventsBy, modulesBy, supervisorsBy, headed};
 ghost use Rattle.checker.specs.Stretch.{atEvents, atModules, atModuleMoves, atSupervisors, atDisablings, atSteps};
 ghost use Rattle.checker.specs.Stretch.{standsAt, fieldsAt, supervisorKept, Below, moveNamed, disablingNamed, respondFits, stepKept, endKept};
@@ -690,7 +690,7 @@ fn after_head(image: &[u8], from: usize, n: Counts) -> Examined
 
 // Accepted, with the places of the records, or the number and the offset.
 pub fn examine(image: &[u8]) -> Examined
-    ensures { λ x. ⌜ x ≡ examinedOf (now (image .entry)) ⌝ }
+    ensures { λ x. ⌜ ExaminedAs (now (image .entry)) x ⌝ }
 {
     if LIMIT < image.len() {
         return Examined::Refused(1, 0);

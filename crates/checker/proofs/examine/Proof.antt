@@ -9,6 +9,7 @@ use Rattle.rules.specs.Check.{limit}
 use Rattle.checker.specs.Stretch.{standsAt}
 use Rattle.checker.proofs.Stretch.{stands-there}
 use Rattle.checker.proofs.Loop.{begins, too-long, head-by}
+use Rattle.checker.proofs.Examining.{examined-as}
 use Rattle.checker.proofs.examine.Statement.{statement}
 use Rattle.checker.proofs.examine.Tie as tie
 
@@ -16,7 +17,7 @@ below : (c : tie.After-stands) → length (now (c .before .before .before .befor
 below c = omega arith
 
 returns : tie.Need-returns
-returns c = too-long _ (c .if1 .taken)
+returns c = examined-as _ (too-long _ (c .if1 .taken))
 
 size-of-requires : tie.Need-size-of-requires
 size-of-requires c κs = search needs
@@ -39,7 +40,7 @@ after-head-requires c κs =
     head-by _ (below a) (a .before .size-of .ensures) (a .stands .ensures) (f .before .if2 .taken) (f .fields-at .ensures) (c .before .in-range .ensures) (c .if3 .taken)
 
 returns-2 : tie.Need-returns-2
-returns-2 c = search needs
+returns-2 c = examined-as _ (search needs)
 
 started-requires : tie.Need-started-requires
 started-requires c κs = search needs
@@ -51,7 +52,7 @@ judged-requires : tie.Need-judged-requires
 judged-requires c κs = begins _ (c .before .started .ensures) (c .nowhere .ensures) (below (c .before .before .before))
 
 returns-3 : tie.Need-returns-3
-returns-3 c = search needs
+returns-3 c = examined-as _ (search needs)
 
 pub examine-spec : {M : Type 1} → statement M
 examine-spec =
