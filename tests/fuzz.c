@@ -90,7 +90,7 @@ static const struct plan *choose_image(void)
 /* An uncontrollable event of the module; event records follow the head, four bytes each. */
 static uint8_t response_of(const struct plan *plan, uint8_t module)
 {
-    for (size_t place = 4; plan->image[place] == RECORD_EVENT; place += 4)
+    for (size_t place = 4; plan->image[place] == PEWTERSLUG_RECORD_EVENT; place += 4)
         if (plan->image[place + 2] == module && plan->image[place + 3] == 0)
             return plan->image[place + 1];
     return 0xFF;

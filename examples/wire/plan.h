@@ -8,9 +8,6 @@
 
 #include "pewterslug.h"
 
-/* The name that tests/fuzz.c has for it. */
-enum { RECORD_EVENT = PEWTERSLUG_RECORD_EVENT };
-
 struct plan {
     const char *name;
     uint8_t image[PEWTERSLUG_IMAGE_LIMIT];
