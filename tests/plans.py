@@ -1,4 +1,4 @@
-"""tools/plan on texts with faults, on random, damaged and largest images, and on damaged texts; and its drawings.
+"""tools/plan on the plans of examples, on texts with faults, on random, damaged and largest images, and on damaged texts.
 
     python3 tests/plans.py LISTING..
 
@@ -302,6 +302,17 @@ def try_bad_tables():
 # Texts.
 
 
+def try_examples():
+    """A plan shown with its names has the same text after it is built again, the same image and the same names."""
+    for path in sorted(glob.glob("examples/plans/*.plan")):
+        image, table, errors = build(path)
+        insist(image is not None, errors)
+        text = show(image, table)[0]
+        insist(build_shown(text)[:2] == (image, table), path, "is shown with its names and built otherwise")
+        insist(show(image, table)[0] == text, path, "is shown otherwise the second time")
+        count("plans shown")
+
+
 def try_faults():
     for path in sorted(glob.glob("tests/plans/*.plan")):
         with open(path[:-5] + ".expected", encoding="utf-8") as file:
@@ -529,6 +540,7 @@ def main(words):
         with open(words[1], "rb") as file:
             digits(file.read())
         return
+    try_examples()
     try_faults()
     try_forms()
     try_bad_tables()

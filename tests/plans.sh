@@ -1,7 +1,7 @@
 #!/usr/bin/env bash
-# Plans as text. Each examples/plans/NAME.plan must build the stored image NAME.hex, be shown and built again, with its names and without, and be
-# accepted by the proved check; where there is a NAME.script, the simulation must print NAME.expected. The orchard must be that of examples/wire.
-# Then tests/plans.py: texts with faults (tests/plans/*.plan, told as in *.expected), random and damaged images and texts, drawings.
+# Plans as text. Each examples/plans/NAME.plan must build the stored image NAME.hex and be accepted by the proved check; where there is a
+# NAME.script, the simulation must print NAME.expected. The orchard must be that of examples/wire. Then tests/plans.py: these plans shown and
+# built again, texts with faults (tests/plans/*.plan, told as in *.expected), random and damaged images and texts, drawings.
 set -eu
 cd "$(dirname "$0")/.."
 here=$PWD
@@ -16,20 +16,10 @@ count=0
 fail() { echo "plans: $*"; exit 1; }
 run() { "$loader" --library-path "$(dirname "$loader")" "$here/target/bin/$1"; }
 
-# Shows the image, with the table if there is one, and builds it again.
-again() { # TABLE..
-  tools/plan show "$room/plan.bin" "$@" > "$room/again.plan" || fail "$plan is not shown"
-  tools/plan build "$room/again.plan" || fail "$plan is shown, but what is shown is not built"
-  cmp "$room/plan.bin" "$room/again.bin" || fail "$plan is shown and built otherwise"
-}
-
 for plan in examples/plans/*.plan; do
   name=${plan%.plan}
   tools/plan build "$plan" -o "$room/plan.bin" || fail "$plan is not built"
   tests/bytes.sh "$name.hex" | cmp - "$room/plan.bin" || fail "$plan is not $name.hex"
-  again "$room/plan.names"
-  cmp "$room/plan.names" "$room/again.names" || fail "$plan is shown with other names"
-  again
   # shellcheck disable=SC2046
   header=$(printf 'plan %d %d %d' $(od -An -tu1 -j1 -N3 "$room/plan.bin"))
   [ "$(cd "$room" && run listing < /dev/null | head -n 1)" = "$header" ] || fail "$plan is not accepted"
@@ -42,7 +32,11 @@ cmp <(tests/bytes.sh docs/two-valve.hex) <(tests/bytes.sh examples/plans/two-val
 ${CC:-cc} -std=c11 -Wall -Wextra -Werror -Iinclude -Iexamples/wire tests/orchard.c examples/wire/orchard.c -o "$room/orchard"
 "$room/orchard" | cmp - <(tests/bytes.sh examples/plans/orchard.hex) || fail "the orchard plan is not that of examples/wire"
 
-# the command line itself: no file, a text with a fault, an image that cannot be shown
+# the command line itself: a plan shown and built again beside its text, no file, a text with a fault, an image that cannot be shown
+tools/plan show "$room/plan.bin" "$room/plan.names" > "$room/again.plan" || fail "$plan is not shown"
+tools/plan build "$room/again.plan" || fail "$plan is shown, but what is shown is not built"
+cmp "$room/plan.bin" "$room/again.bin" || fail "$plan is shown and built otherwise"
+cmp "$room/plan.names" "$room/again.names" || fail "$plan is shown with other names"
 tools/plan build "$room/none.plan" 2> "$room/told" && fail "a text that is not there is built"
 [ "$(cat "$room/told")" = "plan: $room/none.plan: No such file or directory" ] || fail "a text that is not there is told otherwise"
 tools/plan build tests/plans/unknown-word.plan -o "$room/none.bin" 2> "$room/told" && fail "a text with a fault is built"
@@ -69,4 +63,4 @@ PATH=$room/bin "$python" tools/plan draw examples/plans/two-valve.plan -o "$room
 tools/plan --help | grep -q 'THE TEXT' || fail "there is no help"
 
 found=$(python3 tests/plans.py "$loader" --library-path "$(dirname "$loader")" "$here/target/bin/listing") || exit 1
-echo "plans: $count plans built, shown and accepted; $found"
+echo "plans: $count plans built and accepted; $found"
