@@ -1,5 +1,5 @@
--- Demand 3, of the calls on a plan image: "one claim over every whole list, not one per call". The statement is `Demand`, at the end; its sentence
--- is quoted part by part. What `Demand3` and `Besides` say is all that has to be believed; the rest of the crate and crate protocol are the proof.
+-- Demand 3, of the calls on a plan image: "one claim over every whole list, not one per call". The statement is `Demand`, at the end of this file; its
+-- sentence is quoted part by part. To trust the proof one has to read this statement and the definitions that it names, and no step of the proof.
 use Prim.Native.Nat.{ℕ, _≤_, _<_}
 use mathlib.Core.Path.{_≡_}
 use mathlib.Core.Logic.{_≢_}
