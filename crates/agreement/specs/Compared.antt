@@ -112,7 +112,8 @@ recordOfEvents (turnSeen m t own ∷ l) = turnEvents t ++ recordOfEvents l
 recordOfEvents (refusalSeen m n own ∷ l) = recordOfEvents l
 recordOfEvents (callSeen m r own ∷ l) = recordOfEvents l
 
--- document 01's terms out and home: "A permit is out from the step that sends it until its release is accepted, else home.": supervisor v's, by the answers of the calls
+-- document 01's terms out and home: "A permit is out from the step that sends it until its release is accepted, else home.": supervisor v's, by the
+-- answers of the calls
 unfoldable pub afterServing : Served → Holder → Holder
 afterServing (Sends m n) h = Out m
 afterServing SupervisorWaits h = h

@@ -2,7 +2,7 @@
 ghost use mathlib.Core.Path.{_≡_};
 ghost use Rattle.bits.specs.Bit.{bit, allBelow, everyEvent, putBit, least, optionOf};
 
-// A number, or the word that there is none.
+// A number, or that there is none.
 pub enum Maybe {
     Just(u8),
     Nothing,

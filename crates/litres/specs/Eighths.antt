@@ -10,7 +10,8 @@ unfoldable pub eighths : ℕ → Float
 unfolding round
 eighths n = round binary64 false n 8
 
--- x is n / 8 for a whole number n, with the sign clear: no NaN, no infinity, no minus zero
+-- x is n / 8 for a whole number n, with the sign clear: no NaN, no infinity, no minus zero. `fin s m e` is the finite f64 m * 2 ^ e, negative where s
+-- is true; 2 ^ e is the fraction up e / down e.
 unfoldable pub isEighths : Float → Bool
 isEighths nan = false
 isEighths (inf s) = false

@@ -6,8 +6,8 @@ ghost use lib.Seq.{sets};
 ghost use Rattle.messages.specs.Message.{messageBytes, ParsedAs};
 ghost use Rattle.messages.specs.Write.{Wrote};
 
-// A bid of a module to a supervisor, the supervisor's permit with its shown mask, and the module's release with the event that fired, or
-// 255 for no event.
+// Document 01's terms: a bid of a module to a supervisor, the supervisor's permit with its shown mask, and the module's release with the event
+// that fired, or 255 for no event.
 pub enum Message {
     Bid {
         owner: u8,

@@ -168,8 +168,8 @@ unfoldable pub commandsOf : Plan → List ℕ → List ℕ
 commandsOf P [] = []
 commandsOf P (e ∷ w) = cond (P .controllable e) (e ∷ commandsOf P w) (commandsOf P w)
 
--- document 01's term replay: "Replay leads modules and supervisors from their initial states along it as firing does; an event is judged by moves and shown masks just
--- before it."
+-- document 01's term replay: "Replay leads modules and supervisors from their initial states along it as firing does; an event is judged by moves
+-- and shown masks just before it."
 pub record Position : Type 0 where
   pub moduleStates : ℕ → ℕ
   pub supervisorStates : ℕ → ℕ

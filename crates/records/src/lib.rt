@@ -4,7 +4,7 @@ ghost use Rattle.records.specs.Kinds.{bodyLen, sizeBy, kindOf};
 ghost use Rattle.records.specs.Range.{inRange, operandInRange};
 ghost use Rattle.records.specs.Key.{keyBy, keyOf, sameKey, precedes, rankOf};
 
-// A record of each kind, with its fields in their order.
+// A plan's record, document 01's term: one of each kind, with its fields in their order.
 pub enum Record {
     Head {
         modules: u8,
