@@ -13,11 +13,11 @@ void plan_add(struct plan *plan, uint8_t kind, uint8_t first, uint8_t second, ui
     const uint8_t fields[] = {first, second, third, fourth};
     (void)plan;
     putchar(kind);
-    if (kind == RECORD_END)
+    if (kind == PEWTERSLUG_RECORD_END)
         return;
-    for (int i = 0; i < bodies[kind - RECORD_HEAD].fields; i++)
+    for (int i = 0; i < bodies[kind - PEWTERSLUG_RECORD_HEAD].fields; i++)
         putchar(fields[i]);
-    if (bodies[kind - RECORD_HEAD].word)
+    if (bodies[kind - PEWTERSLUG_RECORD_HEAD].word)
         for (int shift = 56; shift >= 0; shift -= 8)
             putchar((int)(word >> shift & 0xFF));
 }
