@@ -41,11 +41,11 @@ abbrev pub imagePlan : List ℕ → Plan
 imagePlan image = planOf (recordsOf image)
 
 -- a module and a supervisor that the plan has, and those that it lacks
-abbrev pub IsModule : List ℕ → ℕ → Type 0
-IsModule image m = m < modulesOf (recordsOf image)
+abbrev pub HasModule : List ℕ → ℕ → Type 0
+HasModule image m = m < modulesOf (recordsOf image)
 
-abbrev pub IsSupervisor : List ℕ → ℕ → Type 0
-IsSupervisor image v = v < supervisorsOf (recordsOf image)
+abbrev pub HasSupervisor : List ℕ → ℕ → Type 0
+HasSupervisor image v = v < supervisorsOf (recordsOf image)
 
 abbrev pub LacksModule : List ℕ → ℕ → Type 0
 LacksModule image m = modulesOf (recordsOf image) ≤ m
@@ -95,9 +95,9 @@ Taken image D bytes Misshapen = ⊥
 -- "some message under way would be accepted or some module or supervisor step would change a state"
 pub data Progress (image : List ℕ) (D : System) : Type 0 where
   by-delivery : (k : ℕ) (q : Picked (List ℕ)) → pick k (D .underWay) ≡ some q → Taken image D (q .item) (parse (q .item)) → Progress image D
-  by-module-step : (m : ℕ) (b : List ℕ) → IsModule image m → length b ≡ bufferLength
+  by-module-step : (m : ℕ) (b : List ℕ) → HasModule image m → length b ≡ bufferLength
       → M.moduleStep image m (D .moduleAt m) b .state ≢ D .moduleAt m → Progress image D
-  by-supervisor-step : (v : ℕ) (b : List ℕ) → IsSupervisor image v → length b ≡ bufferLength
+  by-supervisor-step : (v : ℕ) (b : List ℕ) → HasSupervisor image v → length b ≡ bufferLength
       → S.supervisorStep image v (D .supervisorAt v) b .state ≢ D .supervisorAt v → Progress image D
 
 -- ---- demand 3: what the sentence claims, part by part
@@ -114,18 +114,18 @@ pub record Demand3 (image : List ℕ) (acts : List Act) : Type 0 where
   pub absent-tick : (m : ℕ) (f : Flow) → LacksModule image m
       → M.moduleTick image m (moduleAtEnd image acts m) f ≡ M.callRefused (moduleAtEnd image acts m) 11 0
   -- "each turn taken, response and tick gets the answer that the one-device controller gives for the same turns, responses and ticks in the
-  -- same order,
+  -- same order .."
   pub equal : listSeen image acts ≡ oneDeviceSeen image acts
-  -- so that records and commands are equal"
+  -- ".. so that records and commands are equal"
   pub records : listRecord image acts ≡ oneDeviceRecord image acts
   pub commands : commandsOf (imagePlan image) (listRecord image acts) ≡ commandsOf (imagePlan image) (oneDeviceRecord image acts)
   -- "every event of the record is a listed move of its module, and no supervisor, led along that record, disables it there"
   pub legal : Legal (imagePlan image) (startPosition (imagePlan image)) (listRecord image acts)
   -- "at the list's end every supervisor with its permit at home stands exactly where the record's replay puts it"
-  pub home : (v : ℕ) → IsSupervisor image v → permitOf image v acts ≡ Home
+  pub home : (v : ℕ) → HasSupervisor image v → permitOf image v acts ≡ Home
       → supervisorAtEnd image acts v .state ≡ replay (imagePlan image) (startPosition (imagePlan image)) (listRecord image acts) .supervisorStates v
   -- "if any permit is out, some message under way would be accepted or some module or supervisor step would change a state"
-  pub out : (v m : ℕ) → IsSupervisor image v → permitOf image v acts ≡ Out m → Progress image (atEnd image acts)
+  pub out : (v m : ℕ) → HasSupervisor image v → permitOf image v acts ≡ Out m → Progress image (atEnd image acts)
 
 -- ---- what is proved besides, which demand 3 does not ask for
 pub record Besides (image : List ℕ) (acts : List Act) : Type 0 where
@@ -137,17 +137,19 @@ pub record Besides (image : List ℕ) (acts : List Act) : Type 0 where
   pub taken : (k : ℕ) (q : Picked (List ℕ)) → pick k (atEnd image acts .underWay) ≡ some q
       → Taken image (atEnd image acts) (q .item) (parse (q .item))
   -- every reached state fits
-  pub module-fits : (m : ℕ) → IsModule image m → M.moduleFits (recordsOf image) m (moduleAtEnd image acts m) ≡ true
-  pub supervisor-fits : (v : ℕ) → IsSupervisor image v → S.supervisorFits (recordsOf image) v (supervisorAtEnd image acts v) ≡ true
+  pub module-fits : (m : ℕ) → HasModule image m → M.moduleFits (recordsOf image) m (moduleAtEnd image acts m) ≡ true
+  pub supervisor-fits : (v : ℕ) → HasSupervisor image v → S.supervisorFits (recordsOf image) v (supervisorAtEnd image acts v) ≡ true
   pub device-fits : deviceFits (recordsOf image) (oneDeviceAtEnd image acts) ≡ true
   -- no step of a module or a supervisor of the plan is refused
-  pub module-steps : (m : ℕ) (b : List ℕ) (n o : ℕ) → IsModule image m → length b ≡ bufferLength
+  pub module-steps : (m : ℕ) (b : List ℕ) (n o : ℕ) → HasModule image m → length b ≡ bufferLength
       → M.moduleStep image m (moduleAtEnd image acts m) b .answer ≢ Refused n o
-  pub supervisor-steps : (v : ℕ) (b : List ℕ) (n o : ℕ) → IsSupervisor image v → length b ≡ bufferLength
+  pub supervisor-steps : (v : ℕ) (b : List ℕ) (n o : ℕ) → HasSupervisor image v → length b ≡ bufferLength
       → S.supervisorStep image v (supervisorAtEnd image acts v) b .answer ≢ SupervisorRefused n o
 
 -- "For every list of module steps, supervisor steps, deliveries, responses and ticks over one accepted plan, refused calls included, begun at
--- the starting state with 128-byte output buffers": for every image of bytes that is accepted and every list of calls with such buffers
+-- the starting state with 128-byte output buffers, each delivery that of a sent message, unaltered, at most once, to the party it names that
+-- takes its kind, in whatever order the wire likes": for every image of bytes that is accepted and every list of calls with such buffers, in which a
+-- delivery is a place among the messages under way (`deliver` and `delivered` of System)
 abbrev pub Demand : Type 0
 Demand =
     (image : List ℕ) → ((i : ℕ) → getD image i 0 < 256) → IsPlan image → (acts : List Act) → AllLent acts → Demand3 image acts × Besides image acts

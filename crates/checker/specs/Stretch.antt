@@ -1,6 +1,6 @@
 -- The check by what it remembers, and what it is to pass a stretch of records of one kind that are not faulty. These are steps of a proof and need
 -- not be read: what a check gives is `verdictOf` of rules/specs/Check, and with the places of the records `examinedOf` of Examined, and the
--- contracts of `check` and `examine` say just that.
+-- contracts of `check` and `examine` say it by these.
 use Prim.Native.Nat.{ℕ, _+_, _-_, _≤_, _<_}
 use mathlib.Core.Path.{_≡_}
 use mathlib.Core.Logic.{_⊎_}

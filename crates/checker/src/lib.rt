@@ -172,7 +172,7 @@ fn events(
     let mut controllable: u64 = 0;
     let mut last = before;
     let mut i = from;
-    let size = records::size_of(0x11);
+    let size = records::size_by(0x11);
     loop {
         if !stands(image, i, 0x11, size) {
             return PlaceOfEvents {
@@ -221,7 +221,7 @@ fn modules(
     let mut known: u64 = 0;
     let mut last = before;
     let mut i = from;
-    let size = records::size_of(0x12);
+    let size = records::size_by(0x12);
     loop {
         if !stands(image, i, 0x12, size) {
             return PlaceOfNumbers {
@@ -269,7 +269,7 @@ fn module_moves(
 {
     let mut last = before;
     let mut i = from;
-    let size = records::size_of(0x13);
+    let size = records::size_by(0x13);
     loop {
         if !stands(image, i, 0x13, size) {
             return Place { last, next: i };
@@ -319,7 +319,7 @@ fn supervisors(
     let mut known: u64 = 0;
     let mut last = before;
     let mut i = from;
-    let size = records::size_of(0x14);
+    let size = records::size_by(0x14);
     loop {
         if !stands(image, i, 0x14, size) {
             return PlaceOfNumbers {
@@ -369,7 +369,7 @@ fn supervisor_moves(
 {
     let mut last = before;
     let mut i = from;
-    let size = records::size_of(0x15);
+    let size = records::size_by(0x15);
     loop {
         if !stands(image, i, 0x15, size) {
             return Place { last, next: i };
@@ -415,7 +415,7 @@ fn disablings(
 {
     let mut last = before;
     let mut i = from;
-    let size = records::size_of(0x16);
+    let size = records::size_by(0x16);
     loop {
         if !stands(image, i, 0x16, size) {
             return Place { last, next: i };
@@ -460,7 +460,7 @@ fn steps(
 {
     let mut last = before;
     let mut i = from;
-    let size = records::size_of(0x17);
+    let size = records::size_by(0x17);
     loop {
         if !stands(image, i, 0x17, size) {
             return Place { last, next: i };
@@ -508,7 +508,7 @@ fn end_kept(
         second: 0,
         third: 0,
     };
-    (stands(image, at, 0x1f, records::size_of(0x1f)) & records::precedes(last, key))
+    (stands(image, at, 0x1f, records::size_by(0x1f)) & records::precedes(last, key))
         & (bits::has_below(modules, n.modules)
             & bits::has_below(supervisors, n.supervisors)
             & bits::has_below(events, n.events))
@@ -519,7 +519,7 @@ fn end_at(image: &[u8], at: usize, p: Places) -> Examined
     requires { ⌜ at < length (now image) ⌝ }
     ensures { λ x. ⌜ x ≡ examinedBy p (endAt (length (now (image .entry))) at) ⌝ }
 {
-    let after = at + records::size_of(0x1f);
+    let after = at + records::size_by(0x1f);
     if after == image.len() {
         Examined::Accepted(p)
     } else {
@@ -695,7 +695,7 @@ pub fn examine(image: &[u8]) -> Examined
     if LIMIT < image.len() {
         return Examined::Refused(1, 0);
     }
-    let size = records::size_of(0x10);
+    let size = records::size_by(0x10);
     if stands(image, 0, 0x10, size) {
         let f = fields_at(image, 0);
         let r = Record::Head {

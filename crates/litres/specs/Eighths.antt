@@ -17,7 +17,7 @@ isEighths nan = false
 isEighths (inf s) = false
 isEighths (fin s m e) = not s && eqb (m * up e * 8 % down e) 0
 
--- the number of eighths of a finite value, 0 for others; the sign is not looked at
+-- the number of whole eighths in a finite value, rounded down, and 0 for others; the sign is not looked at
 unfoldable pub count : Float → ℕ
 count nan = 0
 count (inf s) = 0

@@ -125,7 +125,7 @@ pub record Marked : Type 0 where
   pub release-bytes : take 5 (M.moduleStep planP 0 m2 buffer .buffer) ≡ 0x03 ∷ 0 ∷ 0 ∷ 0xff ∷ 0xaa ∷ []
   -- "readings 2.5 then 0.125 total 21 eighths": by the whole-number sum, and by the f64 sum that the code makes
   pub readings : count (twoReadings added .total) ≡ 21
-  pub readings-f64 : count (twoReadings sum .total) ≡ 21
+  pub readings-f64 : twoReadings sum .total ≡ eighths 21
   -- "64 taken, 64.125 gets 14"
   pub reading-64 : tickCall planP d0 0 (Litres (f64 64 1)) .answer ≡ Done
   pub reading-more : tickCall planP d0 0 (Litres (f64 513 8)) .answer ≡ NotDone 14 0

@@ -64,8 +64,8 @@ pub data Choice : Type 0 where
   takesTurn waits : Choice
   bidsTo : ℕ → Choice
 
--- The choice of a module step, in the order of its sentences: by its lowest neighbour not held, if any; whether it has neighbours; whether a bid is
--- outstanding; whether a permit is held; whether it has a wish.
+-- The choice of a module step, a clause for each of its sentences. Its arguments: the lowest neighbour not held, if any; whether the module has
+-- neighbours; whether a bid is outstanding; whether a permit is held; whether it has a wish.
 unfoldable pub choiceOn : (notHeld : Option ℕ) (anyNeighbour outstanding holds wishes : Bool) → Choice
 -- "with every neighbour's permit held, it takes a turn"
 choiceOn none true outstanding holds wishes = takesTurn

@@ -10,7 +10,7 @@ use lib.Dec.{T, T-not, leb, eqb, eqb→eq}
 use lib.Ieee.Fits.{and-l, and-r}
 use borrow.Author.Tests.{eq-eqb, ne-eqb, eqb-true, eqb-false}
 use denote.Floats.{passes}
-use Rattle.records.specs.Kinds.{bodyLen, noLen}
+use Rattle.records.specs.Kinds.{bodyLen, noLen, sizeBy}
 use Rattle.records.specs.Key.{keyBy, keyOf, sameKey}
 use Rattle.records.specs.declared.Record.{Record}
 use Rattle.records.specs.declared.RecordKey.{RecordKey}
@@ -136,7 +136,7 @@ unfolding has endOf
 end-none p k e = go (eqb k 0x10) (eqb k 0x11) (eqb k 0x12) (eqb k 0x13) (eqb k 0x14) (eqb k 0x15) (eqb k 0x16) (eqb k 0x17) (eqb k 0x1f) e
   where
     go : (a0 a1 a2 a3 a4 a5 a6 a7 a8 : Bool) → (a0 || (a1 || (a2 || (a3 || (a4 || (a5 || (a6 || (a7 || (a8 || false))))))))) ≡ false
-        → cond a0 (p .k11) (cond a1 (p .k12) (cond a2 (p .k13) (cond a3 (p .k14) (cond a4 (p .k15) (cond a5 (p .k16) (cond a6 (p .k17) (cond a7 (p .k1f) (cond a8 (p .k1f + 1) 0)))))))) ≡ 0
+        → cond a0 (p .k11) (cond a1 (p .k12) (cond a2 (p .k13) (cond a3 (p .k14) (cond a4 (p .k15) (cond a5 (p .k16) (cond a6 (p .k17) (cond a7 (p .k1f) (cond a8 (p .k1f + sizeBy 0x1f) 0)))))))) ≡ 0
     go true a1 a2 a3 a4 a5 a6 a7 a8 e = let z : _≡_ {A = ℕ} 0 1 = cc in absurd (omega arith)
     go false true a2 a3 a4 a5 a6 a7 a8 e = let z : _≡_ {A = ℕ} 0 1 = cc in absurd (omega arith)
     go false false true a3 a4 a5 a6 a7 a8 e = let z : _≡_ {A = ℕ} 0 1 = cc in absurd (omega arith)

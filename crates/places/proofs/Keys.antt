@@ -97,6 +97,11 @@ module _ (s : List ℕ) (p : Places) (k : ℕ) {r : Run} where
   pub run-keyed : keyed k ≡ true → (k ≡ 0x13 → ⊥) → (k ≡ 0x15 → ⊥) → (k ≡ 0x16 → ⊥) → r ≡ runOf s p 0x17 → r ≡ runOf s p k
   run-keyed n a b c f = run-by-kind 0x17 (last-keyed k n a b c) f
 
+  -- z is the size that the code has read off the table
+  pub run-end : {z : ℕ} → k ≡ 0x1f → z ≡ sizeBy 0x1f → r ≡ runBy s (p .k1f) (p .k1f + z) (sizeBy 0x1f) → r ≡ runOf s p k
+  unfolding runOf beginOf endOf
+  run-end e f h = run-by-kind 0x1f e (h ∙ ap (λ (x : ℕ). runBy s (p .k1f) (p .k1f + x) (sizeBy 0x1f)) f)
+
   pub run-of-none : numbered k ≡ false → keyed k ≡ false → (k ≡ 0x10 → ⊥) → (k ≡ 0x1f → ⊥) → r ≡ runBy s 0 0 (sizeBy k) → r ≡ runOf s p k
   unfolding runOf beginOf endOf
   run-of-none n m a b f =

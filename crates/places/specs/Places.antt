@@ -1,13 +1,13 @@
 -- Where the records of each kind begin in an image, and which records a look-up by these places can find. How it looks need not be read: `AllFound` of
 -- placed/specs says that in an accepted plan, by the places that its check notes, it finds every record, and the contracts of the calls are stated
--- over the plan's records, without places.
+-- over the plan's records, without places; those of their parts are over `recordsBy` (DECISIONS 55).
 use Prim.Native.Nat.{ℕ, zero, suc, _+_, _-_, _*_, _/_, _%_}
 use mathlib.Core.List.{List, [], _∷_, _++_}
 use mathlib.Core.Bool.{Bool, cond, _&&_, _||_}
 use lib.ListN.{length, drop}
 use lib.Dec.{eqb, leb, ltb}
 use Rattle.bits.specs.Bit.{maskOf}
-use Rattle.records.specs.Kinds.{bodyLen, kindOf}
+use Rattle.records.specs.Kinds.{kindOf, sizeBy}
 use Rattle.records.specs.Key.{keyBy, keyOf, sameKey, precedes}
 use Rattle.records.specs.declared.Record.{Record}
 use Rattle.records.specs.declared.RecordKey.{RecordKey}
@@ -72,15 +72,15 @@ endOf p k =
     (cond (eqb k 0x15) (p .k16)
     (cond (eqb k 0x16) (p .k17)
     (cond (eqb k 0x17) (p .k1f)
-    (cond (eqb k 0x1f) (p .k1f + 1) 0))))))))
+    (cond (eqb k 0x1f) (p .k1f + sizeBy 0x1f) 0))))))))
 
 -- how many there are, and none where they would end past the image
 unfoldable pub countOf : List ℕ → Places → ℕ → ℕ
-countOf s p k = cond (leb (endOf p k) (length s)) ((endOf p k - beginOf p k) / suc (bodyLen k)) 0
+countOf s p k = cond (leb (endOf p k) (length s)) ((endOf p k - beginOf p k) / sizeBy k) 0
 
 -- the i-th of them, read as one of that kind whatever byte stands before it
 unfoldable pub recordBy : List ℕ → Places → ℕ → ℕ → Record
-recordBy s p k i = recordOf k (drop (suc (beginOf p k + i * suc (bodyLen k))) s)
+recordBy s p k i = recordOf k (drop (suc (beginOf p k + i * sizeBy k)) s)
 
 -- ---- where a look-up goes
 
@@ -124,7 +124,7 @@ positionOf s p q =
 unfoldable pub spotOf : List ℕ → Places → RecordKey → ℕ
 spotOf s p q =
     cond (ltb (positionOf s p q) (countOf s p (q .kind)) && sameKey (keyOf (recordBy s p (q .kind) (positionOf s p q))) q)
-    (suc (beginOf p (q .kind) + positionOf s p q * suc (bodyLen (q .kind)))) 0
+    (suc (beginOf p (q .kind) + positionOf s p q * sizeBy (q .kind))) 0
 
 -- ---- the records that a look-up can find
 

@@ -6,7 +6,7 @@ use mathlib.Core.List.{List}
 use mathlib.Core.Bool.{Bool, cond, _||_}
 use lib.ListN.{length, drop}
 use lib.Dec.{eqb, leb}
-use Rattle.records.specs.Kinds.{bodyLen}
+use Rattle.records.specs.Kinds.{sizeBy}
 use Rattle.records.specs.Key.{keyOf, precedes}
 use Rattle.records.specs.declared.RecordKey.{RecordKey}
 use Rattle.reader.specs.Read.{recordOf}
@@ -20,11 +20,11 @@ runBy s b e z = record { begin = b; size = z; count = cond (leb e (length s)) ((
 
 -- those of a kind
 unfoldable pub runOf : List ℕ → Places → ℕ → Run
-runOf s p k = runBy s (beginOf p k) (endOf p k) (suc (bodyLen k))
+runOf s p k = runBy s (beginOf p k) (endOf p k) (sizeBy k)
 
 -- records of a kind that lie within the image
 pub record Inside (s : List ℕ) (r : Run) (k : ℕ) : Type 0 where
-  pub size : r .size ≡ suc (bodyLen k)
+  pub size : r .size ≡ sizeBy k
   pub within : (i : ℕ) → i < r .count → r .begin + i * r .size + r .size ≤ length s
 
 -- the kinds whose keys have several numbers: moves, with three, and disablings and steps, with two

@@ -80,7 +80,7 @@ struct Run {
 fn run_by(image: &[u8], begin: usize, end: usize, kind: u8) -> Run
     ensures { λ r. ⌜ r ≡ runBy (now (image .entry)) begin end (sizeBy kind) ⌝ }
 {
-    let size = records::size_of(kind);
+    let size = records::size_by(kind);
     let mut count: usize = 0;
     if end <= image.len() {
         if begin <= end {
@@ -91,7 +91,7 @@ fn run_by(image: &[u8], begin: usize, end: usize, kind: u8) -> Run
 }
 
 // Those of a kind whose number is their place, and those of a kind whose keys have several numbers: small, so that with a known kind they are
-// inlined, and the size is a constant.
+// inlined.
 fn numbered_run(image: &[u8], p: Places, kind: u8) -> Run
     requires { ⌜ numbered kind ≡ true ⌝ }
     ensures { λ r. ⌜ r ≡ runOf (now (image .entry)) p kind ⌝ }
@@ -135,7 +135,12 @@ fn run_of(image: &[u8], p: Places, kind: u8) -> Run
         return run_by(image, 0, p.k11 as usize, 0x10);
     }
     if kind == 0x1f {
-        return run_by(image, p.k1f as usize, p.k1f as usize + 1, 0x1f);
+        return run_by(
+            image,
+            p.k1f as usize,
+            p.k1f as usize + records::size_by(0x1f),
+            0x1f,
+        );
     }
     run_by(image, 0, 0, kind)
 }

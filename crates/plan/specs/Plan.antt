@@ -91,7 +91,7 @@ neighbours rs m = maskOf (λ v. ltb v (supervisorsOf rs) && neighbour rs m v) 32
 
 -- document 01's count of neighbours: "The count of neighbours is the number of ones in the neighbour mask.", by that mask
 abbrev pub neighbourCount : ℕ → ℕ
-neighbourCount mask = ones mask
+neighbourCount neighbourMask = ones neighbourMask
 
 -- A step counts with its fields in range and, where it is a respond, with the number of an event. In an accepted plan every step does.
 abbrev pub counts : Record → Bool

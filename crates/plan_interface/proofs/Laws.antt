@@ -5,7 +5,7 @@ use mathlib.Core.Bool.{Bool, true, false, not}
 use Prim.Native.Nat.{ℕ, suc, _+_}
 use native.Mathlib.Numerals.{add-one}
 use lib.ListN.{length}
-use Rattle.records.specs.Kinds.{bodyLen, kindOf, sizeOf}
+use Rattle.records.specs.Kinds.{kindOf, sizeBy}
 use Rattle.records.specs.declared.Record.{Record}
 use Rattle.reader.specs.Read.{readAt}
 use Rattle.reader.specs.declared.Read.{Read}
@@ -26,16 +26,13 @@ use Rattle.plan_interface.specs.Messages.{messageKind, parsedAnswer, rea
 
 -- ---- a record read
 
-pub size-by : (r : Record) {k n w : ℕ} → k ≡ kindOf r → n ≡ bodyLen k → w ≡ n → w + 1 ≡ sizeOf r
-size-by r {k} {n} {w} e f g = add-one w ∙ ap suc (g ∙ f ∙ ap bodyLen e)
-
 module _ (s : List ℕ) (at : ℕ) {x : Read} (e : x ≡ readAt s at) {r : ℕ} where
   by-case : {y : Read} → x ≡ y → r ≡ readBy s at y → r ≡ readAnswer s at
   by-case f w = w ∙ ap (readBy s at) (sym f ∙ e)
 
-  pub read-whole : {rec : Record} {n k z : ℕ} → x ≡ Whole rec n → k ≡ kindOf rec → z ≡ sizeOf rec → r ≡ packed 0 0 k z → r ≡ readAnswer s at
+  pub read-whole : {rec : Record} {n k z : ℕ} → x ≡ Whole rec n → k ≡ kindOf rec → z ≡ sizeBy k → r ≡ packed 0 0 k z → r ≡ readAnswer s at
   unfolding readBy
-  read-whole f g h w = by-case f (w ∙ ap₂ (λ (a b : ℕ). packed 0 0 a b) g h)
+  read-whole f g h w = by-case f (w ∙ ap₂ (λ (a b : ℕ). packed 0 0 a b) g (h ∙ ap (λ (y : ℕ). sizeBy y) g))
 
   pub read-unknown : x ≡ Unknown → r ≡ packed 2 0 0 at → r ≡ readAnswer s at
   unfolding readBy

@@ -1,7 +1,6 @@
 // The check of a plan, one record and one message over lent bytes: specs/Records.antt and specs/Messages.antt.
 ghost use mathlib.Core.Path.{_≡_};
 ghost use mathlib.Core.List.{[]};
-ghost use Rattle.records.specs.Kinds.{sizeOf};
 ghost use Rattle.packing.specs.Answer.{Answered};
 ghost use Rattle.plan_interface.specs.Records.{checkAnswer, readAnswer, wordRecordBy, recordBy, writtenAnswer, writeBytes};
 ghost use Rattle.plan_interface.specs.Messages.{messageKind, readMessageAnswer, messageBy, writeMessageBytes};
@@ -19,18 +18,15 @@ pub fn check(image: &[u8]) -> u64
     packing::verdict(checker::check(image))
 }
 
-fn size_of(r: Record) -> usize
-    ensures { λ n. ⌜ n ≡ sizeOf r ⌝ }
-{
-    words::wide(records::body_len(records::kind_of(r))) + 1
-}
-
 // The kind and the length of the record at an offset.
 pub fn read_record(image: &[u8], offset: usize) -> u64
     ensures { λ r. ⌜ r ≡ readAnswer (now (image .entry)) offset ⌝ }
 {
     match reader::read_at(image, offset) {
-        Read::Whole(r, _) => packing::pack(0, 0, records::kind_of(r), size_of(r)),
+        Read::Whole(r, _) => {
+            let kind = records::kind_of(r);
+            packing::pack(0, 0, kind, records::size_by(kind))
+        }
         Read::Unknown => packing::pack(2, 0, 0, offset),
         Read::Cut => packing::pack(3, 0, 0, offset),
         Read::Nothing => packing::pack(3, 0, 0, image.len()),

@@ -1,6 +1,5 @@
--- Demand 3 of the abstract rules, a step of the proof: what has to be believed is `Demand` of crate agreement. To be read beside document 01's "What
--- demand 3 compares": for every list of acts, from a system D, a one-device controller O and a position p of the replay that belong together, as the
--- starting ones do.
+-- Demand 3 of the abstract rules, a step of the proof: what has to be read is `Demand` of crate agreement. For every list of acts, from a system D, a
+-- one-device controller O and a position p of the replay that belong together, as the starting ones do.
 use Prim.Native.Nat.{ℕ, _<_}
 use mathlib.Core.Path.{_≡_}
 use mathlib.Core.List.{List}

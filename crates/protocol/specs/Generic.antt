@@ -1,5 +1,5 @@
--- What the rules are written with: a function changed at one number, a member taken out of a list. `Demand` of crate agreement names `update` and
--- `pick`; the rest is a step of its proof.
+-- What the rules are written with: a function changed at one number, a member taken out of a list. `Demand` of crate agreement names `update`,
+-- `Picked` and `pick`; the rest is a step of its proof.
 use Prim.Native.Nat.{ℕ, zero, suc}
 use mathlib.Core.Bool.{Bool, false, cond}
 use mathlib.Core.List.{List, [], _∷_}

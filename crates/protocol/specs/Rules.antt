@@ -1,5 +1,5 @@
 -- Document 01, "Turns on one device" and "Permits and messages", over an abstract plan and without bytes: one rule for each change of state. These
--- are steps of a proof: what has to be believed is `Demand` of crate agreement, which names of this file only `stateAfter`, by replay.
+-- are steps of a proof: what has to be read is `Demand` of crate agreement, which names of this file only `stateAfter`, by replay.
 use Prim.Native.Nat.{ℕ, zero, suc}
 use mathlib.Core.Bool.{Bool, true, false, cond, not, _&&_, _||_}
 use mathlib.Core.List.{List, [], _∷_, _++_}
@@ -81,8 +81,8 @@ pub data Choice : Type 0 where
   takesTurn waits : Choice
   bidsTo : ℕ → Choice
 
--- The choice of a module step, in the order of its sentences: by its lowest neighbour not held, if any; whether it has neighbours; the supervisor of
--- the bid outstanding, if any; whether a permit is held; whether it has a wish.
+-- The choice of a module step, a clause for each of its sentences. Its arguments: the lowest neighbour not held, if any; whether the module has
+-- neighbours; the supervisor of the bid outstanding, if any; whether a permit is held; whether it has a wish.
 unfoldable pub choiceOn : (notHeld : Option ℕ) (anyNeighbour : Bool) (outstanding : Option ℕ) (holds wishes : Bool) → Choice
 -- "with every neighbour's permit held, it takes a turn"
 choiceOn none true outstanding holds wishes = takesTurn

@@ -1,6 +1,7 @@
 -- All modules and supervisors with the messages under way, lists of calls on them, and what document 01's "What demand 3 compares" takes
--- from such a list, over an abstract plan and without bytes. These are steps of a proof: what has to be believed is `Demand` of crate agreement,
--- which names of this file `turnEvents`, `commandsOf`, `replay`, `startPosition` and `Legal`.
+-- from such a list, over an abstract plan and without bytes. These are steps of a proof: what has to be read is `Demand` of crate agreement,
+-- which names of this file `turnEvents`, `commandsOf`, `replay`, `startPosition` and `Legal`, with `Position`, `afterEvent` and `LegalEvent`, which
+-- these name.
 use Prim.Native.Nat.{ℕ, _<_}
 use mathlib.Core.Path.{_≡_}
 use mathlib.Core.Logic.{_≢_}

@@ -22,7 +22,7 @@ bodyLen k =
     (cond (eqb k 0x17) 11
     (cond (eqb k 0x1f) 0 noLen))))))))
 
--- the bytes of a whole record of a kind: the kind's byte and the body
+-- the bytes of a whole record of a kind: the kind's byte and the body; 256 for a number that is no kind
 abbrev pub sizeBy : ℕ → ℕ
 sizeBy k = suc (bodyLen k)
 

@@ -89,8 +89,8 @@ pub fn body_len(kind: u8) -> u8
     NO_LEN
 }
 
-// The bytes of a whole record of a kind, its kind and its body, by the same table.
-pub fn size_of(kind: u8) -> usize
+// The bytes of a whole record of a kind, its kind and its body, by the same table; 256 for a number that is no kind.
+pub fn size_by(kind: u8) -> usize
     ensures { λ r. ⌜ r ≡ sizeBy kind ⌝ }
 {
     words::wide(body_len(kind)) + 1

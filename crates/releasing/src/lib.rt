@@ -60,7 +60,7 @@ fn release_all(image: &[u8], places: Places, m: u8, mask: u32, t: Turn, buffer: 
     }
 }
 
-// The bytes of the releases to all neighbours of a mask, 4 of each.
+// The bytes of the releases to the neighbours of a mask, 4 each.
 pub fn length_of(mask: u32) -> usize
     ensures { λ r. ⌜ r ≡ 4 * neighbourCount mask ⌝ }
 {

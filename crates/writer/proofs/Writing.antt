@@ -11,7 +11,7 @@ use lib.Seq.{sets, sets-eq, length-sets}
 use borrow.Author.Tests.{lt-ltb, le-ltb}
 use Rattle.words.specs.Word.{putAt, wordBytes}
 use Rattle.words.proofs.Laws.{put-sets, put-room}
-use Rattle.records.specs.Kinds.{bodyLen, kindOf, sizeOf}
+use Rattle.records.specs.Kinds.{bodyLen, kindOf, sizeBy, sizeOf}
 use Rattle.records.specs.Bytes.{bytesOf}
 use Rattle.records.specs.Range.{inRange}
 use Rattle.records.specs.declared.Record.{Record}
@@ -62,13 +62,13 @@ module _ (r : Record) (b : List ℕ) {s u : List ℕ} where
   unfolding bytesOf wordBytes
   step-put {v} {i} {o} {x} e h w f = word-put (0x17 ∷ v ∷ i ∷ o ∷ []) b 4 x refl (room r b e h) w f ∙ ap (λ (y : Record). sets b 0 (bytesOf y)) (sym e)
 
--- from what the code of `write` is told: its test t of the range, the kind k, its body length l, and that as an index m
-module _ (r : Record) {k l m : ℕ} where
-  size-by : k ≡ kindOf r → l ≡ bodyLen k → m ≡ l → m + 1 ≡ sizeOf r
-  size-by e f g = add-one m ∙ ap suc (cc)
+-- from what the code of `write` is told: its test t of the range, the kind k and the size n of that kind's records
+module _ (r : Record) {k n : ℕ} where
+  size-of : k ≡ kindOf r → n ≡ sizeBy k → n ≡ sizeOf r
+  size-of e f = f ∙ ap (λ (x : ℕ). sizeBy x) e
 
-  pub room-by : {n : ℕ} → k ≡ kindOf r → l ≡ bodyLen k → m ≡ l → m + 1 ≤ n → sizeOf r ≤ n
-  room-by {n = n} e f g h = subst (λ (x : ℕ). x ≤ n) (size-by e f g) h
+  pub room-by : {m : ℕ} → k ≡ kindOf r → n ≡ sizeBy k → n ≤ m → sizeOf r ≤ m
+  room-by {m = m} e f h = subst (λ (x : ℕ). x ≤ m) (size-of e f) h
 
 pub out-by : (r : Record) (b : List ℕ) {t : Bool} → t ≡ inRange r → t ≡ false → Wrote r b (Refused 5 0) b
 unfolding answerOf
@@ -76,23 +76,23 @@ out-by r b e f =
     let a : inRange r ≡ false = cc in
     record { answer = simp a; buffer = refl }
 
-module _ (r : Record) (b : List ℕ) {t : Bool} {k l m : ℕ} where
-  pub short-by : t ≡ inRange r → t ≡ true → k ≡ kindOf r → l ≡ bodyLen k → m ≡ l → length b < m + 1 → Wrote r b (Refused 15 0) b
+module _ (r : Record) (b : List ℕ) {t : Bool} {k n : ℕ} where
+  pub short-by : t ≡ inRange r → t ≡ true → k ≡ kindOf r → n ≡ sizeBy k → length b < n → Wrote r b (Refused 15 0) b
   unfolding answerOf
-  short-by p q e f g h =
+  short-by p q e f h =
       let a : inRange r ≡ true = cc in
-      let z : length b < sizeOf r = subst (λ (x : ℕ). length b < x) (size-by r e f g) h in
+      let z : length b < sizeOf r = subst (λ (x : ℕ). length b < x) (size-of r e f) h in
       record { answer = simp (a, lt-ltb (length b) (sizeOf r) z); buffer = refl }
 
-  pub wrote-by : {s : List ℕ} → t ≡ inRange r → t ≡ true → k ≡ kindOf r → l ≡ bodyLen k → m ≡ l → m + 1 ≤ length b → s ≡ sets b 0 (bytesOf r)
-      → Wrote r b (Length (m + 1)) s
+  pub wrote-by : {s : List ℕ} → t ≡ inRange r → t ≡ true → k ≡ kindOf r → n ≡ sizeBy k → n ≤ length b → s ≡ sets b 0 (bytesOf r)
+      → Wrote r b (Length n) s
   unfolding answerOf
-  wrote-by p q e f g h v =
+  wrote-by p q e f h v =
       let a : inRange r ≡ true = cc in
-      let n : m + 1 ≡ sizeOf r = size-by r e f g in
-      let z : sizeOf r ≤ length b = subst (λ (x : ℕ). x ≤ length b) n h in
+      let d : n ≡ sizeOf r = size-of r e f in
+      let z : sizeOf r ≤ length b = subst (λ (x : ℕ). x ≤ length b) d h in
       let w : 0 + length (bytesOf r) ≤ length b = omega (arith, length-bytes r) in
       record {
-        answer = simp (a, le-ltb (length b) (sizeOf r) z) (ap Length n);
+        answer = simp (a, le-ltb (length b) (sizeOf r) z) (ap Length d);
         buffer = v ∙ sets-eq (bytesOf r) b 0 w ∙ ap (λ (j : ℕ). bytesOf r ++ drop j b) (zero-add (length (bytesOf r)));
       }

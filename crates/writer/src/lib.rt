@@ -82,7 +82,7 @@ pub fn write(r: Record, buf: &mut [u8]) -> Written
     ensures { λ w. ⌜ Wrote r (now (buf .entry)) w (now (buf .exit)) ⌝ }
 {
     if records::in_range(r) {
-        let n = words::wide(records::body_len(records::kind_of(r))) + 1;
+        let n = records::size_by(records::kind_of(r));
         if buf.len() < n {
             return Written::Refused(15, 0);
         }

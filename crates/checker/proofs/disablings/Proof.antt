@@ -13,8 +13,8 @@ Inv-loop image from n events controllable known states alphabet last₀ i₀ siz
 abbrev μ-loop : tie.MeasureT-loop
 μ-loop image from n events controllable known states alphabet last₀ i₀ size last i = length image - i
 
-size-of-requires : tie.Need-size-of-requires Inv-loop μ-loop
-size-of-requires c κs = search needs
+size-by-requires : tie.Need-size-by-requires Inv-loop μ-loop
+size-by-requires c κs = search needs
 
 loop-holds : tie.Need-loop-holds Inv-loop μ-loop
 loop-holds c = search begins-stretch
@@ -76,7 +76,7 @@ disablings-spec =
     (tie.spec
     Inv-loop
     μ-loop
-    size-of-requires
+    size-by-requires
     loop-holds
     stands-requires
     returns

@@ -2,8 +2,8 @@ use borrow.Author.Needs.{needs}
 use Rattle.checker.proofs.end_kept.Statement.{statement}
 use Rattle.checker.proofs.end_kept.Tie as tie
 
-size-of-requires : tie.Need-size-of-requires
-size-of-requires c κs = search needs
+size-by-requires : tie.Need-size-by-requires
+size-by-requires c κs = search needs
 
 stands-requires : tie.Need-stands-requires
 stands-requires c κs = search needs
@@ -27,7 +27,7 @@ pub end-kept-spec : {M : Type 1} → statement M
 end-kept-spec =
     tie.close
     (tie.spec
-    size-of-requires
+    size-by-requires
     stands-requires
     precedes-requires
     has-below-requires

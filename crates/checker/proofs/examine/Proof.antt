@@ -19,8 +19,8 @@ below c = omega arith
 returns : tie.Need-returns
 returns c = examined-as _ (too-long _ (c .if1 .taken))
 
-size-of-requires : tie.Need-size-of-requires
-size-of-requires c κs = search needs
+size-by-requires : tie.Need-size-by-requires
+size-by-requires c κs = search needs
 
 stands-requires : tie.Need-stands-requires
 stands-requires c κs = search needs
@@ -28,7 +28,7 @@ stands-requires c κs = search needs
 fields-at-requires : tie.Need-fields-at-requires
 unfolding bodyLen
 fields-at-requires c κs =
-    stands-there _ 0 0x10 4 (ap (standsAt _ 0 0x10) (sym (c .before .before .size-of .ensures)) ∙ sym (c .before .stands .ensures) ∙ c .if2 .taken) .fits
+    stands-there _ 0 0x10 4 (ap (standsAt _ 0 0x10) (sym (c .before .before .size-by .ensures)) ∙ sym (c .before .stands .ensures) ∙ c .if2 .taken) .fits
 
 in-range-requires : tie.Need-in-range-requires
 in-range-requires c κs = search needs
@@ -37,7 +37,7 @@ after-head-requires : tie.Need-after-head-requires
 after-head-requires c κs =
     let f = c .before .before in
     let a = f .before .before in
-    head-by _ (below a) (a .before .size-of .ensures) (a .stands .ensures) (f .before .if2 .taken) (f .fields-at .ensures) (c .before .in-range .ensures) (c .if3 .taken)
+    head-by _ (below a) (a .before .size-by .ensures) (a .stands .ensures) (f .before .if2 .taken) (f .fields-at .ensures) (c .before .in-range .ensures) (c .if3 .taken)
 
 returns-2 : tie.Need-returns-2
 returns-2 c = examined-as _ (search needs)
@@ -59,7 +59,7 @@ examine-spec =
     tie.close
     (tie.spec
     returns
-    size-of-requires
+    size-by-requires
     stands-requires
     fields-at-requires
     in-range-requires

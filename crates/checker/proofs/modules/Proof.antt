@@ -13,8 +13,8 @@ Inv-loop image from n states₀ known₀ last₀ i₀ size states known last i =
 abbrev μ-loop : tie.MeasureT-loop
 μ-loop image from n states₀ known₀ last₀ i₀ size states known last i = length image - i
 
-size-of-requires : tie.Need-size-of-requires Inv-loop μ-loop
-size-of-requires c κs = search needs
+size-by-requires : tie.Need-size-by-requires Inv-loop μ-loop
+size-by-requires c κs = search needs
 
 loop-holds : tie.Need-loop-holds Inv-loop μ-loop
 loop-holds c = search begins-stretch
@@ -58,7 +58,7 @@ modules-spec =
     (tie.spec
     Inv-loop
     μ-loop
-    size-of-requires
+    size-by-requires
     loop-holds
     stands-requires
     returns

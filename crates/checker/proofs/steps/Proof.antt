@@ -13,8 +13,8 @@ Inv-loop image from n known controllable owner counts₀ last₀ i₀ size count
 abbrev μ-loop : tie.MeasureT-loop
 μ-loop image from n known controllable owner counts₀ last₀ i₀ size counts last i = length image - i
 
-size-of-requires : tie.Need-size-of-requires Inv-loop μ-loop
-size-of-requires c κs = search needs
+size-by-requires : tie.Need-size-by-requires Inv-loop μ-loop
+size-by-requires c κs = search needs
 
 loop-holds : tie.Need-loop-holds Inv-loop μ-loop
 loop-holds c = search begins-stretch
@@ -73,7 +73,7 @@ loop-again c =
     let w = p .before .before .before .before in
     let f = w .before .before .before in
     let t = f .before .before in
-    step-step _ _ _ _ _ _ (f .fields-at .ensures) (w .wide .ensures) _ _ _ _ (t .before .before .size-of .ensures) (t .stands .ensures) (f .before .if1 .left)
+    step-step _ _ _ _ _ _ (f .fields-at .ensures) (w .wide .ensures) _ _ _ _ (t .before .before .size-by .ensures) (t .stands .ensures) (f .before .if1 .left)
     (w .before .before .word-at .ensures) (w .before .if2 .left) (p .before .before .same-module .ensures) (p .before .step-kept .ensures) (p .precedes .ensures)
     (c .before .if3 .left) (c .wrapping-add-u8 .ensures) (t .before .loop .inv)
 
@@ -83,7 +83,7 @@ steps-spec =
     (tie.spec
     Inv-loop
     μ-loop
-    size-of-requires
+    size-by-requires
     loop-holds
     stands-requires
     returns

@@ -13,8 +13,8 @@ Inv-loop image from n events states₀ alphabet₀ known₀ last₀ i₀ size st
 abbrev μ-loop : tie.MeasureT-loop
 μ-loop image from n events states₀ alphabet₀ known₀ last₀ i₀ size states alphabet known last i = length image - i
 
-size-of-requires : tie.Need-size-of-requires Inv-loop μ-loop
-size-of-requires c κs = search needs
+size-by-requires : tie.Need-size-by-requires Inv-loop μ-loop
+size-by-requires c κs = search needs
 
 loop-holds : tie.Need-loop-holds Inv-loop μ-loop
 loop-holds c = search begins-stretch
@@ -71,7 +71,7 @@ loop-again c =
     let p = c .before .before .before in
     let f = p .before .before .before in
     let t = f .before .before in
-    supervisor-step _ _ _ _ _ _ (f .fields-at .ensures) (c .before .wide .ensures) _ _ _ _ (t .before .before .size-of .ensures) (t .stands .ensures) (f .before .if1 .left)
+    supervisor-step _ _ _ _ _ _ (f .fields-at .ensures) (c .before .wide .ensures) _ _ _ _ (t .before .before .size-by .ensures) (t .stands .ensures) (f .before .if1 .left)
     (p .before .before .word-at .ensures) (p .before .supervisor-kept .ensures) (p .precedes .ensures) (c .before .before .if2 .left) (c .put .ensures) (t .before .loop .inv)
 
 pub supervisors-spec : {M : Type 1} → statement M
@@ -80,7 +80,7 @@ supervisors-spec =
     (tie.spec
     Inv-loop
     μ-loop
-    size-of-requires
+    size-by-requires
     loop-holds
     stands-requires
     returns

@@ -3,8 +3,8 @@ use borrow.Author.Needs.{needs}
 use Rattle.places.proofs.run_by.Statement.{statement}
 use Rattle.places.proofs.run_by.Tie as tie
 
-size-of-requires : tie.Need-size-of-requires
-size-of-requires c κs = search needs
+size-by-requires : tie.Need-size-by-requires
+size-by-requires c κs = search needs
 
 div-count : tie.Need-div-count
 div-count c = search needs
@@ -19,4 +19,4 @@ returns-3 : tie.Need-returns-3
 returns-3 c = search run-past
 
 pub run-by-spec : {M : Type 1} → statement M
-run-by-spec = tie.close (tie.spec size-of-requires div-count returns returns-2 returns-3)
+run-by-spec = tie.close (tie.spec size-by-requires div-count returns returns-2 returns-3)

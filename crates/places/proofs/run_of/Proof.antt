@@ -1,7 +1,7 @@
 use Rattle.records.specs.Kinds.{bodyLen}
 use Rattle.places.specs.Places.{beginOf, endOf, numbered}
 use Rattle.places.specs.Runs.{runOf, isMove, keyed}
-use Rattle.places.proofs.Keys.{run-by-kind, run-of-none}
+use Rattle.places.proofs.Keys.{run-by-kind, run-end, run-of-none}
 use borrow.Author.Needs.{needs}
 use Rattle.places.proofs.run_of.Statement.{statement}
 use Rattle.places.proofs.run_of.Tie as tie
@@ -36,15 +36,18 @@ cast-run-by-2 c = search needs
 cast-run-by-3 : tie.Need-cast-run-by-3
 cast-run-by-3 c = search needs
 
+size-by-requires : tie.Need-size-by-requires
+size-by-requires c κs = search needs
+
 add-run-by : tie.Need-add-run-by
+unfolding bodyLen
 add-run-by c = search needs
 
 run-by-requires-2 : tie.Need-run-by-requires-2
 run-by-requires-2 c κs = search needs
 
 returns-4 : tie.Need-returns-4
-unfolding runOf beginOf endOf bodyLen
-returns-4 c = search run-by-kind
+returns-4 c = search run-end
 
 run-by-requires-3 : tie.Need-run-by-requires-3
 run-by-requires-3 c κs = search needs
@@ -66,6 +69,7 @@ run-of-spec =
     returns-3
     cast-run-by-2
     cast-run-by-3
+    size-by-requires
     add-run-by
     run-by-requires-2
     returns-4

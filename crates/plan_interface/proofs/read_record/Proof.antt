@@ -12,8 +12,8 @@ enum-known-r c = search needs
 kind-of-requires : tie.Need-kind-of-requires
 kind-of-requires c κs = search needs
 
-size-of-requires : tie.Need-size-of-requires
-size-of-requires c κs = search needs
+size-by-requires : tie.Need-size-by-requires
+size-by-requires c κs = search needs
 
 pack-requires : tie.Need-pack-requires
 pack-requires c κs = search needs
@@ -55,7 +55,7 @@ read-record-spec =
     read-at-requires
     enum-known-r
     kind-of-requires
-    size-of-requires
+    size-by-requires
     pack-requires
     enum-told
     pack-requires-2

@@ -9,14 +9,8 @@ in-range-requires c κs = search needs
 kind-of-requires : tie.Need-kind-of-requires
 kind-of-requires c κs = search needs
 
-body-len-requires : tie.Need-body-len-requires
-body-len-requires c κs = search needs
-
-wide-requires : tie.Need-wide-requires
-wide-requires c κs = search needs
-
-add-n : tie.Need-add-n
-add-n c = search needs
+size-by-requires : tie.Need-size-by-requires
+size-by-requires c κs = search needs
 
 returns : tie.Need-returns
 returns c = search short-by
@@ -39,9 +33,7 @@ write-spec =
     (tie.spec
     in-range-requires
     kind-of-requires
-    body-len-requires
-    wide-requires
-    add-n
+    size-by-requires
     returns
     put-record-requires
     same-length
