@@ -1,7 +1,7 @@
 #!/usr/bin/env bash
 # docs/REFERENCE.md says what is so: its plans and images get the answers that stand beside them, its blocks of calls are what the programs print, the
-# definitions and files that it names are there, it names every call and constant of the header, and every kind, message, number and field of a state has
-# its row.
+# definitions and files that it names are there, it has every name of the header and no other, with its value, and every kind, message, number and field
+# of a state has its row, with the functions of the header that read it.
 set -eu
 cd "$(dirname "$0")/.."
 mkdir -p target
@@ -17,7 +17,7 @@ page, loader, room = sys.argv[1:]
 text = open(page).read()
 here = os.getcwd()
 wrong = []
-counts = dict.fromkeys(["images", "plans", "blocks of calls", "definitions", "files", "rows"], 0)
+counts = dict.fromkeys(["images", "plans", "blocks of calls", "definitions", "files", "names", "values", "rows", "fields", "readers"], 0)
 
 
 def complain(what):
@@ -163,16 +163,23 @@ for path in re.findall(r"(?<![\w/])((?:crates|docs|tests|include|examples)/[\w./
     if not glob.glob(path):
         complain("there is no " + path)
 
+# every name in the header's code, but the guard's, is on the page, and every such name on the page is in the header's code; where a number stands behind
+# a constant's name it is the header's, and it stands there once at least
 header = open("include/pewterslug.h").read()
-declared = set(re.findall(r"^(?:static inline )?\w+ (pewterslug_\w+)\(", header, re.M)) | set(re.findall(r"^#define (PEWTERSLUG_\w+) ", header, re.M))
-for name in sorted(declared):
-    if not re.search(r"\b%s\b" % name, text):
-        complain("the header's %s is not named" % name)
-for name in sorted(set(re.findall(r"\bpewterslug_\w+|\bPEWTERSLUG_\w+", text)) - declared):
+code = re.sub(r"/\*.*?\*/", "", header, flags=re.S)
+word = r"\b(?:pewterslug|PEWTERSLUG)_\w+"
+declared = set(re.findall(word, code)) - set(re.findall(r"^#ifndef (\w+)", code, re.M))
+named = set(re.findall(word, re.sub(r"\w+/[\w/]+\.h\b", "", text)))
+counts["names"] = len(declared)
+for name in sorted(declared - named):
+    complain("the header's %s is not named" % name)
+for name in sorted(named - declared):
     complain("%s is not in the header" % name)
-for name, value in re.findall(r"^#define (PEWTERSLUG_\w+) (\d+)", header, re.M):
-    if not re.search(r"`%s` \|? ?%s\b" % (name, value), text):
-        complain("%s is %s" % (name, value))
+for name, value in re.findall(r"^(?:#define |\s+)(PEWTERSLUG_\w+) (?:= )?(\w+)", code, re.M):
+    counts["values"] += 1
+    said = set(re.findall(r"`%s`[\s|]+(\d\w*)" % name, text))
+    if said != {value}:
+        complain("%s is %s, and the page says %s" % (name, value, " and ".join(sorted(said)) or "nothing"))
 
 
 # ---- what must have a row: each kind, message, number and field of a state
@@ -193,9 +200,20 @@ for kind, body in re.findall(r"shaped 0x(\w\w) (\d+)", definition("crates/messag
     row(6, r"%s \| [^|]+ \| [^|]+: %d \|" % (kind, int(body) + 1), "message %s with a body of %s bytes" % (kind, body))
 for number in range(1, int(re.search(r"n ≤ (\d+)", definition("crates/refusals/specs/Refusals.antt", "InTable")).group(1)) + 1):
     row(8, r"%d \| [^|]+ \| [^|]+ \| [^|]+ \|$" % number, "number %d" % number)
-layouts = re.search(r"/\* States, by offset\..*?\*/", header, re.S).group()
+layouts = "".join(re.findall(r"/\* ---- states, by offset ----.*?\*/", header, re.S))
 for place, field in re.findall(r" (\d+(?:\.\.\d+)?) {2,}(\w[^,;\n]*?)(?=[,;\n]| {2,})", layouts):
+    counts["fields"] += 1
     row(7, r"%s \| %s" % (re.escape(place), re.escape(field)), "the state's field %s, %s" % (place, field))
+
+# a function that takes bytes of a state at numbered places stands in the row of its party whose bytes begin at one of them
+parties = {"own": "7.1", "module": "7.2", "supervisor": "7.3"}
+for name, party, body in re.findall(r"^static inline \w+ (pewterslug_(own|module|supervisor)_\w+)\(const uint8_t \*\2\b[^)]*\)\s*\{(.*?)\}", code, re.M | re.S):
+    places = re.findall(r"\b%s(?:\[| \+ )(\d+)" % party, body)
+    if places:
+        counts["readers"] += 1
+        table = re.search(r"^### %s .*?(?=^##|\Z)" % re.escape(parties[party]), text, re.M | re.S).group()
+        if not re.search(r"^\| (?:%s)(?:\.\.\d+)? \|.*`%s`" % ("|".join(places), name), table, re.M):
+            complain("%s does not stand in the row of byte %s in %s" % (name, " or ".join(places), parties[party]))
 
 for what, count in counts.items():
     if count == 0:
