@@ -2,15 +2,20 @@
 # The fenced blocks of docs/MODELLING.md beside the files of examples/plans that they are marked with. The lines of a block `NAME.plan` stand in
 # that file, in that order; a block `NAME.expected` is that file, its line feeds partly written as ` | `, and with `without messages` the file
 # less the lines about the wire. Every block is marked, and a plan that is shown has its output shown too. That the plans are built and
-# run so is tests/plans.sh's matter. Another page may be given, to see this fail.
+# run so is tests/plans.sh's matter. A block `sh` is run here, and must give what the block `printed` behind it has. Another page may be given, to see
+# this fail.
 set -eu
 cd "$(dirname "$0")/.."
-python3 - "${1:-docs/MODELLING.md}" examples/plans << 'END'
+room=$(mktemp -d)
+trap 'rm -rf "$room"' EXIT
+python3 - "${1:-docs/MODELLING.md}" examples/plans "$room" << 'END'
+import os
 import pathlib
 import re
+import subprocess
 import sys
 
-page, folder = pathlib.Path(sys.argv[1]), pathlib.Path(sys.argv[2])
+page, folder, room = map(pathlib.Path, sys.argv[1:])
 MESSAGE = re.compile(r"sent |delivered |supervisor |module \d+ bids ")
 
 
@@ -49,9 +54,29 @@ def compare_output(at, block, lines):
             stop(at, "shown is %r where the file has %r" % (shown, line))
 
 
+def run(at, block):
+    """What a block prints, in a folder of its own, with the programs and plans of this repository."""
+    text = re.sub(r"(?<![^\s])(?:\./)?(?=run |tools/|examples/)", lambda _: os.getcwd() + "/", "\n".join(block))
+    done = subprocess.run(["bash", "-euo", "pipefail", "-c", text], cwd=room, stdin=subprocess.DEVNULL, stdout=subprocess.PIPE)
+    if done.returncode != 0:
+        stop(at, "the block ends with %d" % done.returncode)
+    return done.stdout.decode().splitlines()
+
+
 shown = {"plan": set(), "expected": set()}
 count = 0
+printed = None  # by the block before, if it was run
+runs = 0
 for at, mark, block in blocks(page.read_text().splitlines()):
+    if (mark == "text printed") != (printed is not None):
+        stop(at, "a block that is run stands without what it prints, or the other way round")
+    if mark == "sh":
+        printed = run(at, block)
+        continue
+    if mark == "text printed":
+        compare_output(at, block, printed)
+        printed, runs = None, runs + 1
+        continue
     found = re.fullmatch(r"text ([a-z-]+)\.(plan|expected( without messages)?)", mark)
     if not found:
         stop(at, "a block without the name of its file: %r" % mark)
@@ -69,5 +94,7 @@ for at, mark, block in blocks(page.read_text().splitlines()):
     count += 1
 if shown["plan"] != shown["expected"] or not count:
     stop(1, "not shown with both plan and output: %s" % sorted(shown["plan"] ^ shown["expected"]))
-print("modelling: %d blocks of %s stand as the files of %s have them" % (count, page, folder))
+if printed is not None or not runs:
+    stop(1, "no block is run, or one stands without what it prints")
+print("modelling: %d blocks of %s stand as the files of %s have them, %d prints what it shows" % (count, page, folder, runs))
 END
