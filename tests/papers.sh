@@ -1,6 +1,7 @@
 #!/usr/bin/env bash
 # The papers beside the tree: README.md is short; docs/ARCHITECTURE.md has each crate of crates.txt once and no other; a path in backquotes, a
-# function written crate::name and a definition written `name` of `file` are there; a link leads somewhere. Needs Python 3, and nothing built.
+# function written crate::name and a definition written `name` of `file` are there, and so are the proofs that CONTRIBUTING.md names for a kind of
+# record; a link leads somewhere. Needs Python 3, and nothing built.
 set -eu
 cd "$(dirname "$0")/.."
 exec python3 - <<'PYTHON'
@@ -88,12 +89,35 @@ def exists(path):
     return bool(glob.glob(pattern)) or pattern.startswith(MAY_BE_EMPTY)
 
 
+def each_of(path):
+    """The paths that one written {a,b} stands for."""
+    parts = re.fullmatch(r"([^{]*)\{([^}]*)\}(.*)", path)
+    return [parts[1] + one + parts[3] for one in parts[2].split(",")] if parts else [path]
+
+
 def paths_are_there(paper, text):
     for span in spans(text):
         for word in span.split():
-            word = word.rstrip(".,;:)")
-            if PATH.match(word) and not exists(word):
-                fault(paper, f"`{word}` is not there")
+            for path in each_of(word.rstrip(".,;:)")):
+                if PATH.match(path) and not exists(path):
+                    fault(paper, f"`{path}` is not there")
+
+
+def proofs_are_there(paper, listed):
+    """The third column of the table of kinds: `crate: File, function; crate: File`, with what explains a file in brackets."""
+    table = re.search(r"^\| Code \| Definitions \| Proofs \|\n\|[-|]+\|\n((?:\|.*\n)+)", read(paper), flags=re.M)
+    cells = [row.strip("|").split("|")[-1].strip() for row in table[1].splitlines()] if table else []
+    named = 0
+    for part in (part for cell in cells if cell != "–" for part in re.sub(r" \([^)]*\)", "", cell).split(";")):
+        crate, _, names = part.strip().partition(": ")
+        if crate not in listed or not names:
+            fault(paper, f"the table of kinds names no proofs of a crate: {part.strip()!r}")
+        for name in filter(None, names.split(", ")):
+            named += 1
+            if not any(os.path.exists(f"crates/{crate}/proofs/{name}{end}") for end in (".antt", "/Proof.antt")):
+                fault(paper, f"the table of kinds has {crate}: {name}, and there is no such proof")
+    if not named:
+        fault(paper, "the table of kinds is missing, or names no proofs")
 
 
 def names_of(span, listed):
@@ -141,6 +165,7 @@ def links_lead_somewhere(paper, text):
 
 readme_is_short()
 each_crate_once()
+proofs_are_there("CONTRIBUTING.md", set(crates()))
 for paper in PAPERS:
     if not os.path.exists(paper):
         fault(paper, "is missing")
