@@ -64,7 +64,7 @@ judged n rs (more o r w) s = go (eqb (faultOf rs r) 0) refl (judged n (r ∷ rs)
     go false q j = (fault rs r .0 (eqb-false _ _ q), fault rs r .1)
 
 accepted : CheckAnswer Accepted
-accepted = accepts verdictNumber verdictOffset Refused Accepted (λ n o e. never (cc)) refl
+accepted = accepts verdictNumber verdictOffset Refused Accepted (λ n o e. never (cc)) refl refl
 
 refused : (n o : ℕ) → InTable n → Placed n o → CheckAnswer (Refused n o)
 refused = refuses verdictNumber verdictOffset Refused (λ n o. refl) (λ n o. refl)

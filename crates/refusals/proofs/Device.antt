@@ -2,7 +2,9 @@
 use Prim.Native.Nat.{ℕ, zero, suc, _≤_}
 use native.Mathlib.Omega.{arith}
 use mathlib.Core.Path.{_≡_, refl, ap, subst}
+use mathlib.Core.Logic.{_≢_}
 use mathlib.Core.List.{List}
+use mathlib.Core.Option.{none}
 use lib.Seq.{set-getD}
 use lib.Dec.{ltb}
 use Rattle.records.specs.declared.Record.{Record}
@@ -19,23 +21,25 @@ use Rattle.modules.specs.Numbers.{replyNumber}
 use Rattle.modules.specs.Procedure.{taken as took, refused as denied, respondOf, tickOf}
 use Rattle.modules.specs.Turn.{emptyOwn}
 use Rattle.modules.specs.declared.Own.{Own}
+use Rattle.modules.specs.declared.Turn.the-variants.{Event, Stray, Nothing}
 use Rattle.modules.specs.declared.Replied.{Replied}
 use Rattle.device_states.specs.States.{ownAt, withOwn, deviceFits}
 use Rattle.device.specs.Device.{deviceNumber, turnRefused, turnIn, turnBy, replyIn, replyBy, startBy}
-use Rattle.device.specs.Numbers.{turningNumber, turningOffset}
+use Rattle.device.specs.Numbers.{turningNumber, turningOffset, turningEvent, turningStray}
 use Rattle.device_states.specs.declared.Device.{Device}
-use Rattle.device.specs.declared.Turning.the-variants.{Refused as TurnRefused}
-use Rattle.refusals.specs.Refusals.{InTable, Placed, CheckAnswer, CallAnswer, OwnCall, DeviceTurn, DeviceCall, OwnPart, OneDevice}
+use Rattle.device.specs.declared.Turning.{Turning}
+use Rattle.device.specs.declared.Turning.the-variants.{Turned, Refused as TurnRefused}
+use Rattle.refusals.specs.Refusals.{InTable, Placed, CheckAnswer, CallAnswer, HeldAlone, OwnCall, DeviceTurn, DeviceCall, OwnPart, OneDevice}
 use Rattle.refusals.proofs.Cases.{either, never, in-table, at-zero, accepts, refuses, taken, same, done, call-refused, turns-down, replied}
 use Rattle.refusals.proofs.Checked.{checked}
 
 -- ---- the own part: 11 and 13 of a response, 14 of a tick
 
 own-taken : (own after : Own) → OwnCall own (took after)
-own-taken own after = record { numbered = λ n e. absurd (never (cc)); state = taken own after }
+own-taken own after = record { numbered = λ n e. absurd (never (cc)); number-is = λ n e. ap replyNumber e; accepted = λ e. refl; state = taken own after }
 
 own-refused : (n : ℕ) (own : Own) → InTable n → OwnCall own (denied n own)
-own-refused n own t = record { numbered = λ k e. subst InTable (ap replyNumber e) t; state = same n own }
+own-refused n own t = record { numbered = λ k e. subst InTable (ap replyNumber e) t; number-is = λ k e. ap replyNumber e; accepted = λ e. ap replyNumber e; state = same n own }
 
 pub own-respond : (rs : List Record) (m e : ℕ) (own : Own) → OwnCall own (respondOf rs m e own)
 unfolding respondOf
@@ -53,6 +57,25 @@ own-part = record { respond = own-respond; tick = own-tick }
 
 -- ---- one device
 
+-- the event that fired and the one that was stray
+event-of : (a : Turning) → HeldAlone turningEvent (λ e. Turned (Event e)) a
+event-of a = record { is = λ k e. ap turningEvent e; otherwise = go a }
+  where
+    go : (a : Turning) → ((k : ℕ) → a ≢ Turned (Event k)) → turningEvent a ≡ none
+    go (Turned (Event k)) h = absurd (h k refl)
+    go (Turned (Stray k)) h = refl
+    go (Turned Nothing) h = refl
+    go (TurnRefused n o) h = refl
+
+stray-of : (a : Turning) → HeldAlone turningStray (λ e. Turned (Stray e)) a
+stray-of a = record { is = λ k e. ap turningStray e; otherwise = go a }
+  where
+    go : (a : Turning) → ((k : ℕ) → a ≢ Turned (Stray k)) → turningStray a ≡ none
+    go (Turned (Event k)) h = refl
+    go (Turned (Stray k)) h = absurd (h k refl)
+    go (Turned Nothing) h = refl
+    go (TurnRefused n o) h = refl
+
 start : (v : Verdict) (rs : List Record) → CheckAnswer v → CallAnswer (startBy v rs .answer)
 unfolding startBy
 start Accepted rs j = done
@@ -68,18 +91,18 @@ module _ (rs : List Record) (d : Device) (m : ℕ) where
       record {
         answer = refuses turningNumber turningOffset TurnRefused (λ n o. refl) (λ n o. refl) n o t p;
         state = same n d;
-        event = λ h. refl;
-        stray = λ h. refl;
+        event = event-of (TurnRefused n o);
+        stray = stray-of (TurnRefused n o);
       }
 
   turn-in : (n : ℕ) → n ≤ 15 → DeviceTurn d (turnIn rs d m n)
   unfolding turnIn
   turn-in zero h =
       record {
-        answer = accepts turningNumber turningOffset TurnRefused _ (λ n o e. never (cc)) refl;
+        answer = accepts turningNumber turningOffset TurnRefused _ (λ n o e. never (cc)) refl refl;
         state = taken d _;
-        event = λ t. absurd (t refl);
-        stray = λ t. absurd (t refl);
+        event = event-of _;
+        stray = stray-of _;
       }
   turn-in (suc n) h = turn-refused (suc n) 0 (omega arith, h) (at-zero (suc n))
 

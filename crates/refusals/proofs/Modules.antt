@@ -1,6 +1,6 @@
 -- What a refused call leaves of a module on many devices.
 use Prim.Native.Nat.{ℕ}
-use mathlib.Core.Path.{_≡_, refl}
+use mathlib.Core.Path.{_≡_, refl, ap}
 use mathlib.Core.List.{List}
 use mathlib.Core.Bool.{Bool, true, false, cond, _&&_}
 use lib.Dec.{eqb, ltb}
@@ -20,11 +20,12 @@ use Rattle.messages.specs.declared.Parsed.the-variants.{Whole, Misshapen}
 use Rattle.permits.specs.Names.{named}
 use Rattle.permits.specs.Module.{Choice, takesTurn, waits, bidsTo, choice, moduleFits, sentBy, stepBytes, answerBy, stateBy, stepRefused, stepIn, stepBy, bidWith, takenBy, deliverIn, absent, deliverBy, withOwn, replyBy, startBy}
 use Rattle.permits.specs.Step.{bytesOfMessages}
-use Rattle.permits.specs.Numbers.{steppedNumber, steppedOffset}
+use Rattle.permits.specs.Numbers.{steppedNumber, steppedOffset, steppedBytes}
 use Rattle.permits.specs.declared.Module.{Module}
 use Rattle.permits.specs.declared.ModuleCalled.{ModuleCalled}
+use Rattle.permits.specs.declared.Stepped.{Stepped}
 use Rattle.permits.specs.declared.Stepped.the-variants.{Refused as StepRefused}
-use Rattle.refusals.specs.Refusals.{InTable, Placed, CheckAnswer, CallAnswer, StepAnswer, OwnCall, ModuleStep, ModuleCall, Modules}
+use Rattle.refusals.specs.Refusals.{InTable, Placed, CheckAnswer, CallAnswer, StepAnswer, OwnCall, StepBytes, ModuleStep, ModuleCall, Modules}
 use Rattle.refusals.proofs.Cases.{either, never, in-table, at-zero, accepts, refuses, taken, same, untouched, put, done, call-refused, takes, turns-down, refused, replied}
 use Rattle.refusals.proofs.Checked.{checked}
 use Rattle.refusals.proofs.Device.{own-respond, own-tick}
@@ -37,9 +38,12 @@ start (Refused n o) rs m j = call-refused n o (j .numbered n o refl) (j .placed)
 -- the answer of an accepted step
 accepted : (rs : List Record) (m : ℕ) (x : Module) (c : Choice) → StepAnswer (answerBy rs m x c)
 unfolding answerBy
-accepted rs m x takesTurn = accepts steppedNumber steppedOffset StepRefused _ (λ n o e. never (cc)) refl
-accepted rs m x (bidsTo v) = accepts steppedNumber steppedOffset StepRefused _ (λ n o e. never (cc)) refl
-accepted rs m x waits = accepts steppedNumber steppedOffset StepRefused _ (λ n o e. never (cc)) refl
+accepted rs m x takesTurn = accepts steppedNumber steppedOffset StepRefused _ (λ n o e. never (cc)) refl refl
+accepted rs m x (bidsTo v) = accepts steppedNumber steppedOffset StepRefused _ (λ n o e. never (cc)) refl refl
+accepted rs m x waits = accepts steppedNumber steppedOffset StepRefused _ (λ n o e. never (cc)) refl refl
+
+step-bytes : (a : Stepped) → StepBytes a
+step-bytes a = record { turned = λ t k e. ap steppedBytes e; bids = λ v k e. ap steppedBytes e; waiting = λ e. ap steppedBytes e }
 
 module _ (rs : List Record) (m : ℕ) (x : Module) where
   -- ---- a step
@@ -49,6 +53,7 @@ module _ (rs : List Record) (m : ℕ) (x : Module) where
         record {
           answer = refuses steppedNumber steppedOffset StepRefused (λ n o. refl) (λ n o. refl) n o t p;
           state = same n x;
+          bytes = step-bytes _;
           buffer = untouched n b;
         }
 
@@ -56,9 +61,9 @@ module _ (rs : List Record) (m : ℕ) (x : Module) where
         → ModuleStep x b (cond q (stepRefused x b 15 0) (record { answer = answerBy rs m x c; state = stateBy rs m x c; buffer = written (stepBytes rs m x c) b }))
     unfolding answerBy sentBy bytesOfMessages
     step-in c true e = step-refused 15 0 (in-table 15 refl refl) (at-zero 15)
-    step-in takesTurn false e = record { answer = accepted rs m x takesTurn; state = taken x _; buffer = put _ (stepBytes rs m x takesTurn) b refl (ltb-false _ _ e) }
-    step-in (bidsTo v) false e = record { answer = accepted rs m x (bidsTo v); state = taken x _; buffer = put _ (stepBytes rs m x (bidsTo v)) b refl (ltb-false _ _ e) }
-    step-in waits false e = record { answer = accepted rs m x waits; state = taken x _; buffer = put 0 (stepBytes rs m x waits) b refl (ltb-false _ _ e) }
+    step-in takesTurn false e = record { answer = accepted rs m x takesTurn; state = taken x _; bytes = step-bytes _; buffer = put _ (stepBytes rs m x takesTurn) b refl (ltb-false _ _ e) }
+    step-in (bidsTo v) false e = record { answer = accepted rs m x (bidsTo v); state = taken x _; bytes = step-bytes _; buffer = put _ (stepBytes rs m x (bidsTo v)) b refl (ltb-false _ _ e) }
+    step-in waits false e = record { answer = accepted rs m x waits; state = taken x _; bytes = step-bytes _; buffer = put 0 (stepBytes rs m x waits) b refl (ltb-false _ _ e) }
 
     step-by : (v : Verdict) → CheckAnswer v → ModuleStep x b (stepBy v rs m x b)
     unfolding stepBy stepIn

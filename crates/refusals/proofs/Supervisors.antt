@@ -1,6 +1,6 @@
 -- What a refused call leaves of a supervisor.
 use Prim.Native.Nat.{ℕ}
-use mathlib.Core.Path.{_≡_, refl}
+use mathlib.Core.Path.{_≡_, refl, ap}
 use mathlib.Core.List.{List}
 use mathlib.Core.Option.{Option, none, some}
 use mathlib.Core.Bool.{Bool, true, false, cond, not, _&&_}
@@ -21,11 +21,12 @@ use Rattle.messages.specs.declared.Parsed.the-variants.{Whole, Misshapen}
 use Rattle.permits.specs.Names.{named}
 use Rattle.permits.specs.Supervisor.{supervisorFits, served, sentTo, stepBytes, answerBy, stateAfter, stepRefused, stepIn, stepBy, heldBy, takenBy, deliverIn, absent, deliverBy, startBy}
 use Rattle.permits.specs.Step.{bytesOfMessages}
-use Rattle.permits.specs.Numbers.{servedNumber, servedOffset}
+use Rattle.permits.specs.Numbers.{servedNumber, servedOffset, servedBytes}
 use Rattle.permits.specs.declared.Supervisor.{Supervisor}
 use Rattle.permits.specs.declared.SupervisorCalled.{SupervisorCalled}
+use Rattle.permits.specs.declared.Served.{Served}
 use Rattle.permits.specs.declared.Served.the-variants.{Refused as ServeRefused}
-use Rattle.refusals.specs.Refusals.{InTable, Placed, CheckAnswer, CallAnswer, ServeAnswer, SupervisorStep, SupervisorCall, Supervisors}
+use Rattle.refusals.specs.Refusals.{InTable, Placed, CheckAnswer, CallAnswer, ServeAnswer, ServeBytes, SupervisorStep, SupervisorCall, Supervisors}
 use Rattle.refusals.proofs.Cases.{either, never, in-table, at-zero, accepts, refuses, taken, same, untouched, put, done, call-refused, takes, turns-down, refused}
 use Rattle.refusals.proofs.Checked.{checked}
 
@@ -37,8 +38,11 @@ start (Refused n o) rs v j = call-refused n o (j .numbered n o refl) (j .placed)
 -- the answer of an accepted step
 accepted : (bytes : List ℕ) (t : Option ℕ) → ServeAnswer (answerBy bytes t)
 unfolding answerBy
-accepted bytes none = accepts servedNumber servedOffset ServeRefused _ (λ n o e. never (cc)) refl
-accepted bytes (some m) = accepts servedNumber servedOffset ServeRefused _ (λ n o e. never (cc)) refl
+accepted bytes none = accepts servedNumber servedOffset ServeRefused _ (λ n o e. never (cc)) refl refl
+accepted bytes (some m) = accepts servedNumber servedOffset ServeRefused _ (λ n o e. never (cc)) refl refl
+
+serve-bytes : (a : Served) → ServeBytes a
+serve-bytes a = record { sends = λ m k e. ap servedBytes e; waiting = λ e. ap servedBytes e }
 
 module _ (rs : List Record) (v : ℕ) (y : Supervisor) where
   -- ---- a step
@@ -48,6 +52,7 @@ module _ (rs : List Record) (v : ℕ) (y : Supervisor) where
         record {
           answer = refuses servedNumber servedOffset ServeRefused (λ n o. refl) (λ n o. refl) n o t p;
           state = same n y;
+          bytes = serve-bytes _;
           buffer = untouched n b;
         }
 
@@ -55,9 +60,9 @@ module _ (rs : List Record) (v : ℕ) (y : Supervisor) where
         → SupervisorStep y b (cond q (stepRefused y b 15 0) (record { answer = answerBy (stepBytes rs v y t) t; state = stateAfter y t; buffer = written (stepBytes rs v y t) b }))
     unfolding answerBy sentTo bytesOfMessages
     step-in t true e = step-refused 15 0 (in-table 15 refl refl) (at-zero 15)
-    step-in none false e = record { answer = accepted (stepBytes rs v y none) none; state = taken y _; buffer = put 0 (stepBytes rs v y none) b refl (ltb-false _ _ e) }
+    step-in none false e = record { answer = accepted (stepBytes rs v y none) none; state = taken y _; bytes = serve-bytes _; buffer = put 0 (stepBytes rs v y none) b refl (ltb-false _ _ e) }
     step-in (some m) false e =
-        record { answer = accepted (stepBytes rs v y (some m)) (some m); state = taken y _; buffer = put _ (stepBytes rs v y (some m)) b refl (ltb-false _ _ e) }
+        record { answer = accepted (stepBytes rs v y (some m)) (some m); state = taken y _; bytes = serve-bytes _; buffer = put _ (stepBytes rs v y (some m)) b refl (ltb-false _ _ e) }
 
     step-by : (w : Verdict) → CheckAnswer w → SupervisorStep y b (stepBy w rs v y b)
     unfolding stepBy stepIn

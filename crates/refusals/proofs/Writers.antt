@@ -1,6 +1,6 @@
 -- What a refused writer leaves of the buffer.
 use Prim.Native.Nat.{ℕ}
-use mathlib.Core.Path.{_≡_, refl}
+use mathlib.Core.Path.{_≡_, refl, ap}
 use mathlib.Core.List.{List}
 use mathlib.Core.Bool.{Bool, true, false, cond}
 use lib.ListN.{length}
@@ -20,7 +20,7 @@ use Rattle.rewrite.specs.Rewrite.{planBytes, answerBy as rewriteAnswer, bufferB
 use Rattle.rewrite.specs.declared.Rewritten.the-variants.{Length as Copied, Refused as CopyRefused}
 use Rattle.messages.specs.Message.{messageBytes, fitsAt, putAt}
 use Rattle.messages.specs.declared.Message.{Message}
-use Rattle.refusals.specs.Numbers.{writtenNumber, writtenOffset, rewrittenNumber, rewrittenOffset}
+use Rattle.refusals.specs.Numbers.{writtenNumber, writtenOffset, writtenLength, rewrittenNumber, rewrittenOffset, rewrittenLength}
 use Rattle.refusals.specs.Refusals.{InTable, Placed, CheckAnswer, Write, Rewrite, Writers}
 use Rattle.refusals.proofs.Cases.{either, never, in-table, at-zero, accepts, refuses, untouched, put}
 use Rattle.refusals.proofs.Checked.{checked}
@@ -31,6 +31,7 @@ write-refused n r b t =
     record {
       answer = refuses writtenNumber writtenOffset WriteRefused (λ n o. refl) (λ n o. refl) n 0 t (at-zero n);
       offset = refl;
+      bytes = λ k e. ap writtenLength e;
       buffer = untouched n b;
     }
 
@@ -42,8 +43,9 @@ write r b = either (Write r b) (inRange r) (go (ltb (length b) (sizeOf r)) refl)
     go true e = write-refused 15 r b (in-table 15 refl refl)
     go false e =
         record {
-          answer = accepts writtenNumber writtenOffset WriteRefused _ (λ n o e. never (cc)) refl;
+          answer = accepts writtenNumber writtenOffset WriteRefused _ (λ n o e. never (cc)) refl refl;
           offset = refl;
+          bytes = λ k e. ap writtenLength e;
           buffer = put (sizeOf r) (bytesOf r) b (length-bytes r) (ltb-false _ _ e);
         }
 
@@ -51,7 +53,7 @@ write r b = either (Write r b) (inRange r) (go (ltb (length b) (sizeOf r)) refl)
 rewrite-refused : (n o : ℕ) (s b : List ℕ) → InTable n → Placed n o → Rewrite s b (CopyRefused n o)
 unfolding rewriteBuffer
 rewrite-refused n o s b t p =
-    record { answer = refuses rewrittenNumber rewrittenOffset CopyRefused (λ n o. refl) (λ n o. refl) n o t p; buffer = untouched n b }
+    record { answer = refuses rewrittenNumber rewrittenOffset CopyRefused (λ n o. refl) (λ n o. refl) n o t p; bytes = λ k e. ap rewrittenLength e; buffer = untouched n b }
 
 rewrite : (s b : List ℕ) (v : Verdict) → CheckAnswer v → Rewrite s b (rewriteAnswer v s b)
 unfolding rewriteAnswer rewriteBuffer
@@ -62,7 +64,8 @@ rewrite s b Accepted j = go (ltb (length b) (length (planBytes s))) refl
     go true e = rewrite-refused 15 0 s b (in-table 15 refl refl) (at-zero 15)
     go false e =
         record {
-          answer = accepts rewrittenNumber rewrittenOffset CopyRefused _ (λ n o e. never (cc)) refl;
+          answer = accepts rewrittenNumber rewrittenOffset CopyRefused _ (λ n o e. never (cc)) refl refl;
+          bytes = λ k e. ap rewrittenLength e;
           buffer = put (length (planBytes s)) (planBytes s) b refl (ltb-false _ _ e);
         }
 

@@ -5,7 +5,7 @@ use Prim.Native.Nat.{ℕ, _≤_}
 use mathlib.Core.Path.{_≡_}
 use mathlib.Core.Logic.{_≢_}
 use mathlib.Core.List.{List}
-use mathlib.Core.Option.{none}
+use mathlib.Core.Option.{Option, none, some}
 use mathlib.Core.Bool.{false}
 use lib.ListN.{length, drop}
 use Rattle.records.specs.declared.Record.{Record}
@@ -14,25 +14,27 @@ use Rattle.rules.specs.declared.Verdict.{Verdict}
 use Rattle.rules.specs.declared.Verdict.the-variants.{Refused}
 use Rattle.writer.specs.Write.{answerOf, bufferBy}
 use Rattle.writer.specs.declared.Written.{Written}
-use Rattle.writer.specs.declared.Written.the-variants.{Refused as WriteRefused}
+use Rattle.writer.specs.declared.Written.the-variants.{Length, Refused as WriteRefused}
 use Rattle.rewrite.specs.Rewrite.{answerBy as rewriteAnswer, bufferBy as rewriteBuffer}
 use Rattle.rewrite.specs.declared.Rewritten.{Rewritten}
-use Rattle.rewrite.specs.declared.Rewritten.the-variants.{Refused as CopyRefused}
+use Rattle.rewrite.specs.declared.Rewritten.the-variants.{Length as Copied, Refused as CopyRefused}
 use Rattle.messages.specs.Message.{messageBytes, fitsAt, putAt}
 use Rattle.messages.specs.declared.Message.{Message}
 use Rattle.water.specs.declared.Flow.{Flow}
 use Rattle.modules.specs.Numbers.{replyNumber, calledNumber, calledOffset}
 use Rattle.modules.specs.Procedure.{respondOf, tickOf}
 use Rattle.modules.specs.declared.Own.{Own}
+use Rattle.modules.specs.declared.Turn.{Turn}
+use Rattle.modules.specs.declared.Turn.the-variants.{Event, Stray}
 use Rattle.modules.specs.declared.Called.{Called}
 use Rattle.modules.specs.declared.Called.the-variants.{Refused as CallRefused}
-use Rattle.modules.specs.declared.Reply.the-variants.{Refused as ReplyRefused}
+use Rattle.modules.specs.declared.Reply.the-variants.{Taken, Refused as ReplyRefused}
 use Rattle.modules.specs.declared.Replied.{Replied}
 use Rattle.device.specs.Device.{startCall, turnCall, respondCall, tickCall}
 use Rattle.device.specs.Numbers.{turningNumber, turningOffset, turningEvent, turningStray}
 use Rattle.device_states.specs.declared.Device.{Device}
 use Rattle.device.specs.declared.Turning.{Turning}
-use Rattle.device.specs.declared.Turning.the-variants.{Refused as TurnRefused}
+use Rattle.device.specs.declared.Turning.the-variants.{Turned, Refused as TurnRefused}
 use Rattle.device.specs.declared.DeviceTurned.{DeviceTurned}
 use Rattle.device.specs.declared.DeviceCalled.{DeviceCalled}
 use Rattle.permits.specs.Module.{StepCall, moduleStep, moduleDeliver, moduleRespond, moduleTick, moduleStart}
@@ -41,11 +43,11 @@ use Rattle.permits.specs.Numbers.{steppedNumber, steppedOffset, steppedBytes, s
 use Rattle.permits.specs.declared.Module.{Module}
 use Rattle.permits.specs.declared.ModuleCalled.{ModuleCalled}
 use Rattle.permits.specs.declared.Stepped.{Stepped}
-use Rattle.permits.specs.declared.Stepped.the-variants.{Refused as StepRefused}
+use Rattle.permits.specs.declared.Stepped.the-variants.{Turned as Turns, Bids, Waits, Refused as StepRefused}
 use Rattle.permits.specs.declared.Supervisor.{Supervisor}
 use Rattle.permits.specs.declared.SupervisorCalled.{SupervisorCalled}
 use Rattle.permits.specs.declared.Served.{Served}
-use Rattle.permits.specs.declared.Served.the-variants.{Refused as ServeRefused}
+use Rattle.permits.specs.declared.Served.the-variants.{Sends, Waits as ServedWaits, Refused as ServeRefused}
 use Rattle.refusals.specs.Numbers.{verdictNumber, verdictOffset, writtenNumber, writtenOffset, writtenLength, rewrittenNumber, rewrittenOffset, rewrittenLength}
 
 -- a refusal has a number, and what is accepted has 0
@@ -66,6 +68,19 @@ pub record Answer {E : Type 0} (number offset : E → ℕ) (refusal : ℕ → �
   -- "Bad input gets its number from document 01": so a refusal never has the 0 of what is taken
   pub numbered : (n o : ℕ) → a ≡ refusal n o → InTable n
   pub placed : Placed (number a) (offset a)
+  -- the definitions give what the refusal holds, and 0 and 0 for what is accepted
+  pub number-is : (n o : ℕ) → a ≡ refusal n o → number a ≡ n
+  pub offset-is : (n o : ℕ) → a ≡ refusal n o → offset a ≡ o
+  pub accepted : ((n o : ℕ) → a ≢ refusal n o) → (number a ≡ 0) × (offset a ≡ 0)
+
+-- the definition of a value gives what the answer a holds: k if a is that case of k
+abbrev pub Held : {E : Type 0} → (E → ℕ) → (ℕ → E) → E → Type 0
+Held value case a = (k : ℕ) → a ≡ case k → value a ≡ k
+
+-- the same of a value that no other case has
+pub record HeldAlone {E : Type 0} (value : E → Option ℕ) (case : ℕ → E) (a : E) : Type 0 where
+  pub is : (k : ℕ) → a ≡ case k → value a ≡ some k
+  pub otherwise : ((k : ℕ) → a ≢ case k) → value a ≡ none
 
 -- "a refused call returns the state unchanged": x is given and y returned, with the number n
 abbrev pub Unchanged : {A : Type 0} → ℕ → A → A → Type 0
@@ -108,15 +123,19 @@ pub record Write (r : Record) (b : List ℕ) (a : Written) : Type 0 where
   pub answer : WriteAnswer a
   -- "The writer of one record gives 5 or 15 only, at offset 0."
   pub offset : writtenOffset a ≡ 0
+  pub bytes : Held writtenLength Length a
   pub buffer : Lent (writtenNumber a) (writtenLength a) b (bufferBy a r b)
 
 pub record Rewrite (s b : List ℕ) (a : Rewritten) : Type 0 where
   pub answer : RewriteAnswer a
+  pub bytes : Held rewrittenLength Copied a
   pub buffer : Lent (rewrittenNumber a) (rewrittenLength a) b (rewriteBuffer a s b)
 
 -- a reply of a module's own part, which has no offset
 pub record OwnCall (own : Own) (c : Replied) : Type 0 where
   pub numbered : (n : ℕ) → c .reply ≡ ReplyRefused n → InTable n
+  pub number-is : Held replyNumber ReplyRefused (c .reply)
+  pub accepted : c .reply ≡ Taken → replyNumber (c .reply) ≡ 0
   pub state : Unchanged (replyNumber (c .reply)) own (c .own)
 
 pub record Call {A : Type 0} (x : A) (a : Called) (y : A) : Type 0 where
@@ -135,18 +154,30 @@ SupervisorCall y c = Call y (c .answer) (c .state)
 pub record DeviceTurn (d : Device) (c : DeviceTurned) : Type 0 where
   pub answer : TurnAnswer (c .answer)
   pub state : Unchanged (turningNumber (c .answer)) d (c .device)
-  -- a refused turn has no event, fired or stray
-  pub event : IsRefusal (turningNumber (c .answer)) → turningEvent (c .answer) ≡ none
-  pub stray : IsRefusal (turningNumber (c .answer)) → turningStray (c .answer) ≡ none
+  -- the event that fired and the one that was stray; a refused turn has neither
+  pub event : HeldAlone turningEvent (λ e. Turned (Event e)) (c .answer)
+  pub stray : HeldAlone turningStray (λ e. Turned (Stray e)) (c .answer)
+
+-- the bytes that a step wrote; `Lent` says that a refused one wrote none
+pub record StepBytes (a : Stepped) : Type 0 where
+  pub turned : (t : Turn) → Held steppedBytes (Turns t) a
+  pub bids : (v : ℕ) → Held steppedBytes (Bids v) a
+  pub waiting : a ≡ Waits → steppedBytes a ≡ 0
+
+pub record ServeBytes (a : Served) : Type 0 where
+  pub sends : (m : ℕ) → Held servedBytes (Sends m) a
+  pub waiting : a ≡ ServedWaits → servedBytes a ≡ 0
 
 pub record ModuleStep (x : Module) (b : List ℕ) (c : StepCall) : Type 0 where
   pub answer : StepAnswer (c .answer)
   pub state : Unchanged (steppedNumber (c .answer)) x (c .state)
+  pub bytes : StepBytes (c .answer)
   pub buffer : Lent (steppedNumber (c .answer)) (steppedBytes (c .answer)) b (c .buffer)
 
 pub record SupervisorStep (y : Supervisor) (b : List ℕ) (c : ServeCall) : Type 0 where
   pub answer : ServeAnswer (c .answer)
   pub state : Unchanged (servedNumber (c .answer)) y (c .state)
+  pub bytes : ServeBytes (c .answer)
   pub buffer : Lent (servedNumber (c .answer)) (servedBytes (c .answer)) b (c .buffer)
 
 -- ---- every call, party by party. A start is given no state, and the check lends nothing.
