@@ -8,14 +8,18 @@ use mathlib.Core.Bool.{cond}
 use lib.ListN.{length}
 use lib.Dec.{eqb, ltb}
 use Rattle.messages.specs.Message.{written}
+use Rattle.rules.specs.Numbers.{verdictNumber, verdictOffset}
 use Rattle.rules.specs.declared.Verdict.{Verdict}
 use Rattle.rules.specs.declared.Verdict.the-variants.{Accepted, Refused as CheckRefused}
+use Rattle.modules.specs.Numbers.{calledNumber, calledOffset}
 use Rattle.modules.specs.declared.Turn.{Turn}
 use Rattle.modules.specs.declared.Turn.the-variants.{Event, Stray, Nothing}
 use Rattle.modules.specs.declared.Called.{Called}
 use Rattle.modules.specs.declared.Called.the-variants.{Done, Refused}
+use Rattle.device.specs.Numbers.{turningNumber, turningOffset}
 use Rattle.device.specs.declared.Turning.{Turning}
 use Rattle.device.specs.declared.Turning.the-variants.{Turned, Refused as TurnRefused}
+use Rattle.permits.specs.Numbers.{steppedNumber, steppedOffset, servedNumber, servedOffset}
 use Rattle.permits.specs.declared.Stepped.{Stepped}
 use Rattle.permits.specs.declared.Stepped.the-variants.{Turned as Turns, Bids, Waits, Refused as StepRefused}
 use Rattle.permits.specs.declared.Served.{Served}
@@ -35,12 +39,12 @@ done did value size = packed 0 did value size
 
 unfoldable pub verdictAnswer : Verdict → ℕ
 verdictAnswer Accepted = done 0 0 0
-verdictAnswer (CheckRefused n o) = refused n o
+verdictAnswer (CheckRefused n o) = refused (verdictNumber (CheckRefused n o)) (verdictOffset (CheckRefused n o))
 
 -- PEWTERSLUG_DONE, 0: "taken; the value is 0"
 unfoldable pub calledAnswer : Called → ℕ
 calledAnswer Done = done 0 0 0
-calledAnswer (Refused n o) = refused n o
+calledAnswer (Refused n o) = refused (calledNumber (Refused n o)) (calledOffset (Refused n o))
 
 -- PEWTERSLUG_EVENT, 1: "a turn: an event fired, the value is the event"; PEWTERSLUG_STRAY, 2: "a turn: a stray response, the value is its event";
 -- PEWTERSLUG_NONE, 3: "a turn: none"
@@ -51,20 +55,20 @@ turnAnswer Nothing size = done 3 0 size
 
 unfoldable pub turningAnswer : Turning → ℕ
 turningAnswer (Turned t) = turnAnswer t 0
-turningAnswer (TurnRefused n o) = refused n o
+turningAnswer (TurnRefused n o) = refused (turningNumber (TurnRefused n o)) (turningOffset (TurnRefused n o))
 
 -- PEWTERSLUG_BIDS, 4: "a module bids, the value is the supervisor"; PEWTERSLUG_WAITS, 6: "a step that waits"
 unfoldable pub steppedAnswer : Stepped → ℕ
 steppedAnswer (Turns t size) = turnAnswer t size
 steppedAnswer (Bids v size) = done 4 v size
 steppedAnswer Waits = done 6 0 0
-steppedAnswer (StepRefused n o) = refused n o
+steppedAnswer (StepRefused n o) = refused (steppedNumber (StepRefused n o)) (steppedOffset (StepRefused n o))
 
 -- PEWTERSLUG_SENDS, 5: "a supervisor sends its permit, the value is the module"
 unfoldable pub servedAnswer : Served → ℕ
 servedAnswer (Sends m size) = done 5 m size
 servedAnswer ServedWaits = done 6 0 0
-servedAnswer (ServeRefused n o) = refused n o
+servedAnswer (ServeRefused n o) = refused (servedNumber (ServeRefused n o)) (servedOffset (ServeRefused n o))
 
 -- ---- a whole call
 
@@ -90,4 +94,4 @@ unfoldable pub startAnswer : ℕ → Called → List ℕ → List ℕ → Answer
 startAnswer size Done bytes b =
     cond (ltb (length b) size) (record { number = refused 15 0; state = []; buffer = b })
     (record { number = done 0 0 size; state = []; buffer = written bytes b })
-startAnswer size (Refused n o) bytes b = record { number = refused n o; state = []; buffer = b }
+startAnswer size (Refused n o) bytes b = record { number = refused (calledNumber (Refused n o)) (calledOffset (Refused n o)); state = []; buffer = b }

@@ -7,6 +7,7 @@ use mathlib.Core.Bool.{cond}
 use lib.Dec.{eqb}
 use Rattle.reader.specs.Walk.{recordsOf}
 use Rattle.rules.specs.LookUp.{modulesOf, supervisorsOf, eventsOf}
+use Rattle.modules.specs.Numbers.{calledNumber, calledOffset}
 use Rattle.modules.specs.declared.Called.{Called}
 use Rattle.modules.specs.declared.Called.the-variants.{Done, Refused}
 use Rattle.device_states.specs.declared.Device.{Device}
@@ -61,7 +62,7 @@ answersTo image d (l ∷ ls) = answerTo image d (lineOf l) ++ answersTo image (d
 -- "Header: modules, supervisors, events."; "and, alone, `plan refused N at B`"
 unfoldable pub listedBy : Called → List ℕ → Device → List ℕ → List ℕ
 listedBy Done image d script = headerLine (modulesOf (recordsOf image)) (supervisorsOf (recordsOf image)) (eventsOf (recordsOf image)) ++ answersTo image d (linesOf script)
-listedBy (Refused n o) image d script = planRefusedLine n o
+listedBy (Refused n o) image d script = planRefusedLine (calledNumber (Refused n o)) (calledOffset (Refused n o))
 
 -- "The listing program reads `plan.bin` and standard input": all that it prints
 abbrev pub listed : List ℕ → List ℕ → List ℕ
