@@ -21,7 +21,7 @@ use Rattle.acts.specs.declared.Act.{Act}
 use Rattle.acts.specs.declared.Act.the-variants.{Misshapen}
 use Rattle.acts.specs.declared.Reading.{Reading}
 use Rattle.acts.specs.declared.Reading.the-variants.{Eighths, NoSensor, Misshapen as NoReading}
-use Rattle.acts.specs.Act.{readingBy, readingOf, moduleBy, supervisorBy, deliveryBy, responseBy, tickBy, tickOf, actOf, parsedAct, actNumber, read, isTick, isAct, ActAs}
+use Rattle.acts.specs.Act.{readingBy, readingOf, moduleBy, supervisorBy, deliveryBy, responseBy, tickBy, tickOf, actOf, parsedAct, actNumber, hasReading, isTick, isAct, ActAs}
 
 -- a reading, by whether it is the sign alone
 module _ (s : List ℕ) {b : ℕ} (e : b ≡ getD s 0 0) where
@@ -97,7 +97,7 @@ tick-number : (s : List ℕ) → actNumber (tickOf s) ≡ cond (isTick s) 0 10
 unfolding tickOf isTick
 tick-number s = go (numberOf (take (spaceIn s) s)) (readingOf (drop (spaceIn s + 1) s))
   where
-    go : (m : Maybe) (n : Reading) → actNumber (tickBy m n) ≡ cond (given m && read n) 0 10
+    go : (m : Maybe) (n : Reading) → actNumber (tickBy m n) ≡ cond (given m && hasReading n) 0 10
     go (Just m) (Eighths n) = refl
     go (Just m) NoSensor = refl
     go (Just m) NoReading = refl

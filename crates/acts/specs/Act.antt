@@ -83,14 +83,14 @@ actNumber (Unfitted m) = 0
 actNumber Misshapen = 10
 
 -- whether a reading stands there
-abbrev pub read : Reading → Bool
-read (Eighths n) = true
-read NoSensor = true
-read NoReading = false
+abbrev pub hasReading : Reading → Bool
+hasReading (Eighths n) = true
+hasReading NoSensor = true
+hasReading NoReading = false
 
 -- whether bytes are `M N` or `M -`, and whether they are a line
 unfoldable pub isTick : List ℕ → Bool
-isTick bs = given (numberOf (take (spaceIn bs) bs)) && read (readingOf (drop (spaceIn bs + 1) bs))
+isTick bs = given (numberOf (take (spaceIn bs) bs)) && hasReading (readingOf (drop (spaceIn bs + 1) bs))
 
 unfoldable pub isAct : List ℕ → Bool
 isAct bs =

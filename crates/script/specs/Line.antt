@@ -55,7 +55,7 @@ isPair bs = given (numberOf (take (spaceIn bs) bs)) && given (numberOf (drop (sp
 unfoldable pub isLine : List ℕ → Bool
 isLine bs = cond (starts (code "t") bs) (given (numberOf (drop 2 bs))) (starts (code "r") bs && isPair (drop 2 bs))
 
--- the whole answer r: its case with its numbers, and the number of that case, by whether the bytes are what they should be
+-- the whole answer r: its case with its numbers, and the number of that case, 0 if shaped, else 10
 pub record LineAs (line : Line) (shaped : Bool) (r : Line) : Type 0 where
   pub answer : r ≡ line
   pub number : lineNumber r ≡ cond shaped 0 10
