@@ -35,7 +35,7 @@ use Rattle.simulation.specs.declared.Answer.{Answer}
 use Rattle.simulation.specs.declared.Answer.the-variants.{Module, Supervisor, Delivery, NoMessage, Response, Tick, Misshapen}
 use Rattle.simulation.proofs.Answer as AnswerType
 use Rattle.simulation.specs.Numbers.{answerNumber}
-use Rattle.answers.specs.AnswerLines.{deliveryLine, answerLine, LineOf, eventOf, stepEvent, fired, commandOf, command}
+use Rattle.answers.specs.AnswerLines.{deliveryLine, answerLine, PrintedAs, eventOf, stepEvent, fired, commandOf, command}
 use Rattle.simulation.proofs.Playing.{message-length}
 
 -- ---- a message's bytes are few
@@ -121,7 +121,7 @@ refused-line (Tick m Done) h = absurd (h refl)
 refused-line (Tick m (CallRefused n o)) h = refl
 refused-line Misshapen h = refl
 
-pub line-of : (a : Answer) {r : Text} → r ≡ textOf (answerLine a) → LineOf a r
+pub line-of : (a : Answer) {r : Text} → r ≡ textOf (answerLine a) → PrintedAs a r
 line-of a e = record { line = e; refused = λ h. e ∙ ap textOf (refused-line a h) }
 
 -- ---- the event that fired

@@ -42,7 +42,7 @@ answerLine (Tick m a) = tickLine m a
 answerLine Misshapen = refusedLine (answerNumber Misshapen)
 
 -- the text t of an answer, which is "`refused N`" of one that has a number
-pub record LineOf (a : Answer) (t : Text) : Type 0 where
+pub record PrintedAs (a : Answer) (t : Text) : Type 0 where
   pub line : t ≡ textOf (answerLine a)
   pub refused : answerNumber a ≢ 0 → t ≡ textOf (refusedLine (answerNumber a))
 

@@ -4,7 +4,7 @@ ghost use Rattle.places.specs.Places.{recordsBy};
 ghost use Rattle.messages.specs.Message.{messageBytes};
 ghost use Rattle.texts.specs.Text.{textOf};
 ghost use Rattle.script.specs.SimulationLines.{sentLine, deliveredLine};
-ghost use Rattle.answers.specs.AnswerLines.{deliveryLine, LineOf, fired, command, noRow, rowFull, withNumber};
+ghost use Rattle.answers.specs.AnswerLines.{deliveryLine, PrintedAs, fired, command, noRow, rowFull, withNumber};
 use bits::Maybe;
 use messages::Message;
 use modules::Called;
@@ -52,7 +52,7 @@ fn delivery_line(g: Message, a: Called) -> Text
 
 // The line for what a line of the script got.
 pub fn answer_line(a: Answer) -> Text
-    ensures { λ r. ⌜ LineOf a r ⌝ }
+    ensures { λ r. ⌜ PrintedAs a r ⌝ }
 {
     match a {
         Answer::Module(m, s) => script::stepped_line(m, s),
