@@ -33,7 +33,7 @@ answerNumber (Response m e a) = calledNumber a
 answerNumber (Tick m a) = calledNumber a
 answerNumber Misshapen = 10
 
--- the same from the line alone: the number that the call of a line gives
+-- the same by the image, the parties and the line: the number that the call of a line gives
 unfoldable pub deliveryNumber : List ℕ → Parties → Place → ℕ
 deliveryNumber image p Missing = 0
 deliveryNumber image p (It (Bid m v)) = calledNumber (supervisorDeliver image v (supervisorAt p v) (messageBytes (Bid m v)) .answer)
