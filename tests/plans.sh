@@ -42,9 +42,36 @@ tools/plan build "$room/none.plan" 2> "$room/told" && fail "a text that is not t
 tools/plan build tests/plans/unknown-word.plan -o "$room/none.bin" 2> "$room/told" && fail "a text with a fault is built"
 cmp "$room/told" tests/plans/unknown-word.expected
 [ ! -e "$room/none.bin" ] && [ ! -e "$room/none.names" ] || fail "a text with a fault leaves an image"
+mkdir "$room/half.names"
+tools/plan build examples/plans/two-valve.plan -o "$room/half.bin" 2> "$room/told" && fail "a table that cannot be written is no failure"
+[ "$(cat "$room/told")" = "plan: $room/half.names: Is a directory" ] || fail "a table that cannot be written is told otherwise"
+[ ! -e "$room/half.bin" ] || fail "an image is left without its table"
+tools/plan build examples/plans/two-valve.plan -o /dev/full 2> "$room/told" && fail "an image is written to a full device"
+[ "$(cat "$room/told")" = "plan: /dev/full: No space left on device" ] || fail "a full device is told otherwise"
+for link in -s ''; do # a symbolic and a hard link
+  for ending in bin names; do
+    rm -f "$room"/linked.*
+    cp examples/plans/two-valve.plan "$room/linked.plan"
+    # shellcheck disable=SC2086
+    (cd "$room" && ln $link linked.plan "linked.$ending")
+    tools/plan build "$room/linked.plan" 2> /dev/null && fail "a text is written over by way of a link"
+    cmp examples/plans/two-valve.plan "$room/linked.plan" || fail "a text is lost by way of a link"
+  done
+done
+ln -s /dev/null "$room/only.bin"
+tools/plan build examples/plans/two-valve.plan -o "$room/only.bin" || fail "a text is not checked alone"
+[ ! -e "$room/only.names" ] || fail "a text that is only checked leaves a table"
+tools/plan build tests/plans/unknown-word.plan -o /dev/null 2> "$room/told" && fail "a text with a fault is found good"
+cmp "$room/told" tests/plans/unknown-word.expected
 printf '\037' > "$room/end.bin"
 tools/plan show "$room/end.bin" 2> "$room/told" && fail "an image without a head is shown"
 [ "$(cat "$room/told")" = "$room/end.bin: byte 0: the first record is not the head but: end (number 4)" ] || fail "an image without a head is told otherwise"
+(ulimit -v 1000000 && tools/plan show /dev/zero 2> "$room/told") && fail "an image without end is shown"
+[ "$(cat "$room/told")" = "/dev/zero: byte 0: the image has more than 49152 bytes (number 1)" ] || fail "an image without end is told otherwise"
+tools/plan show "$room/plan.bin" 2> "$room/told" >&- && fail "an image is shown to nobody"
+[ "$(cat "$room/told")" = "plan: standard output is closed" ] || fail "a closed standard output is told otherwise"
+tools/plan show "$room/plan.bin" 2> "$room/told" > /dev/full && fail "an image is shown on a full device"
+[ "$(cat "$room/told")" = "plan: standard output: No space left on device" ] || fail "a full standard output is told otherwise"
 
 # a `dot` that draws, one that fails, and none
 mkdir "$room/bin"
@@ -60,7 +87,12 @@ python=$(python3 -c 'import sys; print(sys.executable)')
 PATH=$room/bin "$python" tools/plan draw examples/plans/two-valve.plan -o "$room/plain" || fail "without dot nothing is drawn"
 [ "$(cd "$room/plain" && echo *)" = "module-pump.dot module-valve.dot supervisor-open_path.dot" ] || fail "the drawings without dot are not there"
 
+cp examples/plans/two-valve.plan "$room/text"
+tools/plan draw "$room/text" 2> "$room/told" && fail "drawings have the name of the text"
+[ "$(cat "$room/told")" = "plan: $room/text does not end in .plan: name the folder of the drawings by -o" ] || fail "no folder is told otherwise"
+
 tools/plan --help | grep -q 'THE TEXT' || fail "there is no help"
+tools/plan build 2>&1 | grep -q '^usage: plan build ' || fail "the usage is told otherwise"
 
 found=$(python3 tests/plans.py "$loader" --library-path "$(dirname "$loader")" "$here/target/bin/listing") || exit 1
 echo "plans: $count plans built and accepted; $found"
