@@ -71,4 +71,17 @@ cmp target/staticlib/libpewterslug.a "$staged/lib/libpewterslug.a"
 
 if ./install > "$folder/log" 2>&1; then fail "no PREFIX was accepted"; fi
 if ./install "$folder/a b" > "$folder/log" 2>&1; then fail "a PREFIX with a space was accepted"; fi
+mkdir "$folder/c d"
+here=$PWD
+if (cd "$folder/c d" && "$here/install" out > "$folder/log" 2>&1); then fail "a PREFIX in a folder with a space was accepted"; fi
+grep -q "break at the space in '$folder/c d/out'" "$folder/log" || { cat "$folder/log"; fail "a space is refused otherwise"; }
+
+# a tree without an archive, and a build that fails: what it says is on standard error
+mkdir -p "$folder/tree/crates" "$folder/bin"
+cp install "$folder/tree/install"
+printf '%s\n' '#!/bin/sh' 'echo "crate a is not proved"' 'exit 1' > "$folder/bin/rt"
+chmod +x "$folder/bin/rt"
+if PATH=$folder/bin:$PATH "$folder/tree/install" "$folder/none" > "$folder/log" 2> "$folder/told"; then fail "a failed build was installed"; fi
+[ "$(cat "$folder/told")" = "crate a is not proved" ] || fail "the log of a failed build is not on standard error"
+[ ! -e "$folder/none" ] || fail "a failed build leaves files"
 echo "install: header, archive and pewterslug.pc are put in place; a program and the wire example build against them"
