@@ -20,9 +20,8 @@ for plan in examples/plans/*.plan; do
   name=${plan%.plan}
   tools/plan build "$plan" -o "$room/plan.bin" || fail "$plan is not built"
   tests/bytes.sh "$name.hex" | cmp - "$room/plan.bin" || fail "$plan is not $name.hex"
-  # shellcheck disable=SC2046
-  header=$(printf 'plan %d %d %d' $(od -An -tu1 -j1 -N3 "$room/plan.bin"))
-  [ "$(cd "$room" && run listing < /dev/null | head -n 1)" = "$header" ] || fail "$plan is not accepted"
+  read -r modules supervisors events < <(od -An -tu1 -j1 -N3 "$room/plan.bin")
+  [ "$(cd "$room" && run listing < /dev/null | head -n 1)" = "plan $modules $supervisors $events" ] || fail "$plan is not accepted"
   if [ -e "$name.script" ]; then
     (cd "$room" && run simulate < "$here/$name.script") | cmp - "$name.expected" || fail "$name.script is answered otherwise"
   fi
@@ -41,7 +40,7 @@ tools/plan build "$room/none.plan" 2> "$room/told" && fail "a text that is not t
 [ "$(cat "$room/told")" = "plan: $room/none.plan: No such file or directory" ] || fail "a text that is not there is told otherwise"
 tools/plan build tests/plans/unknown-word.plan -o "$room/none.bin" 2> "$room/told" && fail "a text with a fault is built"
 cmp "$room/told" tests/plans/unknown-word.expected
-[ ! -e "$room/none.bin" ] && [ ! -e "$room/none.names" ] || fail "a text with a fault leaves an image"
+if [ -e "$room/none.bin" ] || [ -e "$room/none.names" ]; then fail "a text with a fault leaves an image"; fi
 mkdir "$room/half.names"
 tools/plan build examples/plans/two-valve.plan -o "$room/half.bin" 2> "$room/told" && fail "a table that cannot be written is no failure"
 [ "$(cat "$room/told")" = "plan: $room/half.names: Is a directory" ] || fail "a table that cannot be written is told otherwise"
@@ -75,7 +74,10 @@ tools/plan show "$room/plan.bin" 2> "$room/told" > /dev/full && fail "an image i
 
 # a `dot` that draws, one that fails, and none
 mkdir "$room/bin"
-printf '%s\n' '#!/bin/sh' '[ "$1 $2" = "-Tsvg -o" ] && cp "$4" "$3"' > "$room/bin/dot"
+cat > "$room/bin/dot" <<'END'
+#!/bin/sh
+[ "$1 $2" = "-Tsvg -o" ] && cp "$4" "$3"
+END
 chmod +x "$room/bin/dot"
 PATH=$room/bin:$PATH tools/plan draw examples/plans/two-valve.plan -o "$room/drawn" || fail "the two-valve plan is not drawn"
 [ "$(cd "$room/drawn" && echo *)" = "module-pump.dot module-pump.svg module-valve.dot module-valve.svg supervisor-open_path.dot supervisor-open_path.svg" ] ||
