@@ -1,4 +1,4 @@
-"""tools/plan on the plans of examples, on texts with faults, on random, damaged and largest images, and on damaged texts.
+"""tools/plan on the plans of examples, on texts with faults or notes, on random, damaged and largest images, on damaged texts.
 
     python3 tests/plans.py LISTING..
 
@@ -37,6 +37,7 @@ from plan_check import DISABLING, END, EVENT, HEAD, MODULE, MODULE_MOVE, STEP, S
 SEEDS = 200
 DAMAGES, SMALL = 12, 1500  # damages of each random image, if it is so short
 TEXTS = 500
+NOTE = re.compile(r".*?:[0-9]+: note: ")
 
 
 def load(path):
@@ -83,7 +84,7 @@ def told(act, *arguments):
 
 
 def build(path):
-    """The image and the table of a text, or what is told of its faults."""
+    """The image and the table of a text with what is noted, or what is told of its faults."""
     for name in ("built.bin", "built.names"):
         if os.path.exists(place(name)):
             os.remove(place(name))
@@ -91,8 +92,9 @@ def build(path):
     insist(output == "", path, "prints", output)
     written = [os.path.exists(place(name)) for name in ("built.bin", "built.names")]
     insist((status, written) in ((0, [True, True]), (1, [False, False])), path, "leaves", status, written)
-    insist((status == 0) == (errors == ""), path, "tells", errors)
-    return (read("built.bin"), read("built.names").decode(), "") if status == 0 else (None, None, errors)
+    notes = [NOTE.match(message) is not None for message in errors.splitlines()]
+    insist(all(notes) if status == 0 else notes and not any(notes), path, "tells", errors)
+    return (read("built.bin"), read("built.names").decode(), errors) if status == 0 else (None, None, errors)
 
 
 def show(image, table=None):
@@ -306,7 +308,7 @@ def try_examples():
     """A plan shown with its names has the same text after it is built again, the same image and the same names."""
     for path in sorted(glob.glob("examples/plans/*.plan")):
         image, table, errors = build(path)
-        insist(image is not None, errors)
+        insist(image is not None and errors == "", errors)
         text = show(image, table)[0]
         insist(build_shown(text)[:2] == (image, table), path, "is shown with its names and built otherwise")
         insist(show(image, table)[0] == text, path, "is shown otherwise the second time")
@@ -314,12 +316,14 @@ def try_examples():
 
 
 def try_faults():
+    """What is told of each text; those named note-.. are built."""
     for path in sorted(glob.glob("tests/plans/*.plan")):
         with open(path[:-5] + ".expected", encoding="utf-8") as file:
             expected = file.read()
         image, _, errors = build(path)
-        insist(image is None and errors == expected, path, "is told as", errors)
-        count("texts with a fault")
+        noted = os.path.basename(path).startswith("note-")
+        insist((image is not None) == noted and errors == expected, path, "is told as", errors)
+        count("texts with notes" if noted else "texts with a fault")
 
 
 ODD_WORDS = ["", "=", "= 3", "9999999999", "-1", "0.1", "32", "#", "module", "like", "\u00e9", "\0", "\u2028", "a.b.c"]
@@ -445,7 +449,7 @@ def judge_messages(path, content, errors):
     lines = content.decode("utf-8-sig", "replace").split("\n")
     groups = re.findall(r"^\s*group\s+(\S+)", "\n".join(lines), re.M)
     for message in errors.splitlines():
-        found = re.fullmatch(re.escape(path) + r":([0-9]+): (\S.*?): (\S.*)", message)
+        found = re.fullmatch(re.escape(path) + r":([0-9]+): (?:note: )?(\S.*?): (\S.*)", message)
         insist(found and 1 <= int(found[1]) <= len(lines), "is told:", message)
         line, name = lines[int(found[1]) - 1], found[2].rpartition(".")[2]
         quoted = found[2][0] in "'\""  # a word with bytes that cannot be printed
@@ -474,8 +478,8 @@ def try_texts(command):
         content = damaged_text(chance, texts[number % len(texts)])
         write("damaged.plan", content)
         image, _, errors = build(place("damaged.plan"))
+        judge_messages(place("damaged.plan"), content, errors)
         if image is None:
-            judge_messages(place("damaged.plan"), content, errors)
             count("damaged texts with faults")
         else:
             write("plan.bin", image)

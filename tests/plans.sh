@@ -1,7 +1,7 @@
 #!/usr/bin/env bash
 # Plans as text. Each examples/plans/NAME.plan must build the stored image NAME.hex and be accepted by the proved check; where there is a
 # NAME.script, the simulation must print NAME.expected. The orchard must be that of examples/wire. Then tests/plans.py: these plans shown and
-# built again, texts with faults (tests/plans/*.plan, told as in *.expected), random and damaged images and texts, drawings.
+# built again, texts with faults or notes (tests/plans/*.plan, told as in *.expected), random and damaged images and texts, drawings.
 set -eu
 cd "$(dirname "$0")/.."
 here=$PWD
@@ -41,6 +41,9 @@ tools/plan build "$room/none.plan" 2> "$room/told" && fail "a text that is not t
 tools/plan build tests/plans/unknown-word.plan -o "$room/none.bin" 2> "$room/told" && fail "a text with a fault is built"
 cmp "$room/told" tests/plans/unknown-word.expected
 if [ -e "$room/none.bin" ] || [ -e "$room/none.names" ]; then fail "a text with a fault leaves an image"; fi
+tools/plan build tests/plans/note-event.plan -o "$room/noted.bin" 2> "$room/told" || fail "a note is taken for a fault"
+cmp "$room/told" tests/plans/note-event.expected
+if [ ! -e "$room/noted.bin" ] || [ ! -e "$room/noted.names" ]; then fail "a text with a note is not built"; fi
 mkdir "$room/half.names"
 tools/plan build examples/plans/two-valve.plan -o "$room/half.bin" 2> "$room/told" && fail "a table that cannot be written is no failure"
 [ "$(cat "$room/told")" = "plan: $room/half.names: Is a directory" ] || fail "a table that cannot be written is told otherwise"
