@@ -19,6 +19,7 @@ use Rattle.modules.specs.declared.Called.{Called}
 use Rattle.modules.specs.declared.Called.the-variants.{Done, Refused as CallRefused}
 use Rattle.modules.specs.Queue.{full, queued}
 
+-- document 01's term "idle", of a procedure: "After the last step the procedure is idle."; "fields not used there 0"
 abbrev pub idle : Procedure
 idle = record { running = false; event = 0; index = 0; count = 0; water = noWater }
 
@@ -90,7 +91,7 @@ unfoldable pub calledBy : Reply → Called
 calledBy Taken = Done
 calledBy (Refused n) = CallRefused n 0
 
--- document 01's term tick: "A tick is one module's"; 14 "bad flow reading", "checked even when idle"
+-- document 01's term "tick": "A tick is one module's"; 14 "bad flow reading", "checked even when idle"
 unfoldable pub tickOf : List Record → Flow → Own → Replied
 tickOf rs f own = cond (flowOk f) (taken (ticked rs f own)) (refused 14 own)
 
