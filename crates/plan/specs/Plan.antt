@@ -63,7 +63,7 @@ ownEvent rs m e = ltb e (eventsOf rs) && eqb (ownerOf rs e) m
 abbrev pub ownUncontrollable : List Record → ℕ → ℕ → Bool
 ownUncontrollable rs m e = ownEvent rs m e && not (controllable rs e)
 
--- document 01's term shown: "Each supervisor shows the mask of its present state (0 if none)."
+-- document 01's term "shown": "Each supervisor shows the mask of its present state (0 if none)."
 abbrev pub shown : List Record → ℕ → ℕ → ℕ
 shown rs v st = fieldOf wordField (findIn (keyBy 0x16 v st 0) rs)
 
@@ -74,14 +74,14 @@ inAlphabet rs v e = bit (alphabetOf rs v) e
 unfoldable pub supervisorAfter : List Record → ℕ → ℕ → ℕ → ℕ
 supervisorAfter rs v st e = cond (inAlphabet rs v e) (supervisorMoved rs v st e) st
 
--- the commands that a module may give in a state, controllable events with a move from there; no event is numbered 64 or above
+-- the controllable events that have a move from a module's state; no event is numbered 64 or above
 abbrev pub hasCommand : List Record → ℕ → ℕ → ℕ → Bool
 hasCommand rs m st e = controllable rs e && isSome (moduleMove rs m st e)
 
 abbrev pub commands : List Record → ℕ → ℕ → ℕ
 commands rs m st = maskOf (hasCommand rs m st) 64
 
--- document 01's term neighbour: "A supervisor is a module's neighbour if its alphabet has an event of that module."
+-- document 01's term "neighbour": "A supervisor is a module's neighbour if its alphabet has an event of that module."
 abbrev pub neighbour : List Record → ℕ → ℕ → Bool
 neighbour rs m v = someBelow (λ e. eqb (ownerOf rs e) m && inAlphabet rs v e) (eventsOf rs)
 
