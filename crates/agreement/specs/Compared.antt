@@ -105,14 +105,14 @@ unfoldable pub deviceSeen : List ℕ → Device → List DeviceAct → List Seen
 deviceSeen image d [] = []
 deviceSeen image d (a ∷ l) = deviceActSeen image d a ∷ deviceSeen image (deviceStep image d a) l
 
--- document 01's term record, of the events: "The record lists the events fired, in order"
+-- document 01's term "record", of the events: "The record lists the events fired, in order"
 unfoldable pub recordOfEvents : List Seen → List ℕ
 recordOfEvents [] = []
 recordOfEvents (turnSeen m t own ∷ l) = turnEvents t ++ recordOfEvents l
 recordOfEvents (refusalSeen m n own ∷ l) = recordOfEvents l
 recordOfEvents (callSeen m r own ∷ l) = recordOfEvents l
 
--- document 01's terms out and home: "A permit is out from the step that sends it until its release is accepted, else home.": supervisor v's, by the
+-- document 01's terms "out" and "home": "A permit is out from the step that sends it until its release is accepted, else home.": supervisor v's, by the
 -- answers of the calls
 unfoldable pub afterServing : Served → Holder → Holder
 afterServing (Sends m n) h = Out m

@@ -26,7 +26,7 @@ stateOf states v = getD states v 0
 abbrev pub stateAt : Device → ℕ → ℕ
 stateAt d v = stateOf (d .supervisors) v
 
--- document 01's term fits, of one device: "A state fits when numbers are the plan's", and the clauses of each module's own part; slots that the plan
+-- document 01's term "fits", of one device: "A state fits when numbers are the plan's", and the clauses of each module's own part; slots that the plan
 -- lacks hold 0
 unfoldable pub ownSlotFits : List Record → Device → ℕ → Bool
 ownSlotFits rs d m = cond (ltb m (modulesOf rs)) (ownFits rs m (ownAt d m)) (ownEmpty (ownAt d m))

@@ -17,12 +17,12 @@ use Rattle.modules.specs.Procedure.{idle, arriveAt}
 abbrev pub moved : Own → ℕ → Procedure → Own
 moved own st p = record { state = st; queue = own .queue; length = own .length; procedure = p; outputs = own .outputs }
 
--- document 01's term stray: "If the module has a move by it, that event fires; if not, the turn ends as stray."
+-- document 01's term "stray": "If the module has a move by it, that event fires; if not, the turn ends as stray."
 unfoldable pub byResponse : Own → ℕ → Option ℕ → Turned
 byResponse own e (some t) = record { turn = Event e; own = moved own t (own .procedure) }
 byResponse own e none = record { turn = Stray e; own = own }
 
--- document 01's term command: "A controllable firing is a command and starts the event's procedure at index 0"
+-- document 01's term "command": "A controllable firing is a command and starts the event's procedure at index 0"
 unfoldable pub byCommand : List Record → Own → ℕ → Option ℕ → Turned
 byCommand rs own e (some t) = record { turn = Event e; own = moved own t (arriveAt rs e 0) }
 byCommand rs own e none = record { turn = Nothing; own = own }
@@ -36,7 +36,7 @@ unfoldable pub byChoice : List Record → ℕ → Own → Option ℕ → Turned
 byChoice rs m own (some e) = byCommand rs own e (moduleMove rs m (own .state) e)
 byChoice rs m own none = record { turn = Nothing; own = own }
 
--- document 01's term turn: "1. If its response queue holds anything, the head is removed. .. 2. Otherwise, if its procedure is idle, the
+-- document 01's term "turn": "1. If its response queue holds anything, the head is removed. .. 2. Otherwise, if its procedure is idle, the
 -- lowest-numbered controllable event fires that has a move here and stands in no shown mask. 3. Otherwise none." No event is numbered 64 or above.
 unfoldable pub turnOn : List Record → ℕ → ℕ → Own → List ℕ → Turned
 turnOn rs m k own (e ∷ q) = byResponse (withQueue own q) e (moduleMove rs m (own .state) e)
@@ -50,7 +50,7 @@ unfoldable pub queuedAny : List ℕ → Bool
 queuedAny [] = false
 queuedAny (e ∷ q) = true
 
--- document 01's term wish: "A wish is a queued response, or an idle procedure where the present state has a controllable move."
+-- document 01's term "wish": "A wish is a queued response, or an idle procedure where the present state has a controllable move."
 unfoldable pub wish : List Record → ℕ → Own → Bool
 wish rs m own =
     queuedAny (queueOf own) || (not (own .procedure .running) && someBelow (hasCommand rs m (own .state)) 64)

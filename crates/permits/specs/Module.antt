@@ -50,7 +50,7 @@ heldIn adjacent held = allBelow (λ v. not (bit held v) || (bit adjacent v && al
 abbrev pub heldFits : List Record → ℕ → ℕ → Bool
 heldFits rs m held = heldIn (neighbours rs m) held
 
--- document 01's term fits, of a module: "the received mask is 0 when none is held, a bid is outstanding only while one is missing", and the
+-- document 01's term "fits", of a module: "the received mask is 0 when none is held, a bid is outstanding only while one is missing", and the
 -- clauses of the own part
 unfoldable pub fitsIn : List Record → ℕ → ℕ → Module → Bool
 fitsIn rs m adjacent x =

@@ -30,7 +30,7 @@ use Rattle.permits.specs.Step.{bytesOfMessages, Call}
 -- the modules' cyclic order, passed on
 unfoldable pub use Rattle.bits.specs.Bit.{moduleAfter}
 
--- document 01's term fits, of a supervisor: "a supervisor's noted modules and holder are its neighbours, its last-served place is 0 to 15"
+-- document 01's term "fits", of a supervisor: "a supervisor's noted modules and holder are its neighbours, its last-served place is 0 to 15"
 unfoldable pub holderFits : List Record → ℕ → Holder → Bool
 holderFits rs v Home = true
 holderFits rs v (Out m) = neighbours? rs m v

@@ -154,7 +154,7 @@ deviceSeen P O (a ∷ l) = deviceActSeen P O a ∷ deviceSeen P (deviceStep P O 
 
 -- ---- the record
 
--- document 01's terms record and commands: "The record lists the events fired, in order; commands are its controllable ones."
+-- document 01's terms "record" and "commands": "The record lists the events fired, in order; commands are its controllable ones."
 unfoldable pub turnEvents : Turn → List ℕ
 turnEvents (Event e) = e ∷ []
 turnEvents (Stray e) = []
@@ -169,7 +169,7 @@ unfoldable pub commandsOf : Plan → List ℕ → List ℕ
 commandsOf P [] = []
 commandsOf P (e ∷ w) = cond (P .controllable e) (e ∷ commandsOf P w) (commandsOf P w)
 
--- document 01's term replay: "Replay leads modules and supervisors from their initial states along it as firing does; an event is judged by moves
+-- document 01's term "replay": "Replay leads modules and supervisors from their initial states along it as firing does; an event is judged by moves
 -- and shown masks just before it."
 pub record Position : Type 0 where
   pub moduleStates : ℕ → ℕ
