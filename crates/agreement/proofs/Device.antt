@@ -29,9 +29,9 @@ use Rattle.modules.specs.Turn.{turnOf, emptyOwn}
 use Rattle.modules.specs.Fits.{ownFits, ownEmpty}
 use Rattle.device_states.specs.declared.Device.{Device}
 use Rattle.device.specs.declared.Turning.the-variants.{Turned as DeviceTurned}
-use Rattle.plan.specs.Lists.{listFrom}
+use Rattle.words.specs.Lists.{listFrom}
 use Rattle.device_states.specs.States.{ownAt, stateAt, ownSlotFits, stateSlotFits, deviceFits, shownBy, stateAfterTurn, withOwn}
-use Rattle.device_states.proofs.Slots.{from-at}
+use Rattle.words.proofs.Lists.{from-at}
 use Rattle.device.specs.Device.{turned, afterTurn, deviceNumber, turnIn, turnBy, replyIn, replyBy}
 use Rattle.protocol.specs.Generic.{update}
 use Rattle.protocol.specs.Rules as R

@@ -27,7 +27,7 @@ use Rattle.protocol.specs.Plan.{Laws}
 use Rattle.protocol.specs.System as P
 use Rattle.agreement.specs.PlanOf.{planOf}
 use Rattle.agreement.specs.System as A
-use Rattle.device_states.proofs.Slots.{from-at, from-length}
+use Rattle.words.proofs.Lists.{from-at, from-length}
 use Rattle.agreement.proofs.Device.{Same, OwnSlot, StateSlot, fits-of}
 use Rattle.agreement.proofs.Fit.{few-modules, SameModule, SameSupervisor, holderOf, few}
 use Rattle.agreement.proofs.Simulation.{Sim}

@@ -24,12 +24,12 @@ use Rattle.device_states.specs.declared.Device.{Device}
 use Rattle.device.specs.declared.DeviceTurned.{DeviceTurned}
 use Rattle.device.specs.declared.DeviceCalled.{DeviceCalled}
 use Rattle.device.specs.declared.Turning.the-variants.{Turned as Turns}
-use Rattle.plan.specs.Lists.{listFrom}
+use Rattle.words.specs.Lists.{listFrom}
 use Rattle.modules.specs.Procedure.{respondOf, tickOf}
 use Rattle.water.specs.declared.Flow.{Flow}
 use Rattle.device_states.specs.States.{ownAt, stateOf, stateAfterTurn, withOwn, statesAfter, emptyDevice, startDevice}
 use Rattle.device.specs.Device.{turned, afterTurn, deviceNumber, turnRefused, turnIn, turnBy, turnCall, callRefused, replyIn, replyBy, respondCall, tickCall, startBy, startCall}
-use Rattle.device_states.proofs.Slots.{same-slots}
+use Rattle.words.proofs.Lists.{same-slots}
 
 -- ---- the state after a turn
 

@@ -17,10 +17,11 @@ use Rattle.roundtrip.specs.Fits.{Bytes, Byte}
 use Rattle.rules.specs.LookUp.{modulesOf}
 use Rattle.modules.specs.declared.Own.{Own}
 use Rattle.modules.specs.Fits.{ownFits, ownEmpty}
-use Rattle.plan.specs.Lists.{listFrom}
+use Rattle.words.specs.Lists.{listFrom}
 use Rattle.device_states.specs.States.{ownSlotFits, stateSlotFits, deviceFits}
 use Rattle.device_states.specs.declared.Device.{Device}
-use Rattle.device_states.proofs.Slots.{one-fails, same-slots}
+use Rattle.words.proofs.Lists.{same-slots}
+use Rattle.bits.proofs.Below.{one-fails}
 use Rattle.fields.specs.Fields.{bytesFrom}
 use Rattle.fields.proofs.Back.{and-left, and-right, from-all}
 use Rattle.own_bytes.specs.Own.{ownBytes, ownOf, isOwn, unfitOwn, OwnEncodable}

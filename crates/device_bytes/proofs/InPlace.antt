@@ -21,9 +21,9 @@ use Rattle.messages.proofs.Writing.{put-sets}
 use Rattle.rules.specs.LookUp.{modulesOf}
 use Rattle.modules.specs.declared.Own.{Own}
 use Rattle.modules.specs.Fits.{ownFits, ownEmpty}
-use Rattle.plan.specs.Lists.{listFrom}
+use Rattle.words.specs.Lists.{listFrom}
 use Rattle.device_states.specs.States.{ownAt, ownSlotFits, stateSlotFits, deviceFits, withOwn}
-use Rattle.device_states.proofs.Slots.{from-length}
+use Rattle.words.proofs.Lists.{from-length}
 use Rattle.own_bytes.specs.Own.{ownBytes, ownOf}
 use Rattle.own_bytes.proofs.Writing.{length-own}
 use Rattle.fields.specs.Fields.{bytesFrom}

@@ -19,10 +19,11 @@ use Rattle.messages.proofs.Writing.{put-sets}
 use Rattle.modules.specs.declared.Own.{Own}
 use Rattle.modules.specs.Turn.{emptyOwn}
 use Rattle.modules.specs.Fits.{ownFits, ownEmpty}
-use Rattle.plan.specs.Lists.{listFrom}
+use Rattle.words.specs.Lists.{listFrom}
 use Rattle.device_states.specs.declared.Device.{Device}
 use Rattle.device_states.specs.States.{ownAt}
-use Rattle.device_states.proofs.Slots.{all-on, one-fails, filled, fill-on, fill-done, from-length, from-at}
+use Rattle.words.proofs.Lists.{filled, fill-on, fill-done, from-length, from-at}
+use Rattle.bits.proofs.Below.{all-on, one-fails}
 use Rattle.fields.specs.Fields.{isFlag}
 use Rattle.fields.proofs.Writing.{join}
 use Rattle.own_bytes.specs.Own.{ownBytes, ownRead}

@@ -10,7 +10,7 @@ use Rattle.records.specs.declared.Record.{Record}
 use Rattle.roundtrip.specs.Fits.{Bytes}
 use Rattle.messages.specs.Message.{putAt, written}
 use Rattle.modules.specs.declared.Own.{Own}
-use Rattle.plan.specs.Lists.{listFrom}
+use Rattle.words.specs.Lists.{listFrom}
 use Rattle.modules.specs.Fits.{ownFits, ownEmpty}
 use Rattle.modules.specs.Turn.{emptyOwn}
 use Rattle.device_states.specs.States.{ownAt, deviceFits, withOwn}

@@ -6,7 +6,7 @@ ghost use lib.Seq.{sets};
 ghost use Rattle.bits.specs.Bit.{allBelow};
 ghost use Rattle.words.specs.Word.{allZero};
 ghost use Rattle.places.specs.Places.{recordsBy};
-ghost use Rattle.plan.specs.Lists.{listFrom};
+ghost use Rattle.words.specs.Lists.{listFrom};
 ghost use Rattle.device_states.specs.States.{deviceFits};
 ghost use Rattle.own_bytes.specs.Own.{ownBytes};
 ghost use Rattle.device_bytes.specs.Device.{ownsBytes, devicePut, slotOf, stateByte, slotFits, deviceOf, statesIn, ownIn, slotPut};

@@ -38,7 +38,7 @@ use Rattle.device.specs.Device.{turned, afterTurn, deviceNumber, turnIn, replyI
 use Rattle.device.proofs.Calls.{turn-taken, reply-taken, turn-accepted, respond-accepted, tick-accepted, reply-refused, turn-numbered as turns-numbered, reply-numbered as replies-numbered, turn-refused as turns-refused, after-event as turn-event, after-none as turn-none}
 use Rattle.device_states.specs.declared.Device.{Device}
 use Rattle.device_states.specs.States.{ownAt, stateOf, deviceFits, shownBy, stateAfterTurn, statesAfter, withOwn}
-use Rattle.device_states.proofs.Slots.{from-length}
+use Rattle.words.proofs.Lists.{from-length}
 use Rattle.device.specs.declared.DeviceCalled.{DeviceCalled}
 use Rattle.device.specs.declared.DeviceTurned.{DeviceTurned}
 use Rattle.device.specs.declared.Turning.the-variants.{Turned as Turns}

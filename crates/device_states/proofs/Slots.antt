@@ -1,4 +1,4 @@
--- A test of every slot, and a list filled slot by slot, as loops go through them.
+-- A test of every slot, as loops go through them.
 use Prim.Native.Nat.{ℕ, zero, suc, _+_, _-_, _≤_, _<_}
 use native.Mathlib.Nat.{add-zero, add-suc, suc-add, zero-add}
 use native.Mathlib.Numerals.{add-one}
@@ -13,6 +13,7 @@ use lib.Seq.{set-append-seam, take-all, drop-cons, getD-drop}
 use borrow.Author.Tests.{lt-ltb, le-ltb}
 use Rattle.bits.specs.Bit.{bit, allBelow}
 use Rattle.bits.proofs.Laws.{bit-none}
+use Rattle.bits.proofs.Below.{all-on, one-fails}
 use Rattle.words.specs.Word.{allZero}
 use Rattle.records.specs.declared.Record.{Record}
 use Rattle.reader.specs.declared.Found.{Found}
@@ -25,28 +26,12 @@ use Rattle.modules.specs.declared.Own.{Own}
 use Rattle.modules.specs.declared.Turn.the-variants.{Event}
 use Rattle.modules.specs.Turn.{emptyOwn}
 use Rattle.modules.specs.Fits.{ownFits, ownEmpty}
-use Rattle.plan.specs.Lists.{listFrom}
+use Rattle.words.specs.Lists.{listFrom}
+use Rattle.words.proofs.Lists.{any-slot, over, over-on, over-rest}
 use Rattle.device_states.specs.declared.Device.{Device}
 use Rattle.device_states.specs.States.{stateOf, ownSlotFits, stateSlotFits, deviceFits, shownBy, stateAfterTurn}
 
 -- ---- every slot below i passes
-
-pub all-on : (p : ℕ → Bool) (i : ℕ) {b : Bool} → b ≡ p i → b ≡ true → allBelow p i ≡ true → allBelow p (i + 1) ≡ true
-all-on p i e t h = ap (allBelow p) (add-one i) ∙ (unfold allBelow in ap₂ _&&_ (sym e ∙ t) h)
-
-pub one-fails : (p : ℕ → Bool) (n i : ℕ) {b : Bool} → b ≡ p i → b ≡ false → i < n → false ≡ allBelow p n
-unfolding allBelow
-one-fails p zero i e f h = absurd (omega arith)
-one-fails p (suc n) i e f h = go (p n) refl (one-fails p n i e f)
-  where
-    go : (a : Bool) → p n ≡ a → (i < n → false ≡ allBelow p n) → false ≡ (a && allBelow p n)
-    go false q ih = refl
-    go true q ih =
-        let other : i ≡ n → ⊥ = λ w. true≢false (sym q ∙ ap p (sym w) ∙ sym e ∙ f) in
-        ih (omega arith)
-
-pub all-done : (p : ℕ → Bool) (n i : ℕ) → i ≤ n → n ≤ i → allBelow p i ≡ true → true ≡ allBelow p n
-all-done p n i h k a = let e : i ≡ n = omega arith in sym a ∙ ap (allBelow p) e
 
 -- the slots from v on pass if they are 0
 zeros-pass : (p : ℕ → Bool) (v : ℕ) (r : List ℕ) → ((j : ℕ) → j < length r → p (v + j) ≡ eqb (getD r j 0) 0)
@@ -59,94 +44,6 @@ zeros-pass p v (x ∷ r) h =
     ∙ ap (λ (t : Bool). t && allZero r) (and-comm (allBelow p v) (eqb x 0) ∙ ap (λ (t : Bool). t && allBelow p v) here)
     ∙ zeros-pass p (suc v) r (λ j k. ap p (suc-add v j ∙ sym (add-suc v j)) ∙ h (suc j) (omega arith))
     ∙ ap (allBelow p) (suc-add v (length r) ∙ sym (add-suc v (length r)))
-
--- ---- a list filled from its start: f 0, f 1, .. up to i, and d in the other slots
-
-module _ {A : Type 0} (f : ℕ → A) where
-  pub from-length : (i n : ℕ) → length (listFrom f i n) ≡ n
-  unfolding listFrom
-  from-length i zero = refl
-  from-length i (suc n) = ap suc (from-length (suc i) n)
-
-  from-join : (i n k : ℕ) → listFrom f i n ++ listFrom f (i + n) k ≡ listFrom f i (n + k)
-  unfolding listFrom
-  from-join i zero k = ap₂ (listFrom f) (add-zero i) (sym (zero-add k))
-  from-join i (suc n) k =
-      ap (λ (l : List A). f i ∷ l) (ap (λ (j : ℕ). listFrom f (suc i) n ++ listFrom f j k) (add-suc i n ∙ sym (suc-add i n)) ∙ from-join (suc i) n k)
-      ∙ ap (listFrom f i) (sym (suc-add n k))
-
-  pub from-at : (i n k : ℕ) (d : A) → k < n → getD (listFrom f i n) k d ≡ f (i + k)
-  unfolding listFrom
-  from-at i zero k d h = absurd (omega arith)
-  from-at i (suc n) zero d h = ap f (sym (add-zero i))
-  from-at i (suc n) (suc k) d h = from-at (suc i) n k d (omega arith) ∙ ap f (suc-add i k ∙ sym (add-suc i k))
-
-  -- a list that begins with them, and the slot behind them set
-  seam-on : (i : ℕ) (y : A) (z : List A) {x : A} {l : List A} → l ≡ listFrom f 0 i ++ y ∷ z → x ≡ f i → set l i x ≡ listFrom f 0 (i + 1) ++ z
-  unfolding listFrom
-  seam-on i y z e g =
-      ap₂ (λ (k : List A) (w : A). set k i w) e g
-      ∙ ap (λ (k : ℕ). set (listFrom f 0 i ++ y ∷ z) k (f i)) (sym (from-length 0 i))
-      ∙ set-append-seam (listFrom f 0 i) y z (f i)
-      ∙ sym (append-assoc (listFrom f 0 i) (f i ∷ []) z)
-      ∙ ap (λ (k : ℕ). (listFrom f 0 i ++ (f k ∷ [])) ++ z) (sym (zero-add i)) ∙ ap (λ (k : List A). k ++ z) (from-join 0 i 1)
-
-  module _ (d : A) (n : ℕ) where
-    abbrev pub filled : ℕ → List A
-    filled i = listFrom f 0 i ++ replicate (n - i) d
-
-    pub fill-on : (i : ℕ) {x : A} {l : List A} → l ≡ filled i → x ≡ f i → i < n → set l i x ≡ filled (i + 1)
-    fill-on i e g h =
-        let one : n - i ≡ suc (n - (i + 1)) = omega arith in
-        seam-on i d (replicate (n - (i + 1)) d) (e ∙ ap (λ (k : ℕ). listFrom f 0 i ++ replicate k d) one) g
-
-    pub fill-done : (i : ℕ) {l : List A} → l ≡ filled i → n ≤ i → i ≤ n → l ≡ listFrom f 0 n
-    fill-done i e h k =
-        let last : n - i ≡ 0 = omega arith in
-        let is : i ≡ n = omega arith in
-        e ∙ ap (λ (j : ℕ). listFrom f 0 i ++ replicate j d) last ∙ append-nil (listFrom f 0 i) ∙ ap (listFrom f 0) is
-
-  rest-is : (d : A) (i : ℕ) (r : List A) → ((v : ℕ) → v < length r → f (i + v) ≡ getD r v d) → listFrom f i (length r) ≡ r
-  unfolding listFrom
-  rest-is d i [] h = refl
-  rest-is d i (x ∷ r) h =
-      ap₂ (λ (y : A) (k : List A). y ∷ k) (ap f (sym (add-zero i)) ∙ h 0 (omega arith))
-      (rest-is d (suc i) r (λ v k. ap f (suc-add i v ∙ sym (add-suc i v)) ∙ h (suc v) (omega arith)))
-
-  -- the other slots hold what they did in the list at the start
-  module _ (d : A) (l : List A) where
-    abbrev pub over : ℕ → List A
-    over i = listFrom f 0 i ++ drop i l
-
-    pub over-on : (i : ℕ) {x : A} {k : List A} → k ≡ over i → x ≡ f i → i < length l → set k i x ≡ over (i + 1)
-    over-on i e g h =
-        seam-on i (getD l i d) (drop (suc i) l) (e ∙ ap (λ (k : List A). listFrom f 0 i ++ k) (drop-cons l i d h)) g
-        ∙ ap (λ (j : ℕ). listFrom f 0 (i + 1) ++ drop j l) (sym (add-one i))
-
-    pub over-rest : (i : ℕ) {k : List A} → k ≡ over i → i ≤ length l → ((v : ℕ) → i ≤ v → v < length l → f v ≡ getD l v d)
-        → k ≡ listFrom f 0 (length l)
-    over-rest i e h same =
-        let m : length (drop i l) ≡ length l - i = length-drop i l in
-        let n : i + length (drop i l) ≡ length l = omega arith in
-        let kept : listFrom f i (length (drop i l)) ≡ drop i l =
-        rest-is d i (drop i l) (λ v w. same (i + v) (omega arith) (omega arith) ∙ sym (getD-drop i l v d)) in
-        e ∙ ap (λ (r : List A). listFrom f 0 i ++ r) (sym kept)
-        ∙ ap (λ (j : ℕ). listFrom f 0 i ++ listFrom f j (length (drop i l))) (sym (zero-add i))
-        ∙ from-join 0 i (length (drop i l)) ∙ ap (listFrom f 0) n
-
-module _ {A : Type 0} (d : A) where
-  -- the slots of a list, one after the other
-  pub same-slots : (l : List A) → listFrom (λ v. getD l v d) 0 (length l) ≡ l
-  unfolding listFrom
-  same-slots l = sym (over-rest (λ v. getD l v d) d l 0 refl (omega arith) (λ v h k. refl))
-
-  -- a slot, whatever stands for what is not there
-  pub any-slot : (b : A) (l : List A) (i j : ℕ) → i ≡ j → j < length l → getD l i d ≡ getD l j b
-  any-slot b [] i j e h = absurd (omega arith)
-  any-slot b (x ∷ l) zero zero e h = refl
-  any-slot b (x ∷ l) zero (suc j) e h = absurd (omega arith)
-  any-slot b (x ∷ l) (suc i) zero e h = absurd (omega arith)
-  any-slot b (x ∷ l) (suc i) (suc j) e h = any-slot b l i j (omega arith) (omega arith)
 
 -- ---- a test of every slot of a list, by a loop that reads the slot at i and is told what it answers
 module _ {A : Type 0} (p : ℕ → A → Bool) (d : A) (l : List A) where

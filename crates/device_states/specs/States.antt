@@ -14,7 +14,7 @@ use Rattle.modules.specs.declared.Turn.{Turn}
 use Rattle.modules.specs.declared.Turn.the-variants.{Event, Stray, Nothing}
 use Rattle.modules.specs.Turn.{startOwn, emptyOwn}
 use Rattle.modules.specs.Fits.{ownFits, ownEmpty}
-use Rattle.plan.specs.Lists.{listFrom}
+use Rattle.words.specs.Lists.{listFrom}
 use Rattle.device_states.specs.declared.Device.{Device}
 
 abbrev pub ownAt : Device → ℕ → Own

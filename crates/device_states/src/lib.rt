@@ -9,7 +9,7 @@ ghost use Rattle.rules.specs.LookUp.{supervisorState};
 ghost use Rattle.modules.specs.declared.Turn.the-variants.{Event};
 ghost use Rattle.modules.specs.Turn.{emptyOwn};
 ghost use Rattle.modules.specs.Fits.{ownFits, ownEmpty};
-ghost use Rattle.plan.specs.Lists.{listFrom};
+ghost use Rattle.words.specs.Lists.{listFrom};
 ghost use Rattle.device_states.specs.States.{ownAt, stateOf, withOwn, stateSlotFits, deviceFits, shownBy, statesAfter, emptyDevice, startSlot, startState, startDevice};
 use modules::Own;
 use places::Places;

@@ -8,7 +8,7 @@ use lib.Dec.{lit<}
 use Rattle.roundtrip.specs.Fits.{Byte, Bytes}
 use Rattle.words.specs.Word.{quadBytes, wordBytes}
 use Rattle.fields.specs.Fields.{halfBytes, flagByte}
-use Rattle.plan.specs.Lists.{listFrom}
+use Rattle.words.specs.Lists.{listFrom}
 
 pub bytes-none : Bytes []
 bytes-none zero = lit< tt

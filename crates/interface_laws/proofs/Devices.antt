@@ -18,7 +18,7 @@ use Rattle.rules.specs.Check.{verdictOf}
 use Rattle.plan.specs.Plan.{inAlphabet, supervisorAfter}
 use Rattle.accepted.specs.Plan.{Sound}
 use Rattle.roundtrip.specs.Fits.{Byte}
-use Rattle.plan.specs.Lists.{listFrom}
+use Rattle.words.specs.Lists.{listFrom}
 use Rattle.water.specs.declared.Flow.{Flow}
 use Rattle.modules.specs.Procedure.{respondOf, tickOf}
 use Rattle.modules.specs.Turn.{emptyOwn}

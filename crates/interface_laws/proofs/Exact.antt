@@ -15,7 +15,7 @@ use Rattle.bits.proofs.Laws.{all-at}
 use Rattle.words.specs.Word.{quadAt, wordAt}
 use Rattle.roundtrip.specs.Fits.{Byte, Bytes}
 use Rattle.roundtrip.proofs.Shape.{word-small}
-use Rattle.plan.specs.Lists.{listFrom}
+use Rattle.words.specs.Lists.{listFrom}
 use Rattle.fields.specs.Fields.{bytesFrom, halfAt, flagOf, isFlag, isFloat, floatAt, Number}
 use Rattle.fields.proofs.Back.{and-left, and-right}
 use Rattle.own_bytes.specs.Own.{procedureOf, ownOf, isOwn, OwnEncodable}

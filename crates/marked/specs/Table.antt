@@ -30,7 +30,7 @@ use Rattle.modules.specs.Fits.{every, queueFits, idleFits, stepFits, procedureF
 use Rattle.modules.specs.declared.Turn.the-variants.{Event, Nothing}
 use Rattle.modules.specs.Queue.{queueOf}
 use Rattle.modules.specs.declared.Called.the-variants.{Done, Refused as NotDone}
-use Rattle.plan.specs.Lists.{listFrom}
+use Rattle.words.specs.Lists.{listFrom}
 use Rattle.device_states.specs.States.{ownSlotFits, stateSlotFits, startSlot, startState, deviceFits, shownBy, stateAfterTurn, ownAt, stateAt}
 use Rattle.device.specs.Device.{turned, afterTurn, turnIn, turnBy, turnCall, replyIn, replyBy, respondCall, tickCall, startBy, startCall}
 use Rattle.device_states.specs.declared.Device.{Device}

@@ -17,7 +17,7 @@ use Rattle.messages.specs.declared.Parsed.{Parsed}
 use Rattle.messages.specs.declared.Parsed.the-variants.{Whole, Misshapen}
 use Rattle.device_states.specs.States as States
 use Rattle.device.specs.Device as Dev
-use Rattle.plan.specs.Lists.{listFrom}
+use Rattle.words.specs.Lists.{listFrom}
 use Rattle.device_states.specs.declared.Device.{Device}
 use Rattle.permits.specs.declared.Module.{Module}
 use Rattle.permits.specs.declared.Supervisor.{Supervisor}
@@ -25,7 +25,7 @@ use Rattle.permits.specs.Module as M
 use Rattle.permits.specs.Supervisor as S
 use Rattle.protocol.specs.Generic.{update}
 use Rattle.protocol.proofs.Tools.{update-each}
-use Rattle.device_states.proofs.Slots.{from-at, from-length}
+use Rattle.words.proofs.Lists.{from-at, from-length}
 
 -- past the array's end the value must be the one that stands there already
 pub set-update : {A : Type 0} (l : List A) (m : ℕ) (x d : A) → (length l ≤ m → x ≡ getD l m d) → (j : ℕ) → getD (set l m x) j d ≡ update (λ i. getD l i d) m x j

@@ -26,7 +26,7 @@ use Rattle.turn_laws.proofs.Laws.{turn-laws}
 use Rattle.turn_laws.proofs.Words.{words}
 use Rattle.agreement.specs.System as A
 use Rattle.agreement.specs.Compared as C
-use Rattle.device_states.proofs.Slots.{from-length}
+use Rattle.words.proofs.Lists.{from-length}
 use Rattle.agreement.proofs.Whole.{run-append as device-append}
 use Rattle.agreement.proofs.Demand.{demand}
 use Rattle.simulation_laws.specs.Calls.{bytesOf, systemOf, buffer, callOf, callsOf, playedAll, allSeen, Whole, Simulated}

@@ -4,7 +4,7 @@ use Prim.Native.Nat.{_-_, _≤_}
 use borrow.Author.Needs.{needs}
 use Rattle.bits.specs.Bit.{allBelow}
 use Rattle.places.specs.Places.{recordsBy}
-use Rattle.device_states.proofs.Slots.{all-done}
+use Rattle.bits.proofs.Below.{all-done}
 use Rattle.device_bytes.specs.Device.{slotFits}
 use Rattle.device_bytes.proofs.Laws.{slots-zero, slot-on, slot-fails}
 use Rattle.device_bytes.proofs.slots_fit.Statement.{statement}

@@ -1,8 +1,8 @@
 use borrow.Author.Needs.{needs}
 use Rattle.device_bytes.proofs.Laws.{states-on, states-done}
 use Rattle.device_bytes.specs.Device.{stateByte}
-use Rattle.device_states.proofs.Slots.{filled}
-use Rattle.plan.specs.Lists.{listFrom}
+use Rattle.words.proofs.Lists.{filled}
+use Rattle.words.specs.Lists.{listFrom}
 use Prim.Native.Nat.{_-_, _≤_}
 use mathlib.Core.Path.{_≡_, refl}
 use Rattle.device_bytes.proofs.states_in.Statement.{statement}

@@ -3,7 +3,7 @@ use lib.ListN.{length, List·getD-eq-default}
 use native.Mathlib.Omega.{arith}
 use Rattle.modules.specs.Turn.{emptyOwn}
 use Rattle.words.proofs.Laws.{mapped}
-use Rattle.device_states.proofs.Slots.{any-slot}
+use Rattle.words.proofs.Lists.{any-slot}
 use borrow.Author.Needs.{needs}
 use Rattle.device_states.proofs.own_of.Statement.{statement}
 use Rattle.device_states.proofs.own_of.Tie as tie

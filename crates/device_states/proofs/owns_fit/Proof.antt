@@ -7,7 +7,8 @@ use Rattle.bits.specs.Bit.{allBelow}
 use Rattle.places.specs.Places.{recordsBy}
 use Rattle.modules.specs.Turn.{emptyOwn}
 use Rattle.words.proofs.Laws.{mapped}
-use Rattle.device_states.proofs.Slots.{slotPasses, ownPasses, own-on, own-fails, all-done}
+use Rattle.bits.proofs.Below.{all-done}
+use Rattle.device_states.proofs.Slots.{slotPasses, ownPasses, own-on, own-fails}
 use Rattle.device_states.proofs.owns_fit.Statement.{statement}
 use Rattle.device_states.proofs.owns_fit.Tie as tie
 

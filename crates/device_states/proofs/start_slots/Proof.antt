@@ -6,9 +6,9 @@ use lib.ListN.{replicate}
 use Rattle.modules.specs.Turn.{emptyOwn}
 use Rattle.modules.specs.declared.Own.{Own}
 use Rattle.places.specs.Places.{recordsBy}
-use Rattle.plan.specs.Lists.{listFrom}
+use Rattle.words.specs.Lists.{listFrom}
 use Rattle.device_states.specs.States.{startSlot}
-use Rattle.device_states.proofs.Slots.{filled, fill-on, fill-done}
+use Rattle.words.proofs.Lists.{filled, fill-on, fill-done}
 use Rattle.device_states.proofs.start_slots.Statement.{statement}
 use Rattle.device_states.proofs.start_slots.Tie as tie
 

@@ -3,9 +3,9 @@ use Prim.Native.Nat.{_-_, _%_, _≤_}
 use native.Mathlib.Omega.{arith}
 use borrow.Author.Needs.{needs}
 use Rattle.places.specs.Places.{recordsBy}
-use Rattle.plan.specs.Lists.{listFrom}
+use Rattle.words.specs.Lists.{listFrom}
 use Rattle.device_states.specs.States.{startState}
-use Rattle.device_states.proofs.Slots.{filled, fill-on, fill-done}
+use Rattle.words.proofs.Lists.{filled, fill-on, fill-done}
 use Rattle.device_states.proofs.start_states.Statement.{statement}
 use Rattle.device_states.proofs.start_states.Tie as tie
 

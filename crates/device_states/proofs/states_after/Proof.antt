@@ -3,8 +3,9 @@ use Prim.Native.Nat.{_-_, _%_, _≤_}
 use native.Mathlib.Omega.{arith}
 use borrow.Author.Needs.{needs}
 use Rattle.places.specs.Places.{recordsBy}
-use Rattle.plan.specs.Lists.{listFrom}
-use Rattle.device_states.proofs.Slots.{over, moved, moved-on, moved-rest, moved-all, stays}
+use Rattle.words.specs.Lists.{listFrom}
+use Rattle.words.proofs.Lists.{over}
+use Rattle.device_states.proofs.Slots.{moved, moved-on, moved-rest, moved-all, stays}
 use Rattle.device_states.proofs.states_after.Statement.{statement}
 use Rattle.device_states.proofs.states_after.Tie as tie
 

@@ -4,7 +4,8 @@ use Prim.Native.Nat.{_-_, _≤_}
 use borrow.Author.Needs.{needs}
 use Rattle.bits.specs.Bit.{allBelow}
 use Rattle.places.specs.Places.{recordsBy}
-use Rattle.device_states.proofs.Slots.{slotPasses, statePasses, state-on, state-fails, states-zero, all-done}
+use Rattle.bits.proofs.Below.{all-done}
+use Rattle.device_states.proofs.Slots.{slotPasses, statePasses, state-on, state-fails, states-zero}
 use Rattle.device_states.proofs.states_fit_of.Statement.{statement}
 use Rattle.device_states.proofs.states_fit_of.Tie as tie
 

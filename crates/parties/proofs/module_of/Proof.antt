@@ -3,7 +3,7 @@ use lib.ListN.{length, List·getD-eq-default}
 use native.Mathlib.Omega.{arith}
 use Rattle.permits.specs.Module.{emptyModule}
 use Rattle.words.proofs.Laws.{mapped}
-use Rattle.device_states.proofs.Slots.{any-slot}
+use Rattle.words.proofs.Lists.{any-slot}
 use borrow.Author.Needs.{needs}
 use Rattle.parties.proofs.module_of.Statement.{statement}
 use Rattle.parties.proofs.module_of.Tie as tie

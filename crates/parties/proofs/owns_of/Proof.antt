@@ -5,8 +5,8 @@ use borrow.Author.Needs.{needs}
 use lib.ListN.{replicate}
 use Rattle.modules.specs.declared.Own.{Own}
 use Rattle.modules.specs.Turn.{emptyOwn}
-use Rattle.plan.specs.Lists.{listFrom}
-use Rattle.device_states.proofs.Slots.{filled, fill-on, fill-done}
+use Rattle.words.specs.Lists.{listFrom}
+use Rattle.words.proofs.Lists.{filled, fill-on, fill-done}
 use Rattle.parties.specs.Parties.{moduleAt}
 use Rattle.parties.proofs.owns_of.Statement.{statement}
 use Rattle.parties.proofs.owns_of.Tie as tie

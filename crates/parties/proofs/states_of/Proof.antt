@@ -2,8 +2,8 @@ use mathlib.Core.Path.{_≡_, refl, ap, _∙_}
 use Prim.Native.Nat.{ℕ, _-_, _%_, _≤_}
 use native.Mathlib.Omega.{arith}
 use borrow.Author.Needs.{needs}
-use Rattle.plan.specs.Lists.{listFrom}
-use Rattle.device_states.proofs.Slots.{filled, fill-on, fill-done}
+use Rattle.words.specs.Lists.{listFrom}
+use Rattle.words.proofs.Lists.{filled, fill-on, fill-done}
 use Rattle.parties.specs.Parties.{supervisorAt}
 use Rattle.parties.proofs.states_of.Statement.{statement}
 use Rattle.parties.proofs.states_of.Tie as tie
