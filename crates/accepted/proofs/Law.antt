@@ -11,7 +11,7 @@ use Rattle.bits.proofs.Laws.{all-at}
 use Rattle.records.specs.Key.{keyBy, headKey}
 use Rattle.records.specs.Range.{inRange, operandInRange}
 use Rattle.records.specs.declared.Record.{Record}
-use Rattle.records.specs.declared.Record.the-variants.{Head, Event, Module, ModuleMove, Supervisor, SupervisorMove, Disabling, Step, End}
+use Rattle.records.specs.declared.Record.the-variants.{Head, Event, Module, ModuleMove, Supervisor, SupervisorMove, Disabling, Step, Marking, End}
 use Rattle.records.specs.declared.RecordKey.{RecordKey}
 use Rattle.reader.specs.Find.{findIn, found}
 use Rattle.reader.specs.declared.Found.{Found}
@@ -118,4 +118,7 @@ module _ (some all : List Record) (same : (p : RecordKey) → T (found (findIn p
               same-owner = sym (owner-same x declared) ∙ eqb→eq (ownerOf some x) (ownerOf some e) (search both) ∙ owner-same e (search both);
             };
       }
+  law (Marking m st) p =
+      let named : T (namesDeclared some (Marking m st)) = holds _ (p .names) in
+      record { owner = below field1 headKey m (search both); state = below field2 (keyBy 0x12 m 0 0) st (search both) }
   law End p = tt

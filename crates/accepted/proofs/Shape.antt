@@ -6,7 +6,7 @@ use lib.Dec.{eqb}
 use Rattle.records.specs.Kinds.{kindOf}
 use Rattle.records.specs.Key.{keyOf}
 use Rattle.records.specs.declared.Record.{Record}
-use Rattle.records.specs.declared.Record.the-variants.{Head, Event, Module, ModuleMove, Supervisor, SupervisorMove, Disabling, Step, End}
+use Rattle.records.specs.declared.Record.the-variants.{Head, Event, Module, ModuleMove, Supervisor, SupervisorMove, Disabling, Step, Marking, End}
 use Rattle.records.proofs.Order.{key-kind}
 use Rattle.rules.specs.LookUp.{field1, field2, field3, wordField}
 
@@ -30,6 +30,7 @@ remade-is (Supervisor n st i a) = refl
 remade-is (SupervisorMove v f e t) = refl
 remade-is (Disabling v st m) = refl
 remade-is (Step e i o x) = refl
+remade-is (Marking m st) = refl
 remade-is End = refl
 
 pub shape : (k n : ℕ) (r : Record) → keyOf r .kind ≡ k → keyOf r .first ≡ n → r ≡ remade k n r

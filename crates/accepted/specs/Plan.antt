@@ -8,7 +8,7 @@ use Rattle.bits.specs.Bit.{bit}
 use Rattle.records.specs.Key.{keyOf}
 use Rattle.records.specs.Range.{inRange, operandInRange}
 use Rattle.records.specs.declared.Record.{Record}
-use Rattle.records.specs.declared.Record.the-variants.{Head, Event, Module, ModuleMove, Supervisor, SupervisorMove, Disabling, Step, End}
+use Rattle.records.specs.declared.Record.the-variants.{Head, Event, Module, ModuleMove, Supervisor, SupervisorMove, Disabling, Step, Marking, End}
 use Rattle.reader.specs.declared.Found.the-variants.{It}
 use Rattle.reader.specs.Find.{findIn}
 use Rattle.reader.specs.Walk.{walkFrom, recordsOf, stopOf}
@@ -86,6 +86,11 @@ pub record StepLaw (rs : List Record) (e i o x : ℕ) : Type 0 where
   pub operand : operandInRange o x ≡ true
   pub respond : o ≡ 5 → RespondLaw rs e x
 
+-- document 02, 2.1: "record kind 18 (module, marked state)"
+pub record MarkingLaw (rs : List Record) (m st : ℕ) : Type 0 where
+  pub owner : m < modulesOf rs
+  pub state : st < fieldOf field2 (moduleIn rs m)
+
 abbrev pub LawOf : List Record → Record → Type 0
 LawOf rs (Head m v e) = Unit {0}
 LawOf rs (Event n o c) = EventLaw rs n o
@@ -95,6 +100,7 @@ LawOf rs (Supervisor n st i a) = SupervisorLaw rs n st i a
 LawOf rs (SupervisorMove v f e t) = SupervisorMoveLaw rs v f e t
 LawOf rs (Disabling v st m) = DisablingLaw rs v st m
 LawOf rs (Step e i o x) = StepLaw rs e i o x
+LawOf rs (Marking m st) = MarkingLaw rs m st
 LawOf rs End = Unit {0}
 
 -- ---- the record of a number

@@ -8,7 +8,7 @@ use lib.Dec.{eqb, ltb}
 use Rattle.bits.specs.Bit.{putBit}
 use Rattle.records.specs.Key.{keyBy, keyOf}
 use Rattle.records.specs.declared.Record.{Record}
-use Rattle.records.specs.declared.Record.the-variants.{Head, Event, Module, ModuleMove, Supervisor, SupervisorMove, Disabling, Step, End}
+use Rattle.records.specs.declared.Record.the-variants.{Head, Event, Module, ModuleMove, Supervisor, SupervisorMove, Disabling, Step, Marking, End}
 use Rattle.context.specs.declared.Counts.{Counts}
 use Rattle.context.specs.declared.Events.{Events}
 use Rattle.context.specs.declared.Modules.{Modules}
@@ -45,6 +45,7 @@ countsAfter k (Supervisor n st i a) = k
 countsAfter k (SupervisorMove v f e t) = k
 countsAfter k (Disabling v st m) = k
 countsAfter k (Step e i o x) = k
+countsAfter k (Marking m st) = k
 countsAfter k End = k
 
 unfoldable pub eventsAfter : Events → Record → Events
@@ -56,6 +57,7 @@ eventsAfter ev (Supervisor n st i a) = ev
 eventsAfter ev (SupervisorMove v f e t) = ev
 eventsAfter ev (Disabling v st m) = ev
 eventsAfter ev (Step e i o x) = withStep ev e i
+eventsAfter ev (Marking m st) = ev
 eventsAfter ev End = ev
 
 unfoldable pub modulesAfter : Modules → Record → Modules
@@ -67,6 +69,7 @@ modulesAfter ms (Supervisor n st i a) = ms
 modulesAfter ms (SupervisorMove v f e t) = ms
 modulesAfter ms (Disabling v st m) = ms
 modulesAfter ms (Step e i o x) = ms
+modulesAfter ms (Marking m st) = ms
 modulesAfter ms End = ms
 
 unfoldable pub supervisorsAfter : Supervisors → Record → Supervisors
@@ -78,6 +81,7 @@ supervisorsAfter vs (Supervisor n st i a) = withSupervisor vs n st a
 supervisorsAfter vs (SupervisorMove v f e t) = vs
 supervisorsAfter vs (Disabling v st m) = vs
 supervisorsAfter vs (Step e i o x) = vs
+supervisorsAfter vs (Marking m st) = vs
 supervisorsAfter vs End = vs
 
 abbrev pub withRecord : Context → Record → Context

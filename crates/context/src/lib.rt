@@ -202,6 +202,7 @@ pub fn with_record(c: Context, r: Record) -> Context
             next.events = after;
             next
         }
+        Record::Marking { .. } => next,
         Record::End => next,
     }
 }

@@ -11,7 +11,7 @@ use Rattle.bits.specs.Bit.{bit}
 use Rattle.bits.proofs.Laws.{bit-none}
 use Rattle.records.specs.Key.{keyBy, keyOf, sameKey}
 use Rattle.records.specs.declared.Record.{Record}
-use Rattle.records.specs.declared.Record.the-variants.{Head, Event, Module, ModuleMove, Supervisor, SupervisorMove, Disabling, Step, End}
+use Rattle.records.specs.declared.Record.the-variants.{Head, Event, Module, ModuleMove, Supervisor, SupervisorMove, Disabling, Step, Marking, End}
 use Rattle.records.specs.declared.RecordKey.{RecordKey}
 use Rattle.reader.specs.declared.Found.{Found}
 use Rattle.reader.specs.declared.Found.the-variants.{It, Missing}
@@ -51,6 +51,7 @@ number-key k n (Supervisor x st i a) q = ap (λ (y : ℕ). keyBy y x 0 0) q
 number-key k n (SupervisorMove v f e t) q = absurd (subst Numbered (sym q) n)
 number-key k n (Disabling v st m) q = absurd (subst Numbered (sym q) n)
 number-key k n (Step e i o x) q = absurd (subst Numbered (sym q) n)
+number-key k n (Marking m st) q = absurd (subst Numbered (sym q) n)
 number-key k n End q = absurd (subst Numbered (sym q) n)
 
 all-four : (a b c d : Bool) → a ≡ true → c ≡ true → d ≡ true → (a && b && c && d) ≡ b
@@ -144,6 +145,7 @@ counts-after k rs (Supervisor n st i a) t = t
 counts-after k rs (SupervisorMove v f e t) u = u
 counts-after k rs (Disabling v st m) t = t
 counts-after k rs (Step e i o x) t = t
+counts-after k rs (Marking m st) t = t
 counts-after k rs End t = t
 
 pub counts-told : (rs : List Record) → CountsTold (contextOf rs .counts) rs
@@ -164,6 +166,7 @@ events-after ev (Supervisor n st i a) = refl
 events-after ev (SupervisorMove v f e t) = refl
 events-after ev (Disabling v st m) = refl
 events-after ev (Step e i o x) = refl
+events-after ev (Marking m st) = refl
 events-after ev End = refl
 
 -- a part of the events that steps leave alone
@@ -191,6 +194,7 @@ steps-length = table-length 0x17 64 (λ r. (field2 r + 1) % 256) (λ rs. context
     takes (SupervisorMove v f e t) rs = refl
     takes (Disabling v st m) rs = refl
     takes (Step e i o x) rs = refl
+    takes (Marking m st) rs = refl
     takes End rs = refl
 
 pub record EventTold (ev : Events) (rs : List Record) (e : ℕ) : Type 0 where
@@ -220,6 +224,7 @@ modules-after ms (Supervisor n st i a) = refl
 modules-after ms (SupervisorMove v f e t) = refl
 modules-after ms (Disabling v st m) = refl
 modules-after ms (Step e i o x) = refl
+modules-after ms (Marking m st) = refl
 modules-after ms End = refl
 
 module-part : {A : Type 0} (g : Modules → A) (ms : Modules) (r : Record) → g (modulesAfter ms r) ≡ cond (eqb (keyOf r .kind) 0x12) (g (withModule ms (keyOf r .first) (field2 r))) (g ms)
@@ -248,6 +253,7 @@ supervisors-after vs (Supervisor n st i a) = refl
 supervisors-after vs (SupervisorMove v f e t) = refl
 supervisors-after vs (Disabling v st m) = refl
 supervisors-after vs (Step e i o x) = refl
+supervisors-after vs (Marking m st) = refl
 supervisors-after vs End = refl
 
 supervisor-part : {A : Type 0} (g : Supervisors → A) (vs : Supervisors) (r : Record)

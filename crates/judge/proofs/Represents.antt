@@ -14,7 +14,7 @@ use Rattle.bits.proofs.Laws.{bit-and, all-same}
 use Rattle.records.specs.Range.{inRange, operandInRange}
 use Rattle.records.specs.Key.{headKey, keyOf, sameKey, precedes}
 use Rattle.records.specs.declared.Record.{Record}
-use Rattle.records.specs.declared.Record.the-variants.{Head, Event, Module, ModuleMove, Supervisor, SupervisorMove, Disabling, Step, End}
+use Rattle.records.specs.declared.Record.the-variants.{Head, Event, Module, ModuleMove, Supervisor, SupervisorMove, Disabling, Step, Marking, End}
 use Rattle.reader.specs.declared.Found.the-variants.{It}
 use Rattle.reader.specs.Find.{findIn, found}
 use Rattle.rules.specs.LookUp.{field1, field2, field3, fieldOf, modulesOf, supervisorsOf, eventsOf, eventIn, moduleIn, supervisorIn, eventDeclared, moduleDeclared, supervisorDeclared, moduleState, supervisorState, ownerOf, controllable, alphabetOf, stepsOf}
@@ -86,6 +86,7 @@ bounded-after p ps (Disabling v st m) t k = unmoved (Disabling v st m) refl (k .
 bounded-after p ps (Step x i o y) t k =
     let l : eventDeclared (p ∷ ps) x ≡ true = both (eventDeclared (p ∷ ps) x) (not (eqb o 5) || eventDeclared (p ∷ ps) y) (t .names) .0 in
     unmoved (Step x i o y) refl (k .event) (λ e h. step-none (p ∷ ps) x i o y e (declared-below x (eventsOf (p ∷ ps)) (found (eventIn (p ∷ ps) x)) l) h (k .steps e h))
+bounded-after p ps (Marking m st) t k = unmoved (Marking m st) refl (k .event) (k .steps)
 bounded-after p ps End t k = unmoved End refl (k .event) (k .steps)
 
 bounded : (rs : List Record) → Valid rs → Bounded rs
@@ -129,6 +130,7 @@ steps-after rs (Step x i o y) e l t k =
         let s : i ≤ 63 = index-small rs x i o y t in
         mod-eq-of-lt (omega arith) ∙ add-one i ∙ ap suc d
     go false q = k
+steps-after rs (Marking m st) e l t k = k
 steps-after rs End e l t k = k
 
 steps-told : (rs : List Record) → Valid rs → (e : ℕ) → e < 64 → getD (contextOf rs .events .steps) e 0 ≡ stepsOf rs e
@@ -159,6 +161,7 @@ module _ (rs : List Record) (valid : Valid rs) where
           let l : 64 ≤ e = ltb-false e 64 q in
           let k : eventsOf rs ≤ 64 = most rs valid .events in
           List·getD-eq-default (c .events .steps) 0 (omega (arith, steps-length rs)) ∙ sym (bounded rs valid .steps e (omega arith))
+  index-same (Marking m st) = refl
   index-same End = refl
 
   -- a number below its count, with its record
@@ -252,6 +255,11 @@ module _ (rs : List Record) (valid : Valid rs) where
       three true f g = ap₂ _&&_ (f refl) g
       three false f g = refl
   names-same (Step e i o x) = ap₂ (λ (a b : Bool). a && (not (eqb o 5) || b)) (event-same e) (operand-same x)
+  names-same (Marking m st) = ap (λ (a : Bool). a && moduleStateBy c m st) (module-same m) ∙ two (moduleDeclared rs m) (module-state-same m st)
+    where
+      two : (a : Bool) {b b′ : Bool} → (a ≡ true → b ≡ b′) → (a && b) ≡ (a && b′)
+      two true f = f refl
+      two false f = refl
   names-same End = refl
 
   owner-same : (e : ℕ) → e < 64 → ownerAt (c .events) e ≡ ownerOf rs e
@@ -294,6 +302,7 @@ module _ (rs : List Record) (valid : Valid rs) where
       let l : e < 64 = event-small e (k .0) in
       ap₂ _&&_ (event-told rs e l .controls)
       (unless (not (eqb o 5)) (λ q. respond-same e x l (event-small x (sym (ap (λ (t : Bool). t || eventDeclared rs x) q) ∙ k .1))))
+  rules-same (Marking m st) h = refl
   rules-same End h = refl
 
   all-known : (n k : ℕ) (m : ℕ) (f : ℕ → Bool) → n ≡ k → ((e : ℕ) → e < k → bit m e ≡ f e) → allBelow (bit m) n ≡ allBelow (λ e. ltb e k && f e) k
@@ -309,6 +318,7 @@ module _ (rs : List Record) (valid : Valid rs) where
   all-declared-same (SupervisorMove v f e t) = refl
   all-declared-same (Disabling v st m) = refl
   all-declared-same (Step e i o x) = refl
+  all-declared-same (Marking m st) = refl
   all-declared-same End =
       ap₂ _&&_
       (ap₂ _&&_

@@ -9,7 +9,7 @@ use Rattle.records.specs.Kinds.{kindOf}
 use Rattle.records.specs.Range.{inRange}
 use Rattle.records.specs.Key.{keyOf, precedes}
 use Rattle.records.specs.declared.Record.{Record}
-use Rattle.records.specs.declared.Record.the-variants.{Head, Event, Module, ModuleMove, Supervisor, SupervisorMove, Disabling, Step, End}
+use Rattle.records.specs.declared.Record.the-variants.{Head, Event, Module, ModuleMove, Supervisor, SupervisorMove, Disabling, Step, Marking, End}
 use Rattle.context.specs.Context.{ownerAt, stepsAt, moduleStatesAt, supervisorStatesAt, alphabetAt}
 use Rattle.context.specs.declared.Context.{Context}
 
@@ -31,6 +31,7 @@ indexBy c (Supervisor n st i a) = true
 indexBy c (SupervisorMove v f e t) = true
 indexBy c (Disabling v st m) = true
 indexBy c (Step e i o x) = eqb i (stepsAt (c .events) e)
+indexBy c (Marking m st) = true
 indexBy c End = true
 
 unfoldable pub orderBy : Context → Record → Bool
@@ -56,6 +57,7 @@ namesBy c (Supervisor n st i a) = ltb n (c .counts .supervisors) && ltb i st && 
 namesBy c (SupervisorMove v f e t) = supervisorKnown c v && supervisorStateBy c v f && eventKnown c e && supervisorStateBy c v t
 namesBy c (Disabling v st m) = supervisorKnown c v && supervisorStateBy c v st && everyEvent m (bit (c .events .known))
 namesBy c (Step e i o x) = eventKnown c e && (not (eqb o 5) || operandKnown c x)
+namesBy c (Marking m st) = moduleKnown c m && moduleStateBy c m st
 namesBy c End = true
 
 -- an uncontrollable event of the module of the event e
@@ -71,6 +73,7 @@ rulesBy c (Supervisor n st i a) = true
 rulesBy c (SupervisorMove v f e t) = bit (alphabetAt (c .supervisors) v) e
 rulesBy c (Disabling v st m) = everyEvent m (bit (bitAnd (c .events .controllable) (alphabetAt (c .supervisors) v)))
 rulesBy c (Step e i o x) = bit (c .events .controllable) e && (not (eqb o 5) || respondBy c e x)
+rulesBy c (Marking m st) = true
 rulesBy c End = true
 
 unfoldable pub allBy : Context → Record → Bool
@@ -82,6 +85,7 @@ allBy c (Supervisor n st i a) = true
 allBy c (SupervisorMove v f e t) = true
 allBy c (Disabling v st m) = true
 allBy c (Step e i o x) = true
+allBy c (Marking m st) = true
 allBy c End =
     allBelow (bit (c .modules .known)) (c .counts .modules)
     && allBelow (bit (c .supervisors .known)) (c .counts .supervisors)

@@ -61,6 +61,7 @@ fn index_runs(c: Context, r: Record) -> bool
             let ev = c.events;
             index == context::steps_of(ev, event)
         }
+        Record::Marking { .. } => true,
         Record::End => true,
     }
 }
@@ -104,6 +105,14 @@ fn disabling_named(c: Context, supervisor: u8, state: u8, mask: u64) -> bool
     let ev = c.events;
     let n = context::supervisor_states(vs, supervisor);
     supervisor_known(c, supervisor) & (state < n) & bits::within(mask, ev.known)
+}
+
+fn marking_named(c: Context, owner: u8, state: u8) -> bool
+    ensures { λ t. ⌜ t ≡ namesBy c (Record.Marking owner state) ⌝ }
+{
+    let ms = c.modules;
+    let n = context::module_states(ms, owner);
+    module_known(c, owner) & (state < n)
 }
 
 // 6: what the record names is declared.
@@ -153,6 +162,7 @@ fn names_declared(c: Context, r: Record) -> bool
             operation,
             operand,
         } => { event_known(c, event) & ((operation != 5) | operand_known(c, operand)) }
+        Record::Marking { owner, state } => marking_named(c, owner, state),
         Record::End => true,
     }
 }
@@ -206,6 +216,7 @@ fn keeps_rules(c: Context, r: Record) -> bool
         } => {
             bits::has(ev.controllable, event) & ((operation != 5) | respond_kept(c, event, operand))
         }
+        Record::Marking { .. } => true,
         Record::End => true,
     }
 }
@@ -227,6 +238,7 @@ fn all_declared(c: Context, r: Record) -> bool
         Record::SupervisorMove { .. } => true,
         Record::Disabling { .. } => true,
         Record::Step { .. } => true,
+        Record::Marking { .. } => true,
         Record::End => {
             bits::has_below(ms.known, n.modules)
                 & bits::has_below(vs.known, n.supervisors)

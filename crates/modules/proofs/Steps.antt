@@ -79,10 +79,10 @@ module _ (rs : List Record) (e i : ℕ) where
     unfolding found fieldOf field3 wordField
     a-step {r} {a} {b} {o} {x} q s = ap (λ (f : Found). record { present = found f; operation = fieldOf field3 f; operand = fieldOf wordField f }) (ap It (sym s) ∙ sym q ∙ p)
 
-    pub not-a-step : {r : Record} {w : StepFields} → y ≡ It r → OneOf (0 ∷ 1 ∷ 2 ∷ 3 ∷ 4 ∷ 5 ∷ 6 ∷ 8 ∷ []) (tagOf the-type r) → w ≡ stepFieldsOf rs e i
+    pub not-a-step : {r : Record} {w : StepFields} → y ≡ It r → OneOf (0 ∷ 1 ∷ 2 ∷ 3 ∷ 4 ∷ 5 ∷ 6 ∷ 8 ∷ 9 ∷ []) (tagOf the-type r) → w ≡ stepFieldsOf rs e i
     not-a-step {r} q o =
         let s = step-found r (sym p ∙ q) .0 in
-        absurd (miss (0 ∷ 1 ∷ 2 ∷ 3 ∷ 4 ∷ 5 ∷ 6 ∷ 8 ∷ []) 7 tt (subst (λ (t : Record). OneOf (0 ∷ 1 ∷ 2 ∷ 3 ∷ 4 ∷ 5 ∷ 6 ∷ 8 ∷ []) (tagOf the-type t)) (sym s) o))
+        absurd (miss (0 ∷ 1 ∷ 2 ∷ 3 ∷ 4 ∷ 5 ∷ 6 ∷ 8 ∷ 9 ∷ []) 7 tt (subst (λ (t : Record). OneOf (0 ∷ 1 ∷ 2 ∷ 3 ∷ 4 ∷ 5 ∷ 6 ∷ 8 ∷ 9 ∷ []) (tagOf the-type t)) (sym s) o))
 
 -- ---- the ranges of a step that counts
 

@@ -67,7 +67,8 @@ pub record Noted (s : List ℕ) : Type 0 where
   pub at-15 : placesOf s .k15 ≡ placeIn 0x15 0 (walkFrom s 0)
   pub at-16 : placesOf s .k16 ≡ placeIn 0x16 0 (walkFrom s 0)
   pub at-17 : placesOf s .k17 ≡ placeIn 0x17 0 (walkFrom s 0)
-  pub at-18 : placesOf s .k1f ≡ placeIn 0x18 0 (walkFrom s 0)
+  pub at-18 : placesOf s .k18 ≡ placeIn 0x18 0 (walkFrom s 0)
+  pub at-19 : placesOf s .k1f ≡ placeIn 0x19 0 (walkFrom s 0)
 
 module _ (s : List ℕ) (accepted : IsPlan s) where
   place : (f : Places → ℕ) (j : ℕ) → ((p : Places) (last k at : ℕ) → f (notedAt p last k at) ≡ placeBy last k at j (f p)) → 0 < j → j ≤ 0x1f
@@ -92,5 +93,6 @@ module _ (s : List ℕ) (accepted : IsPlan s) where
         at-15 = place (λ p. p .k15) 0x15 (λ p last k at. refl) (lit< tt) (lit≤ tt);
         at-16 = place (λ p. p .k16) 0x16 (λ p last k at. refl) (lit< tt) (lit≤ tt);
         at-17 = place (λ p. p .k17) 0x17 (λ p last k at. refl) (lit< tt) (lit≤ tt);
-        at-18 = place (λ p. p .k1f) 0x18 (λ p last k at. refl) (lit< tt) (lit≤ tt);
+        at-18 = place (λ p. p .k18) 0x18 (λ p last k at. refl) (lit< tt) (lit≤ tt);
+        at-19 = place (λ p. p .k1f) 0x19 (λ p last k at. refl) (lit< tt) (lit≤ tt);
       }

@@ -71,11 +71,15 @@ module _ (s : List ℕ) (accepted : IsPlan s) where
   unfolding beginOf endOf recordOf keyOf numbered
   found-17 = by-halves 0x17 (noted .at-17) (noted .at-18) (λ b. refl) refl
 
+  found-18 : Found 0x18
+  unfolding beginOf endOf recordOf keyOf numbered
+  found-18 = by-halves 0x18 (noted .at-18) (noted .at-19) (λ b. refl) refl
+
   -- ---- the end record
 
   end-begins : Begins s 0x1f
   unfolding beginOf
-  end-begins = noted .at-18 ∙ from-end 0 (walkFrom s 0) .1
+  end-begins = noted .at-19 ∙ from-end 0 (walkFrom s 0) .1
 
   -- there is one
   one-end : kind-run s accepted 0x1f end-begins .count ≡ 1
@@ -121,7 +125,8 @@ module _ (s : List ℕ) (accepted : IsPlan s) where
       (join 0x15 found-15
       (join 0x16 found-16
       (join 0x17 found-17
-      (join 0x1f found-1f (sym (from-none (walkFrom s 0))) ∙ sym (ap recordsIn (from-end 0 (walkFrom s 0) .0))))))))))
+      (join 0x18 found-18
+      (join 0x1f found-1f (sym (from-none (walkFrom s 0))) ∙ sym (ap recordsIn (from-end 0 (walkFrom s 0) .0)))))))))))
       ∙ ap recordsIn (from-first 0 (walkFrom s 0) .0)
 
 pub all-found : AllFound

@@ -12,7 +12,7 @@ use borrow.Author.Tests.{leb-true, leb-false, lt-leb}
 use Rattle.records.specs.Kinds.{bodyLen, kindOf, sizeOf}
 use Rattle.records.specs.Key.{keyOf}
 use Rattle.records.specs.declared.Record.{Record}
-use Rattle.records.specs.declared.Record.the-variants.{Head, Event, Module, ModuleMove, Supervisor, SupervisorMove, Disabling, Step, End}
+use Rattle.records.specs.declared.Record.the-variants.{Head, Event, Module, ModuleMove, Supervisor, SupervisorMove, Disabling, Step, Marking, End}
 use Rattle.reader.specs.Read.{recordOf, readAt}
 use Rattle.reader.specs.Walk.{Walk, more, stop, walkFrom, recordsIn}
 use Rattle.reader.specs.declared.Read.{Read}
@@ -142,32 +142,33 @@ place-on j k i (more o r w) h = go (leb j (kindOf r)) refl (place-on j k (i + si
 
 -- ---- the kinds of the table
 
-each-kind : (P : ℕ → Type 0) → P 0x10 → P 0x11 → P 0x12 → P 0x13 → P 0x14 → P 0x15 → P 0x16 → P 0x17 → P 0x1f → (r : Record) → P (kindOf r)
+each-kind : (P : ℕ → Type 0) → P 0x10 → P 0x11 → P 0x12 → P 0x13 → P 0x14 → P 0x15 → P 0x16 → P 0x17 → P 0x18 → P 0x1f → (r : Record) → P (kindOf r)
 unfolding kindOf
-each-kind P a0 a1 a2 a3 a4 a5 a6 a7 a8 (Head m v e) = a0
-each-kind P a0 a1 a2 a3 a4 a5 a6 a7 a8 (Event n o c) = a1
-each-kind P a0 a1 a2 a3 a4 a5 a6 a7 a8 (Module n st i) = a2
-each-kind P a0 a1 a2 a3 a4 a5 a6 a7 a8 (ModuleMove m f e t) = a3
-each-kind P a0 a1 a2 a3 a4 a5 a6 a7 a8 (Supervisor n st i a) = a4
-each-kind P a0 a1 a2 a3 a4 a5 a6 a7 a8 (SupervisorMove v f e t) = a5
-each-kind P a0 a1 a2 a3 a4 a5 a6 a7 a8 (Disabling v st m) = a6
-each-kind P a0 a1 a2 a3 a4 a5 a6 a7 a8 (Step e i o x) = a7
-each-kind P a0 a1 a2 a3 a4 a5 a6 a7 a8 End = a8
+each-kind P a0 a1 a2 a3 a4 a5 a6 a7 a8 a9 (Head m v e) = a0
+each-kind P a0 a1 a2 a3 a4 a5 a6 a7 a8 a9 (Event n o c) = a1
+each-kind P a0 a1 a2 a3 a4 a5 a6 a7 a8 a9 (Module n st i) = a2
+each-kind P a0 a1 a2 a3 a4 a5 a6 a7 a8 a9 (ModuleMove m f e t) = a3
+each-kind P a0 a1 a2 a3 a4 a5 a6 a7 a8 a9 (Supervisor n st i a) = a4
+each-kind P a0 a1 a2 a3 a4 a5 a6 a7 a8 a9 (SupervisorMove v f e t) = a5
+each-kind P a0 a1 a2 a3 a4 a5 a6 a7 a8 a9 (Disabling v st m) = a6
+each-kind P a0 a1 a2 a3 a4 a5 a6 a7 a8 a9 (Step e i o x) = a7
+each-kind P a0 a1 a2 a3 a4 a5 a6 a7 a8 a9 (Marking m st) = a8
+each-kind P a0 a1 a2 a3 a4 a5 a6 a7 a8 a9 End = a9
 
 -- none is below 10
 pub from-first : (i : ℕ) (w : Walk) → (from 0x10 w ≡ w) × (placeIn 0x10 i w ≡ i)
 unfolding from placeIn
 from-first i (stop n o) = (refl, refl)
 from-first i (more o r w) =
-    let h = each-kind (λ k. leb 0x10 k ≡ true) refl refl refl refl refl refl refl refl refl r in
+    let h = each-kind (λ k. leb 0x10 k ≡ true) refl refl refl refl refl refl refl refl refl refl r in
     (simp h, simp h)
 
--- none is between 17 and 1F
-pub from-end : (i : ℕ) (w : Walk) → (from 0x18 w ≡ from 0x1f w) × (placeIn 0x18 i w ≡ placeIn 0x1f i w)
+-- none is between 18 and 1F
+pub from-end : (i : ℕ) (w : Walk) → (from 0x19 w ≡ from 0x1f w) × (placeIn 0x19 i w ≡ placeIn 0x1f i w)
 unfolding from placeIn
 from-end i (stop n o) = (refl, refl)
 from-end i (more o r w) =
-    let h = each-kind (λ k. leb 0x18 k ≡ leb 0x1f k) refl refl refl refl refl refl refl refl refl r in
+    let h = each-kind (λ k. leb 0x19 k ≡ leb 0x1f k) refl refl refl refl refl refl refl refl refl refl r in
     let f = from-end (i + sizeOf r) w in
     (simp (h, f .0), simp (h, f .1))
 
@@ -176,7 +177,7 @@ pub from-none : (w : Walk) → recordsIn (from 0x20 w) ≡ []
 unfolding from recordsIn
 from-none (stop n o) = refl
 from-none (more o r w) =
-    let h = each-kind (λ k. leb 0x20 k ≡ false) refl refl refl refl refl refl refl refl refl r in
+    let h = each-kind (λ k. leb 0x20 k ≡ false) refl refl refl refl refl refl refl refl refl refl r in
     simp h (from-none w)
 
 -- ---- the run of a kind

@@ -133,20 +133,21 @@ has (k ∷ ks) x = eqb x k || has ks x
 -- a kind that no record has ends at 0
 end-none : (p : Places) (k : ℕ) → has kinds k ≡ false → endOf p k ≡ 0
 unfolding has endOf
-end-none p k e = go (eqb k 0x10) (eqb k 0x11) (eqb k 0x12) (eqb k 0x13) (eqb k 0x14) (eqb k 0x15) (eqb k 0x16) (eqb k 0x17) (eqb k 0x1f) e
+end-none p k e = go (eqb k 0x10) (eqb k 0x11) (eqb k 0x12) (eqb k 0x13) (eqb k 0x14) (eqb k 0x15) (eqb k 0x16) (eqb k 0x17) (eqb k 0x18) (eqb k 0x1f) e
   where
-    go : (a0 a1 a2 a3 a4 a5 a6 a7 a8 : Bool) → (a0 || (a1 || (a2 || (a3 || (a4 || (a5 || (a6 || (a7 || (a8 || false))))))))) ≡ false
-        → cond a0 (p .k11) (cond a1 (p .k12) (cond a2 (p .k13) (cond a3 (p .k14) (cond a4 (p .k15) (cond a5 (p .k16) (cond a6 (p .k17) (cond a7 (p .k1f) (cond a8 (p .k1f + sizeBy 0x1f) 0)))))))) ≡ 0
-    go true a1 a2 a3 a4 a5 a6 a7 a8 e = let z : _≡_ {A = ℕ} 0 1 = cc in absurd (omega arith)
-    go false true a2 a3 a4 a5 a6 a7 a8 e = let z : _≡_ {A = ℕ} 0 1 = cc in absurd (omega arith)
-    go false false true a3 a4 a5 a6 a7 a8 e = let z : _≡_ {A = ℕ} 0 1 = cc in absurd (omega arith)
-    go false false false true a4 a5 a6 a7 a8 e = let z : _≡_ {A = ℕ} 0 1 = cc in absurd (omega arith)
-    go false false false false true a5 a6 a7 a8 e = let z : _≡_ {A = ℕ} 0 1 = cc in absurd (omega arith)
-    go false false false false false true a6 a7 a8 e = let z : _≡_ {A = ℕ} 0 1 = cc in absurd (omega arith)
-    go false false false false false false true a7 a8 e = let z : _≡_ {A = ℕ} 0 1 = cc in absurd (omega arith)
-    go false false false false false false false true a8 e = let z : _≡_ {A = ℕ} 0 1 = cc in absurd (omega arith)
-    go false false false false false false false false true e = let z : _≡_ {A = ℕ} 0 1 = cc in absurd (omega arith)
-    go false false false false false false false false false e = refl
+    go : (a0 a1 a2 a3 a4 a5 a6 a7 a8 a9 : Bool) → (a0 || (a1 || (a2 || (a3 || (a4 || (a5 || (a6 || (a7 || (a8 || (a9 || false)))))))))) ≡ false
+        → cond a0 (p .k11) (cond a1 (p .k12) (cond a2 (p .k13) (cond a3 (p .k14) (cond a4 (p .k15) (cond a5 (p .k16) (cond a6 (p .k17) (cond a7 (p .k18) (cond a8 (p .k1f) (cond a9 (p .k1f + sizeBy 0x1f) 0))))))))) ≡ 0
+    go true a1 a2 a3 a4 a5 a6 a7 a8 a9 e = let z : _≡_ {A = ℕ} 0 1 = cc in absurd (omega arith)
+    go false true a2 a3 a4 a5 a6 a7 a8 a9 e = let z : _≡_ {A = ℕ} 0 1 = cc in absurd (omega arith)
+    go false false true a3 a4 a5 a6 a7 a8 a9 e = let z : _≡_ {A = ℕ} 0 1 = cc in absurd (omega arith)
+    go false false false true a4 a5 a6 a7 a8 a9 e = let z : _≡_ {A = ℕ} 0 1 = cc in absurd (omega arith)
+    go false false false false true a5 a6 a7 a8 a9 e = let z : _≡_ {A = ℕ} 0 1 = cc in absurd (omega arith)
+    go false false false false false true a6 a7 a8 a9 e = let z : _≡_ {A = ℕ} 0 1 = cc in absurd (omega arith)
+    go false false false false false false true a7 a8 a9 e = let z : _≡_ {A = ℕ} 0 1 = cc in absurd (omega arith)
+    go false false false false false false false true a8 a9 e = let z : _≡_ {A = ℕ} 0 1 = cc in absurd (omega arith)
+    go false false false false false false false false true a9 e = let z : _≡_ {A = ℕ} 0 1 = cc in absurd (omega arith)
+    go false false false false false false false false false true e = let z : _≡_ {A = ℕ} 0 1 = cc in absurd (omega arith)
+    go false false false false false false false false false false e = refl
 
 count-none : (s : List ℕ) (p : Places) (k : ℕ) → has kinds k ≡ false → countOf s p k ≡ 0
 unfolding countOf

@@ -26,16 +26,18 @@ record Others (k : ℕ) : Type 0 where
   k15 : eqb k 0x15 ≡ false
   k16 : eqb k 0x16 ≡ false
   k17 : eqb k 0x17 ≡ false
+  k18 : eqb k 0x18 ≡ false
 
 others : (k : ℕ) → numbered k ≡ false → keyed k ≡ false → Others k
 unfolding numbered keyed isMove
 others k n m =
     let a = neither (eqb k 0x11 || eqb k 0x12) (eqb k 0x14) n in
     let b = neither (eqb k 0x11) (eqb k 0x12) (a .0) in
-    let c = neither (eqb k 0x13 || eqb k 0x15) (eqb k 0x16 || eqb k 0x17) m in
+    let c = neither (eqb k 0x13 || eqb k 0x15) (eqb k 0x16 || (eqb k 0x17 || eqb k 0x18)) m in
     let d = neither (eqb k 0x13) (eqb k 0x15) (c .0) in
-    let e = neither (eqb k 0x16) (eqb k 0x17) (c .1) in
-    record { k11 = b .0; k12 = b .1; k13 = d .0; k14 = a .1; k15 = d .1; k16 = e .0; k17 = e .1 }
+    let e = neither (eqb k 0x16) (eqb k 0x17 || eqb k 0x18) (c .1) in
+    let f = neither (eqb k 0x17) (eqb k 0x18) (e .1) in
+    record { k11 = b .0; k12 = b .1; k13 = d .0; k14 = a .1; k15 = d .1; k16 = e .0; k17 = f .0; k18 = f .1 }
   where
     neither : (a b : Bool) → (a || b) ≡ false → (a ≡ false) × (b ≡ false)
     neither true b e = absurd (true≢false e)
@@ -60,31 +62,32 @@ of-moves P k e p3 p5 = go (eqb k 0x13) refl e
     go true f g = subst P (sym (eqb-true k 0x13 f)) p3
     go false f g = subst P (sym (eqb-true k 0x15 g)) p5
 
-of-pairs : (P : ℕ → Type 0) (k : ℕ) → keyed k ≡ true → isMove k ≡ false → P 0x16 → P 0x17 → P k
+of-pairs : (P : ℕ → Type 0) (k : ℕ) → keyed k ≡ true → isMove k ≡ false → P 0x16 → P 0x17 → P 0x18 → P k
 unfolding keyed
-of-pairs P k e m p6 p7 = go (isMove k) (eqb k 0x16) refl e m
+of-pairs P k e m p6 p7 p8 = go (isMove k) (eqb k 0x16) (eqb k 0x17) refl refl e m
   where
-    go : (a b : Bool) → eqb k 0x16 ≡ b → (a || (b || eqb k 0x17)) ≡ true → a ≡ false → P k
-    go true b f g h = let z : _≡_ {A = ℕ} 0 1 = cc in absurd (omega arith)
-    go false true f g h = subst P (sym (eqb-true k 0x16 f)) p6
-    go false false f g h = subst P (sym (eqb-true k 0x17 g)) p7
+    go : (a b d : Bool) → eqb k 0x16 ≡ b → eqb k 0x17 ≡ d → (a || (b || (d || eqb k 0x18))) ≡ true → a ≡ false → P k
+    go true b d f q g h = let z : _≡_ {A = ℕ} 0 1 = cc in absurd (omega arith)
+    go false true d f q g h = subst P (sym (eqb-true k 0x16 f)) p6
+    go false false true f q g h = subst P (sym (eqb-true k 0x17 q)) p7
+    go false false false f q g h = subst P (sym (eqb-true k 0x18 g)) p8
 
-pub of-keyed : (P : ℕ → Type 0) (k : ℕ) → keyed k ≡ true → P 0x13 → P 0x15 → P 0x16 → P 0x17 → P k
-of-keyed P k e p3 p5 p6 p7 = go (isMove k) refl
+pub of-keyed : (P : ℕ → Type 0) (k : ℕ) → keyed k ≡ true → P 0x13 → P 0x15 → P 0x16 → P 0x17 → P 0x18 → P k
+of-keyed P k e p3 p5 p6 p7 p8 = go (isMove k) refl
   where
     go : (b : Bool) → isMove k ≡ b → P k
     go true f = of-moves P k f p3 p5
-    go false f = of-pairs P k e f p6 p7
+    go false f = of-pairs P k e f p6 p7 p8
 
 -- the last of these kinds, where the code has ruled out the others
 pub last-numbered : (k : ℕ) → numbered k ≡ true → (k ≡ 0x11 → ⊥) → (k ≡ 0x12 → ⊥) → k ≡ 0x14
 last-numbered k n =
     of-numbered (λ (m : ℕ). (m ≡ 0x11 → ⊥) → (m ≡ 0x12 → ⊥) → m ≡ 0x14) k n (λ a b. absurd (a refl)) (λ a b. absurd (b refl)) (λ a b. refl)
 
-last-keyed : (k : ℕ) → keyed k ≡ true → (k ≡ 0x13 → ⊥) → (k ≡ 0x15 → ⊥) → (k ≡ 0x16 → ⊥) → k ≡ 0x17
+last-keyed : (k : ℕ) → keyed k ≡ true → (k ≡ 0x13 → ⊥) → (k ≡ 0x15 → ⊥) → (k ≡ 0x16 → ⊥) → (k ≡ 0x17 → ⊥) → k ≡ 0x18
 last-keyed k n =
-    of-keyed (λ (m : ℕ). (m ≡ 0x13 → ⊥) → (m ≡ 0x15 → ⊥) → (m ≡ 0x16 → ⊥) → m ≡ 0x17) k n
-    (λ a b c. absurd (a refl)) (λ a b c. absurd (b refl)) (λ a b c. absurd (c refl)) (λ a b c. refl)
+    of-keyed (λ (m : ℕ). (m ≡ 0x13 → ⊥) → (m ≡ 0x15 → ⊥) → (m ≡ 0x16 → ⊥) → (m ≡ 0x17 → ⊥) → m ≡ 0x18) k n
+    (λ a b c d. absurd (a refl)) (λ a b c d. absurd (b refl)) (λ a b c d. absurd (c refl)) (λ a b c d. absurd (d refl)) (λ a b c d. refl)
 
 -- the records of a kind that is known, and of a kind that is none
 module _ (s : List ℕ) (p : Places) (k : ℕ) {r : Run} where
@@ -94,8 +97,8 @@ module _ (s : List ℕ) (p : Places) (k : ℕ) {r : Run} where
   pub run-numbered : numbered k ≡ true → (k ≡ 0x11 → ⊥) → (k ≡ 0x12 → ⊥) → r ≡ runOf s p 0x14 → r ≡ runOf s p k
   run-numbered n a b f = run-by-kind 0x14 (last-numbered k n a b) f
 
-  pub run-keyed : keyed k ≡ true → (k ≡ 0x13 → ⊥) → (k ≡ 0x15 → ⊥) → (k ≡ 0x16 → ⊥) → r ≡ runOf s p 0x17 → r ≡ runOf s p k
-  run-keyed n a b c f = run-by-kind 0x17 (last-keyed k n a b c) f
+  pub run-keyed : keyed k ≡ true → (k ≡ 0x13 → ⊥) → (k ≡ 0x15 → ⊥) → (k ≡ 0x16 → ⊥) → (k ≡ 0x17 → ⊥) → r ≡ runOf s p 0x18 → r ≡ runOf s p k
+  run-keyed n a b c d f = run-by-kind 0x18 (last-keyed k n a b c d) f
 
   -- z is the size that the code has read off the table
   pub run-end : {z : ℕ} → k ≡ 0x1f → z ≡ sizeBy 0x1f → r ≡ runBy s (p .k1f) (p .k1f + z) (sizeBy 0x1f) → r ≡ runOf s p k
@@ -106,11 +109,11 @@ module _ (s : List ℕ) (p : Places) (k : ℕ) {r : Run} where
   unfolding runOf beginOf endOf
   run-of-none n m a b f =
       let o = others k n m in
-      simp (ne-eqb k 0x10 a, ne-eqb k 0x1f b, o .k11, o .k12, o .k13, o .k14, o .k15, o .k16, o .k17) f
+      simp (ne-eqb k 0x10 a, ne-eqb k 0x1f b, o .k11, o .k12, o .k13, o .k14, o .k15, o .k16, o .k17, o .k18) f
 
 pub keyed-other : (k : ℕ) → keyed k ≡ true → numbered k ≡ false
 unfolding numbered
-keyed-other k e = of-keyed (λ (j : ℕ). numbered j ≡ false) k e refl refl refl refl
+keyed-other k e = of-keyed (λ (j : ℕ). numbered j ≡ false) k e refl refl refl refl refl
 
 module _ (s : List ℕ) (k a : ℕ) where
   pub move-key : isMove k ≡ true → keyBy k (getD s a 0) (getD s (a + 1) 0) (getD s (a + 2) 0) ≡ keyOf (recordOf k (drop a s))
@@ -123,13 +126,20 @@ module _ (s : List ℕ) (k a : ℕ) where
   unfolding recordOf keyOf
   pair-key e f =
       of-pairs (λ (j : ℕ). keyBy j (getD s a 0) (getD s (a + 1) 0) 0 ≡ keyOf (recordOf j (drop a s))) k e f
-      (simp (getD-drop, add-zero)) (simp (getD-drop, add-zero))
+      (simp (getD-drop, add-zero)) (simp (getD-drop, add-zero)) (simp (getD-drop, add-zero))
 
 -- the bytes of the key lie within the image
-pub key-room : (s : List ℕ) (r : Run) (k i : ℕ) {a : ℕ} → keyed k ≡ true → Inside s r k → i < r .count → a ≡ suc (r .begin + i * r .size) → a + 3 ≤ length s
+pub key-room : (s : List ℕ) (r : Run) (k i : ℕ) {a : ℕ} → keyed k ≡ true → Inside s r k → i < r .count → a ≡ suc (r .begin + i * r .size) → a + 2 ≤ length s
 unfolding bodyLen
 key-room s r k i e n l g =
-    let w : 4 ≤ bodyLen k = of-keyed (λ (j : ℕ). 4 ≤ bodyLen j) k e (omega arith) (omega arith) (omega arith) (omega arith) in
+    let w : 2 ≤ bodyLen k = of-keyed (λ (j : ℕ). 2 ≤ bodyLen j) k e (omega arith) (omega arith) (omega arith) (omega arith) (omega arith) in
+    omega (arith, n .size, n .within i l)
+
+-- and of a move a third one
+pub move-room : (s : List ℕ) (r : Run) (k i : ℕ) {a : ℕ} → Inside s r k → i < r .count → a ≡ suc (r .begin + i * r .size) → isMove k ≡ true → a + 3 ≤ length s
+unfolding bodyLen
+move-room s r k i n l g e =
+    let w : 4 ≤ bodyLen k = of-moves (λ (j : ℕ). 4 ≤ bodyLen j) k e (omega arith) (omega arith) in
     omega (arith, n .size, n .within i l)
 
 -- the records of any other kind that has no numbers all have one key, without numbers
@@ -140,4 +150,8 @@ alone k n m b =
   where
     go : (t : Bool) → eqb k 0x10 ≡ t → Others k → keyOf (recordOf k b) ≡ keyBy (cond (eqb k 0x10) 0x10 0x1f) 0 0 0
     go true e o = simp e
-    go false e o = simp (e, o .k11, o .k12, o .k13, o .k14, o .k15, o .k16, o .k17)
+    go false e o = simp (e, o .k11, o .k12, o .k13, o .k14, o .k15, o .k16, o .k17, o .k18)
+
+-- what the code of `key_in` is told of a move
+pub third-in : (s : List ℕ) (k a : ℕ) → (isMove k ≡ true → a + 3 ≤ length s) → isMove k ≡ true → a + 2 < length s
+third-in s k a f e = let h = f e in omega arith

@@ -19,14 +19,14 @@ use Rattle.places.specs.declared.Places.{Places}
 -- ---- the places of an image
 
 abbrev pub nowhere : Places
-nowhere = record { k11 = 0; k12 = 0; k13 = 0; k14 = 0; k15 = 0; k16 = 0; k17 = 0; k1f = 0 }
+nowhere = record { k11 = 0; k12 = 0; k13 = 0; k14 = 0; k15 = 0; k16 = 0; k17 = 0; k18 = 0; k1f = 0 }
 
 -- a record of kind k at an offset begins the records of each kind after the last record's, up to its own; of the offset the lower 16 bits, which is
 -- all of it in an accepted image
 unfoldable pub placeBy : ℕ → ℕ → ℕ → ℕ → ℕ → ℕ
 placeBy last k at j x = cond (ltb last j && leb j k) (at % 65536) x
 
--- no kind stands between 17 and 1F, so that the end record is the first of 18 or above
+-- no kind stands between 18 and 1F, so that the end record is the first of 19 or above
 unfoldable pub notedAt : Places → ℕ → ℕ → ℕ → Places
 notedAt p last k at =
     record {
@@ -37,7 +37,8 @@ notedAt p last k at =
       k15 = placeBy last k at 0x15 (p .k15);
       k16 = placeBy last k at 0x16 (p .k16);
       k17 = placeBy last k at 0x17 (p .k17);
-      k1f = placeBy last k at 0x18 (p .k1f);
+      k18 = placeBy last k at 0x18 (p .k18);
+      k1f = placeBy last k at 0x19 (p .k1f);
     }
 
 -- with the records of a walk, after one of kind `last`
@@ -60,7 +61,8 @@ beginOf p k =
     (cond (eqb k 0x15) (p .k15)
     (cond (eqb k 0x16) (p .k16)
     (cond (eqb k 0x17) (p .k17)
-    (cond (eqb k 0x1f) (p .k1f) 0)))))))
+    (cond (eqb k 0x18) (p .k18)
+    (cond (eqb k 0x1f) (p .k1f) 0))))))))
 
 unfoldable pub endOf : Places → ℕ → ℕ
 endOf p k =
@@ -71,8 +73,9 @@ endOf p k =
     (cond (eqb k 0x14) (p .k15)
     (cond (eqb k 0x15) (p .k16)
     (cond (eqb k 0x16) (p .k17)
-    (cond (eqb k 0x17) (p .k1f)
-    (cond (eqb k 0x1f) (p .k1f + sizeBy 0x1f) 0))))))))
+    (cond (eqb k 0x17) (p .k18)
+    (cond (eqb k 0x18) (p .k1f)
+    (cond (eqb k 0x1f) (p .k1f + sizeBy 0x1f) 0)))))))))
 
 -- how many there are, and none where they would end past the image
 unfoldable pub countOf : List ℕ → Places → ℕ → ℕ
@@ -143,7 +146,7 @@ recordsOfKinds s p (k ∷ ks) = recordsOfKind s p k ++ recordsOfKinds s p ks
 
 -- the kinds in their order
 abbrev pub kinds : List ℕ
-kinds = 0x10 ∷ 0x11 ∷ 0x12 ∷ 0x13 ∷ 0x14 ∷ 0x15 ∷ 0x16 ∷ 0x17 ∷ 0x1f ∷ []
+kinds = 0x10 ∷ 0x11 ∷ 0x12 ∷ 0x13 ∷ 0x14 ∷ 0x15 ∷ 0x16 ∷ 0x17 ∷ 0x18 ∷ 0x1f ∷ []
 
 unfoldable pub recordsBy : List ℕ → Places → List Record
 recordsBy s p = recordsOfKinds s p kinds

@@ -32,7 +32,7 @@ unfoldable pub isMove : ℕ → Bool
 isMove k = eqb k 0x13 || eqb k 0x15
 
 unfoldable pub keyed : ℕ → Bool
-keyed k = isMove k || (eqb k 0x16 || eqb k 0x17)
+keyed k = isMove k || (eqb k 0x16 || (eqb k 0x17 || eqb k 0x18))
 
 -- the same as `isBefore`, by the run that the code holds: whether the i-th of the key's kind precedes the key
 unfoldable pub before : List ℕ → Run → RecordKey → ℕ → Bool

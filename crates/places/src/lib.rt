@@ -8,7 +8,7 @@ ghost use Rattle.records.specs.Key.{keyBy, keyOf};
 ghost use Rattle.reader.specs.Find.{findIn};
 ghost use Rattle.reader.specs.Read.{recordOf};
 ghost use Rattle.places.specs.Places.{nowhere, placeBy, notedAt, countOf, halved, onward, numbered, positionOf, spotOf, recordsBy, movesOf};
-ghost use Rattle.places.specs.Runs.{runBy, runOf, Inside, keyed, before};
+ghost use Rattle.places.specs.Runs.{runBy, runOf, Inside, isMove, keyed, before};
 use reader::Found;
 use records::Record;
 use records::RecordKey;
@@ -23,6 +23,7 @@ pub struct Places {
     pub k15: u16,
     pub k16: u16,
     pub k17: u16,
+    pub k18: u16,
     pub k1f: u16,
 }
 
@@ -38,6 +39,7 @@ pub fn nowhere() -> Places
         k15: 0,
         k16: 0,
         k17: 0,
+        k18: 0,
         k1f: 0,
     }
 }
@@ -65,7 +67,8 @@ pub fn noted(p: Places, last: u8, kind: u8, at: usize) -> Places
         k15: place_by(last, kind, at, 0x15, p.k15),
         k16: place_by(last, kind, at, 0x16, p.k16),
         k17: place_by(last, kind, at, 0x17, p.k17),
-        k1f: place_by(last, kind, at, 0x18, p.k1f),
+        k18: place_by(last, kind, at, 0x18, p.k18),
+        k1f: place_by(last, kind, at, 0x19, p.k1f),
     }
 }
 
@@ -118,7 +121,10 @@ fn keyed_run(image: &[u8], p: Places, kind: u8) -> Run
     if kind == 0x16 {
         return run_by(image, p.k16 as usize, p.k17 as usize, 0x16);
     }
-    run_by(image, p.k17 as usize, p.k1f as usize, 0x17)
+    if kind == 0x17 {
+        return run_by(image, p.k17 as usize, p.k18 as usize, 0x17);
+    }
+    run_by(image, p.k18 as usize, p.k1f as usize, 0x18)
 }
 
 // Those of a kind.
@@ -128,7 +134,7 @@ fn run_of(image: &[u8], p: Places, kind: u8) -> Run
     if (kind == 0x11) | (kind == 0x12) | (kind == 0x14) {
         return numbered_run(image, p, kind);
     }
-    if (kind == 0x13) | (kind == 0x15) | ((kind == 0x16) | (kind == 0x17)) {
+    if (kind == 0x13) | (kind == 0x15) | ((kind == 0x16) | ((kind == 0x17) | (kind == 0x18))) {
         return keyed_run(image, p, kind);
     }
     if kind == 0x10 {
@@ -164,7 +170,7 @@ fn body_at(image: &[u8], run: Run, kind: u8, i: usize) -> usize
 
 // The key of the record, of a kind whose keys have several numbers, whose body begins at an offset.
 fn key_in(image: &[u8], kind: u8, at: usize) -> RecordKey
-    requires { ⌜ (keyed kind ≡ true) × (at + 3 ≤ length (now image)) ⌝ }
+    requires { ⌜ (keyed kind ≡ true) × (at + 2 ≤ length (now image)) × (isMove kind ≡ true → at + 3 ≤ length (now image)) ⌝ }
     ensures { λ r. ⌜ r ≡ keyOf (recordOf kind (drop at (now (image .entry)))) ⌝ }
 {
     let first = image[at];
@@ -296,7 +302,7 @@ pub fn seek(image: &[u8], p: Places, key: RecordKey) -> usize
     ensures { λ r. ⌜ r ≡ spotOf (now (image .entry)) p key ⌝ }
 {
     let kind = key.kind;
-    if (kind == 0x13) | (kind == 0x15) | ((kind == 0x16) | (kind == 0x17)) {
+    if (kind == 0x13) | (kind == 0x15) | ((kind == 0x16) | ((kind == 0x17) | (kind == 0x18))) {
         return seek_keyed(image, p, key);
     }
     seek_other(image, p, key)

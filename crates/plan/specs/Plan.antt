@@ -10,7 +10,7 @@ use Rattle.bits.specs.Bit.{bit, someBelow, maskOf, isSome}
 use Rattle.records.specs.Key.{keyBy}
 use Rattle.records.specs.Range.{inRange}
 use Rattle.records.specs.declared.Record.{Record}
-use Rattle.records.specs.declared.Record.the-variants.{Head, Event, Module, ModuleMove, Supervisor, SupervisorMove, Disabling, Step, End}
+use Rattle.records.specs.declared.Record.the-variants.{Head, Event, Module, ModuleMove, Supervisor, SupervisorMove, Disabling, Step, Marking, End}
 use Rattle.reader.specs.declared.Found.{Found}
 use Rattle.reader.specs.declared.Found.the-variants.{It, Missing}
 use Rattle.reader.specs.Find.{findIn}
@@ -26,6 +26,7 @@ field4 (Supervisor n st i a) = 0
 field4 (SupervisorMove v f e t) = t
 field4 (Disabling v st m) = 0
 field4 (Step e i o x) = 0
+field4 (Marking m st) = 0
 field4 End = 0
 
 -- where the found move leads, or nothing where none is listed

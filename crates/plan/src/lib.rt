@@ -82,6 +82,7 @@ fn fields_of(r: Record) -> Fields
             operation,
             operand,
         } => fields_by(event, index, operation, operand),
+        Record::Marking { owner, state } => fields_by(owner, state, 0, 0),
         Record::End => fields_by(0, 0, 0, 0),
     }
 }

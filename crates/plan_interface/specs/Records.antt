@@ -4,7 +4,7 @@ use mathlib.Core.List.{List, []}
 use mathlib.Core.Bool.{cond}
 use lib.Dec.{eqb}
 use Rattle.records.specs.Kinds.{kindOf, sizeOf}
-use Rattle.records.specs.declared.Record.the-variants.{Head, Event, Module, ModuleMove, Supervisor, SupervisorMove, Disabling, Step, End}
+use Rattle.records.specs.declared.Record.the-variants.{Head, Event, Module, ModuleMove, Supervisor, SupervisorMove, Disabling, Step, Marking, End}
 use Rattle.reader.specs.Read.{readAt, readNumber, readOffset}
 use Rattle.reader.specs.declared.Read.{Read}
 use Rattle.reader.specs.declared.Read.the-variants.{Whole, Unknown, Cut, Nothing}
@@ -44,7 +44,8 @@ recordBy k a b c d w =
     (cond (eqb k 0x11) (It (Event a b c))
     (cond (eqb k 0x12) (It (Module a b c))
     (cond (eqb k 0x13) (It (ModuleMove a b c d))
-    (cond (eqb k 0x15) (It (SupervisorMove a b c d)) (wordRecordBy k a b c w)))))
+    (cond (eqb k 0x15) (It (SupervisorMove a b c d))
+    (cond (eqb k 0x18) (It (Marking a b)) (wordRecordBy k a b c w))))))
 
 unfoldable pub writtenAnswer : Written → ℕ
 writtenAnswer (Length n) = done 0 0 n

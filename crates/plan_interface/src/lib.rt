@@ -92,6 +92,7 @@ fn record_by(k: u8, a: u8, b: u8, c: u8, d: u8, w: u64) -> Found
             event: c,
             to: d,
         }),
+        0x18 => Found::It(Record::Marking { owner: a, state: b }),
         _ => word_record_by(k, a, b, c, w),
     }
 }

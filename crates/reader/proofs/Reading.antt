@@ -14,7 +14,7 @@ use Rattle.words.specs.Word.{wordAt}
 use Rattle.records.specs.Kinds.{bodyLen, noLen}
 use Rattle.records.specs.Key.{keyOf}
 use Rattle.records.specs.declared.Record.{Record}
-use Rattle.records.specs.declared.Record.the-variants.{Head, Event, Module, ModuleMove, Supervisor, SupervisorMove, Disabling, Step, End}
+use Rattle.records.specs.declared.Record.the-variants.{Head, Event, Module, ModuleMove, Supervisor, SupervisorMove, Disabling, Step, Marking, End}
 use Rattle.reader.specs.Read.{recordOf, shapeAt, readBy, readAt, readNumber, readOffset, numberAt, offsetAt, ReadsAs}
 use Rattle.reader.specs.Walk.{Walk, more, stop, walkOf, walkFrom, Stopped, StopsAsRead, GoesOnAsRead}
 use Rattle.reader.specs.declared.Shape.{Shape}
@@ -199,34 +199,27 @@ module _ (s : List ℕ) (i : ℕ) {x : Shape} where
 pub kind-kept : (k : ℕ) (b : List ℕ) → (bodyLen k ≡ noLen → ⊥) → keyOf (recordOf k b) .kind ≡ k
 unfolding recordOf keyOf bodyLen
 kind-kept k b h =
-    go (eqb k 0x10) (eqb k 0x11) (eqb k 0x12) (eqb k 0x13) (eqb k 0x14) (eqb k 0x15) (eqb k 0x16) (eqb k 0x17) (eqb k 0x1f)
-    refl refl refl refl refl refl refl refl refl h
+    go (eqb k 0x10) (eqb k 0x11) (eqb k 0x12) (eqb k 0x13) (eqb k 0x14) (eqb k 0x15) (eqb k 0x16) (eqb k 0x17) (eqb k 0x18) (eqb k 0x1f)
+    refl refl refl refl refl refl refl refl refl refl h
   where
-    lens : Bool → Bool → Bool → Bool → Bool → Bool → Bool → Bool → Bool → ℕ
-    lens a0 a1 a2 a3 a4 a5 a6 a7 a8 =
-        cond a0 3 (cond a1 3 (cond a2 3 (cond a3 4 (cond a4 11 (cond a5 4 (cond a6 10 (cond a7 11 (cond a8 0 noLen))))))))
+    lens : Bool → Bool → Bool → Bool → Bool → Bool → Bool → Bool → Bool → Bool → ℕ
+    lens a0 a1 a2 a3 a4 a5 a6 a7 a8 a9 =
+        cond a0 3 (cond a1 3 (cond a2 3 (cond a3 4 (cond a4 11 (cond a5 4 (cond a6 10 (cond a7 11 (cond a8 2 (cond a9 0 noLen)))))))))
 
-    read : Bool → Bool → Bool → Bool → Bool → Bool → Bool → Bool → Record
-    read a0 a1 a2 a3 a4 a5 a6 a7 =
-        cond a0 (Head (getD b 0 0) (getD b 1 0) (getD b 2 0))
-        (cond a1 (Event (getD b 0 0) (getD b 1 0) (getD b 2 0))
-        (cond a2 (Module (getD b 0 0) (getD b 1 0) (getD b 2 0))
-        (cond a3 (ModuleMove (getD b 0 0) (getD b 1 0) (getD b 2 0) (getD b 3 0))
-        (cond a4 (Supervisor (getD b 0 0) (getD b 1 0) (getD b 2 0) (wordAt b 3))
-        (cond a5 (SupervisorMove (getD b 0 0) (getD b 1 0) (getD b 2 0) (getD b 3 0))
-        (cond a6 (Disabling (getD b 0 0) (getD b 1 0) (wordAt b 2))
-        (cond a7 (Step (getD b 0 0) (getD b 1 0) (getD b 2 0) (wordAt b 3)) End)))))))
+    read : Bool → Bool → Bool → Bool → Bool → Bool → Bool → Bool → Bool → Record
+    read a0 a1 a2 a3 a4 a5 a6 a7 a8 =
+        cond a0 (Head (getD b 0 0) (getD b 1 0) (getD b 2 0)) (cond a1 (Event (getD b 0 0) (getD b 1 0) (getD b 2 0)) (cond a2 (Module (getD b 0 0) (getD b 1 0) (getD b 2 0)) (cond a3 (ModuleMove (getD b 0 0) (getD b 1 0) (getD b 2 0) (getD b 3 0)) (cond a4 (Supervisor (getD b 0 0) (getD b 1 0) (getD b 2 0) (wordAt b 3)) (cond a5 (SupervisorMove (getD b 0 0) (getD b 1 0) (getD b 2 0) (getD b 3 0)) (cond a6 (Disabling (getD b 0 0) (getD b 1 0) (wordAt b 2)) (cond a7 (Step (getD b 0 0) (getD b 1 0) (getD b 2 0) (wordAt b 3)) (cond a8 (Marking (getD b 0 0) (getD b 1 0)) End))))))))
 
-    go : (a0 a1 a2 a3 a4 a5 a6 a7 a8 : Bool) → eqb k 0x10 ≡ a0 → eqb k 0x11 ≡ a1 → eqb k 0x12 ≡ a2 → eqb k 0x13 ≡ a3 → eqb k 0x14 ≡ a4
-        → eqb k 0x15 ≡ a5 → eqb k 0x16 ≡ a6 → eqb k 0x17 ≡ a7 → eqb k 0x1f ≡ a8 → (lens a0 a1 a2 a3 a4 a5 a6 a7 a8 ≡ noLen → ⊥)
-        → keyOf (read a0 a1 a2 a3 a4 a5 a6 a7) .kind ≡ k
-    go true a1 a2 a3 a4 a5 a6 a7 a8 e0 e1 e2 e3 e4 e5 e6 e7 e8 h = sym (eqb-true _ _ e0)
-    go false true a2 a3 a4 a5 a6 a7 a8 e0 e1 e2 e3 e4 e5 e6 e7 e8 h = sym (eqb-true _ _ e1)
-    go false false true a3 a4 a5 a6 a7 a8 e0 e1 e2 e3 e4 e5 e6 e7 e8 h = sym (eqb-true _ _ e2)
-    go false false false true a4 a5 a6 a7 a8 e0 e1 e2 e3 e4 e5 e6 e7 e8 h = sym (eqb-true _ _ e3)
-    go false false false false true a5 a6 a7 a8 e0 e1 e2 e3 e4 e5 e6 e7 e8 h = sym (eqb-true _ _ e4)
-    go false false false false false true a6 a7 a8 e0 e1 e2 e3 e4 e5 e6 e7 e8 h = sym (eqb-true _ _ e5)
-    go false false false false false false true a7 a8 e0 e1 e2 e3 e4 e5 e6 e7 e8 h = sym (eqb-true _ _ e6)
-    go false false false false false false false true a8 e0 e1 e2 e3 e4 e5 e6 e7 e8 h = sym (eqb-true _ _ e7)
-    go false false false false false false false false true e0 e1 e2 e3 e4 e5 e6 e7 e8 h = sym (eqb-true _ _ e8)
-    go false false false false false false false false false e0 e1 e2 e3 e4 e5 e6 e7 e8 h = absurd (h refl)
+    go : (a0 a1 a2 a3 a4 a5 a6 a7 a8 a9 : Bool) → eqb k 0x10 ≡ a0 → eqb k 0x11 ≡ a1 → eqb k 0x12 ≡ a2 → eqb k 0x13 ≡ a3 → eqb k 0x14 ≡ a4 → eqb k 0x15 ≡ a5 → eqb k 0x16 ≡ a6 → eqb k 0x17 ≡ a7 → eqb k 0x18 ≡ a8 → eqb k 0x1f ≡ a9 → (lens a0 a1 a2 a3 a4 a5 a6 a7 a8 a9 ≡ noLen → ⊥)
+        → keyOf (read a0 a1 a2 a3 a4 a5 a6 a7 a8) .kind ≡ k
+    go true a1 a2 a3 a4 a5 a6 a7 a8 a9 e0 e1 e2 e3 e4 e5 e6 e7 e8 e9 h = sym (eqb-true _ _ e0)
+    go false true a2 a3 a4 a5 a6 a7 a8 a9 e0 e1 e2 e3 e4 e5 e6 e7 e8 e9 h = sym (eqb-true _ _ e1)
+    go false false true a3 a4 a5 a6 a7 a8 a9 e0 e1 e2 e3 e4 e5 e6 e7 e8 e9 h = sym (eqb-true _ _ e2)
+    go false false false true a4 a5 a6 a7 a8 a9 e0 e1 e2 e3 e4 e5 e6 e7 e8 e9 h = sym (eqb-true _ _ e3)
+    go false false false false true a5 a6 a7 a8 a9 e0 e1 e2 e3 e4 e5 e6 e7 e8 e9 h = sym (eqb-true _ _ e4)
+    go false false false false false true a6 a7 a8 a9 e0 e1 e2 e3 e4 e5 e6 e7 e8 e9 h = sym (eqb-true _ _ e5)
+    go false false false false false false true a7 a8 a9 e0 e1 e2 e3 e4 e5 e6 e7 e8 e9 h = sym (eqb-true _ _ e6)
+    go false false false false false false false true a8 a9 e0 e1 e2 e3 e4 e5 e6 e7 e8 e9 h = sym (eqb-true _ _ e7)
+    go false false false false false false false false true a9 e0 e1 e2 e3 e4 e5 e6 e7 e8 e9 h = sym (eqb-true _ _ e8)
+    go false false false false false false false false false true e0 e1 e2 e3 e4 e5 e6 e7 e8 e9 h = sym (eqb-true _ _ e9)
+    go false false false false false false false false false false e0 e1 e2 e3 e4 e5 e6 e7 e8 e9 h = absurd (h refl)

@@ -8,7 +8,7 @@ use lib.Dec.{leb, eqb}
 use Rattle.words.specs.Word.{wordAt}
 use Rattle.records.specs.Kinds.{bodyLen, noLen}
 use Rattle.records.specs.declared.Record.{Record}
-use Rattle.records.specs.declared.Record.the-variants.{Head, Event, Module, ModuleMove, Supervisor, SupervisorMove, Disabling, Step, End}
+use Rattle.records.specs.declared.Record.the-variants.{Head, Event, Module, ModuleMove, Supervisor, SupervisorMove, Disabling, Step, Marking, End}
 use Rattle.reader.specs.declared.Shape.{Shape}
 use Rattle.reader.specs.declared.Shape.the-variants.{Whole as WholeThere, Unknown as UnknownThere, Cut as CutThere, Nothing as NothingThere}
 use Rattle.reader.specs.declared.Read.{Read}
@@ -24,7 +24,8 @@ recordOf k b =
     (cond (eqb k 0x14) (Supervisor (getD b 0 0) (getD b 1 0) (getD b 2 0) (wordAt b 3))
     (cond (eqb k 0x15) (SupervisorMove (getD b 0 0) (getD b 1 0) (getD b 2 0) (getD b 3 0))
     (cond (eqb k 0x16) (Disabling (getD b 0 0) (getD b 1 0) (wordAt b 2))
-    (cond (eqb k 0x17) (Step (getD b 0 0) (getD b 1 0) (getD b 2 0) (wordAt b 3)) End)))))))
+    (cond (eqb k 0x17) (Step (getD b 0 0) (getD b 1 0) (getD b 2 0) (wordAt b 3))
+    (cond (eqb k 0x18) (Marking (getD b 0 0) (getD b 1 0)) End))))))))
 
 -- "A record is one byte of kind, then a body whose length the kind alone fixes."
 unfoldable pub shapeAt : List ℕ → ℕ → Shape

@@ -82,6 +82,10 @@ pub fn record_of(kind: u8, s: &[u8], b: usize) -> Record
                 operand: x,
             }
         }
+        0x18 => Record::Marking {
+            owner: f0,
+            state: f1,
+        },
         _ => Record::End,
     }
 }
@@ -169,6 +173,7 @@ pub fn key_at(kind: u8, s: &[u8], b: usize) -> RecordKey
         0x15 => key_by(0x15, first, second, third),
         0x16 => key_by(0x16, first, second, 0),
         0x17 => key_by(0x17, first, second, 0),
+        0x18 => key_by(0x18, first, second, 0),
         _ => key_by(0x1f, 0, 0, 0),
     }
 }

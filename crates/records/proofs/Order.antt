@@ -10,7 +10,7 @@ use Rattle.records.specs.Kinds.{kindOf}
 use Rattle.records.specs.Key.{keyOf, rankOf, sameKey, precedes}
 use Rattle.records.specs.declared.RecordKey.{RecordKey}
 use Rattle.records.specs.declared.Record.{Record}
-use Rattle.records.specs.declared.Record.the-variants.{Head, Event, Module, ModuleMove, Supervisor, SupervisorMove, Disabling, Step, End}
+use Rattle.records.specs.declared.Record.the-variants.{Head, Event, Module, ModuleMove, Supervisor, SupervisorMove, Disabling, Step, Marking, End}
 
 -- a number by a higher part and a lower one, below m, is less by the higher part, or by the lower one where the higher are equal
 less : (m a b x y : ℕ) → x < m → y < m → ltb (a * m + x) (b * m + y) ≡ (ltb a b || (eqb a b && ltb x y))
@@ -86,4 +86,5 @@ key-kind (Supervisor n st i a) = refl
 key-kind (SupervisorMove v f e t) = refl
 key-kind (Disabling v st m) = refl
 key-kind (Step e i o x) = refl
+key-kind (Marking m st) = refl
 key-kind End = refl

@@ -3,7 +3,7 @@ use Prim.Native.Nat.{ℕ}
 use mathlib.Core.List.{List, [], _∷_, _++_}
 use Rattle.words.specs.Word.{wordBytes}
 use Rattle.records.specs.declared.Record.{Record}
-use Rattle.records.specs.declared.Record.the-variants.{Head, Event, Module, ModuleMove, Supervisor, SupervisorMove, Disabling, Step, End}
+use Rattle.records.specs.declared.Record.the-variants.{Head, Event, Module, ModuleMove, Supervisor, SupervisorMove, Disabling, Step, Marking, End}
 
 -- the bytes of a record: its kind, then its fields in the order of the table
 unfoldable pub bytesOf : Record → List ℕ
@@ -15,6 +15,7 @@ bytesOf (Supervisor n st i a) = 0x14 ∷ n ∷ st ∷ i ∷ wordBytes a
 bytesOf (SupervisorMove v f e t) = 0x15 ∷ v ∷ f ∷ e ∷ t ∷ []
 bytesOf (Disabling v st m) = 0x16 ∷ v ∷ st ∷ wordBytes m
 bytesOf (Step e i o x) = 0x17 ∷ e ∷ i ∷ o ∷ wordBytes x
+bytesOf (Marking m st) = 0x18 ∷ m ∷ st ∷ []
 bytesOf End = 0x1f ∷ []
 
 -- the bytes of records, one after another

@@ -4,7 +4,7 @@ use Prim.Native.Nat.{ℕ, _+_, _*_}
 use mathlib.Core.Bool.{Bool, _&&_, _||_}
 use lib.Dec.{ltb, eqb}
 use Rattle.records.specs.declared.Record.{Record}
-use Rattle.records.specs.declared.Record.the-variants.{Head, Event, Module, ModuleMove, Supervisor, SupervisorMove, Disabling, Step, End}
+use Rattle.records.specs.declared.Record.the-variants.{Head, Event, Module, ModuleMove, Supervisor, SupervisorMove, Disabling, Step, Marking, End}
 use Rattle.records.specs.declared.RecordKey.{RecordKey}
 
 abbrev pub keyBy : ℕ → ℕ → ℕ → ℕ → RecordKey
@@ -14,7 +14,7 @@ keyBy k a b c = record { kind = k; first = a; second = b; third = c }
 abbrev pub headKey : RecordKey
 headKey = keyBy 0x10 0 0 0
 
--- the kind and the key; what a key lacks counts as 0
+-- the kind and the key; what a key lacks counts as 0. Document 02, 2.1: kind 18 is "ordered after 17 by both fields"
 unfoldable pub keyOf : Record → RecordKey
 keyOf (Head m v e) = headKey
 keyOf (Event n o c) = keyBy 0x11 n 0 0
@@ -24,6 +24,7 @@ keyOf (Supervisor n st i a) = keyBy 0x14 n 0 0
 keyOf (SupervisorMove v f e t) = keyBy 0x15 v f e
 keyOf (Disabling v st m) = keyBy 0x16 v st 0
 keyOf (Step e i o x) = keyBy 0x17 e i 0
+keyOf (Marking m st) = keyBy 0x18 m st 0
 keyOf End = keyBy 0x1f 0 0 0
 
 -- the same kind and key

@@ -3,13 +3,14 @@ use Prim.Native.Nat.{ℕ, suc}
 use mathlib.Core.Bool.{cond}
 use lib.Dec.{eqb}
 use Rattle.records.specs.declared.Record.{Record}
-use Rattle.records.specs.declared.Record.the-variants.{Head, Event, Module, ModuleMove, Supervisor, SupervisorMove, Disabling, Step, End}
+use Rattle.records.specs.declared.Record.the-variants.{Head, Event, Module, ModuleMove, Supervisor, SupervisorMove, Disabling, Step, Marking, End}
 
 -- no kind has a body of this length
 abbrev pub noLen : ℕ
 noLen = 255
 
--- the column "Body bytes" of the table of kinds; `noLen` for a kind that is not there
+-- the column "Body bytes" of the table of kinds, and document 02, 2.1: "record kind 18 (module, marked state)"; `noLen` for a kind that is not
+-- there
 unfoldable pub bodyLen : ℕ → ℕ
 bodyLen k =
     cond (eqb k 0x10) 3
@@ -20,7 +21,8 @@ bodyLen k =
     (cond (eqb k 0x15) 4
     (cond (eqb k 0x16) 10
     (cond (eqb k 0x17) 11
-    (cond (eqb k 0x1f) 0 noLen))))))))
+    (cond (eqb k 0x18) 2
+    (cond (eqb k 0x1f) 0 noLen)))))))))
 
 -- the bytes of a whole record of a kind: the kind's byte and the body; 256 for a number that is no kind
 abbrev pub sizeBy : ℕ → ℕ
@@ -36,6 +38,7 @@ kindOf (Supervisor n st i a) = 0x14
 kindOf (SupervisorMove v f e t) = 0x15
 kindOf (Disabling v st m) = 0x16
 kindOf (Step e i o x) = 0x17
+kindOf (Marking m st) = 0x18
 kindOf End = 0x1f
 
 abbrev pub sizeOf : Record → ℕ

@@ -4,7 +4,7 @@ use mathlib.Core.Bool.{Bool, true, cond, not, _&&_, _||_}
 use lib.Dec.{leb, eqb}
 use Rattle.litres.specs.Eighths.{targetOk}
 use Rattle.records.specs.declared.Record.{Record}
-use Rattle.records.specs.declared.Record.the-variants.{Head, Event, Module, ModuleMove, Supervisor, SupervisorMove, Disabling, Step, End}
+use Rattle.records.specs.declared.Record.the-variants.{Head, Event, Module, ModuleMove, Supervisor, SupervisorMove, Disabling, Step, Marking, End}
 
 -- from a to b
 abbrev pub between : ℕ → ℕ → ℕ → Bool
@@ -19,7 +19,7 @@ operandInRange o x =
     (cond (eqb o 4) (targetOk x) (eqb o 5)))
 
 -- head: "modules 1–16, supervisors 0–32, events 1–64"; event: "class (0 uncontrollable, 1 controllable)"; module: "states 1–32";
--- supervisor: "states 1–64"; disabling: "mask (8 bytes, not zero)"; procedure step: "index 0–63"
+-- supervisor: "states 1–64"; disabling: "mask (8 bytes, not zero)"; procedure step: "index 0–63"; document 02 gives kind 18 no range
 unfoldable pub inRange : Record → Bool
 inRange (Head m v e) = between 1 16 m && leb v 32 && between 1 64 e
 inRange (Event n o c) = leb c 1
@@ -29,4 +29,5 @@ inRange (Supervisor n st i a) = between 1 64 st
 inRange (SupervisorMove v f e t) = true
 inRange (Disabling v st m) = not (eqb m 0)
 inRange (Step e i o x) = leb i 63 && operandInRange o x
+inRange (Marking m st) = true
 inRange End = true

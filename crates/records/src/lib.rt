@@ -4,7 +4,7 @@ ghost use Rattle.records.specs.Kinds.{bodyLen, sizeBy, kindOf};
 ghost use Rattle.records.specs.Range.{inRange, operandInRange};
 ghost use Rattle.records.specs.Key.{keyBy, keyOf, sameKey, precedes, rankOf};
 
-// A plan's record, document 01's term: one of each kind, with its fields in their order.
+// A plan's record, document 01's term: one of each kind, with its fields in their order; document 02 adds `Marking`.
 pub enum Record {
     Head {
         modules: u8,
@@ -50,6 +50,10 @@ pub enum Record {
         operation: u8,
         operand: u64,
     },
+    Marking {
+        owner: u8,
+        state: u8,
+    },
     End,
 }
 
@@ -66,7 +70,7 @@ const LENS: [u8; 16] = [
     4,
     10,
     11,
-    255,
+    2,
     255,
     255,
     255,
@@ -108,6 +112,7 @@ pub fn kind_of(r: Record) -> u8
         Record::SupervisorMove { .. } => 0x15,
         Record::Disabling { .. } => 0x16,
         Record::Step { .. } => 0x17,
+        Record::Marking { .. } => 0x18,
         Record::End => 0x1f,
     }
 }
@@ -168,6 +173,7 @@ pub fn in_range(r: Record) -> bool
             operation,
             operand,
         } => (index <= 63) & operand_in_range(operation, operand),
+        Record::Marking { .. } => true,
         Record::End => true,
     }
 }
@@ -235,6 +241,7 @@ pub fn key_of(r: Record) -> RecordKey
             operation: _,
             operand: _,
         } => key_by(0x17, event, index, 0),
+        Record::Marking { owner, state } => key_by(0x18, owner, state, 0),
         Record::End => key_by(0x1f, 0, 0, 0),
     }
 }

@@ -12,7 +12,7 @@ use Rattle.words.proofs.Laws.{word-read}
 use Rattle.records.specs.Kinds.{bodyLen, noLen, kindOf}
 use Rattle.records.specs.Bytes.{bytesOf}
 use Rattle.records.specs.declared.Record.{Record}
-use Rattle.records.specs.declared.Record.the-variants.{Head, Event, Module, ModuleMove, Supervisor, SupervisorMove, Disabling, Step, End}
+use Rattle.records.specs.declared.Record.the-variants.{Head, Event, Module, ModuleMove, Supervisor, SupervisorMove, Disabling, Step, Marking, End}
 use Rattle.reader.specs.Read.{recordOf}
 use Rattle.roundtrip.specs.Fits.{Byte, Word, Fits, Bytes}
 
@@ -28,6 +28,7 @@ module _ (t : List ℕ) where
   kind-first (SupervisorMove v f e to) = refl
   kind-first (Disabling v st m) = refl
   kind-first (Step e i o x) = refl
+  kind-first (Marking m st) = refl
   kind-first End = refl
 
   pub body-read : (r : Record) → Fits r → recordOf (kindOf r) (drop 1 (bytesOf r) ++ t) ≡ r
@@ -40,6 +41,7 @@ module _ (t : List ℕ) where
   body-read (SupervisorMove v f e to) h = refl
   body-read (Disabling v st m) h = ap (Disabling v st) (word-read m t (h .2))
   body-read (Step e i o x) h = ap (Step e i o) (word-read x t (h .3))
+  body-read (Marking m st) h = refl
   body-read End h = refl
 
 pub known : (r : Record) → bodyLen (kindOf r) ≡ noLen → ⊥
@@ -52,6 +54,7 @@ known (Supervisor n st i a) u = omega arith
 known (SupervisorMove v f e t) u = omega arith
 known (Disabling v st m) u = omega arith
 known (Step e i o x) u = omega arith
+known (Marking m st) u = omega arith
 known End u = omega arith
 
 -- what holds of every kind of the table holds of a known one
@@ -63,11 +66,11 @@ module _ (P : ℕ → Type 0) (k : ℕ) where
       go true e = subst P (sym (eqb-true k c e)) p
       go false e = f e
 
-  kinds : (bodyLen k ≡ noLen → ⊥) → P 0x10 → P 0x11 → P 0x12 → P 0x13 → P 0x14 → P 0x15 → P 0x16 → P 0x17 → P 0x1f → P k
+  kinds : (bodyLen k ≡ noLen → ⊥) → P 0x10 → P 0x11 → P 0x12 → P 0x13 → P 0x14 → P 0x15 → P 0x16 → P 0x17 → P 0x18 → P 0x1f → P k
   unfolding bodyLen
-  kinds u a b c d e f g h i =
-      is 0x10 a (λ na. is 0x11 b (λ nb. is 0x12 c (λ nc. is 0x13 d (λ nd. is 0x14 e (λ ne. is 0x15 f (λ nf. is 0x16 g (λ ng. is 0x17 h (λ nh. is 0x1f i (λ ni.
-      absurd (u (simp (na, nb, nc, nd, ne, nf, ng, nh, ni))))))))))))
+  kinds u a b c d e f g h j i =
+      is 0x10 a (λ na. is 0x11 b (λ nb. is 0x12 c (λ nc. is 0x13 d (λ nd. is 0x14 e (λ ne. is 0x15 f (λ nf. is 0x16 g (λ ng. is 0x17 h (λ nh. is 0x18 j (λ nj. is 0x1f i (λ ni.
+      absurd (u (simp (na, nb, nc, nd, ne, nf, ng, nh, nj, ni)))))))))))))
 
 -- the eight bytes of the number that eight bytes are, and its size
 module _ (s : List ℕ) (o : ℕ) (g : Bytes s) where
@@ -122,6 +125,7 @@ same k b u h g =
     (λ l. record { kind = refl; bytes = all 0x15 4 l; fits = (g 0, g 1, g 2, g 3) })
     (λ l. record { kind = refl; bytes = rw (word-written b 2 g) (all 0x16 10 l); fits = (g 0, g 1, word-small b 2 g) })
     (λ l. record { kind = refl; bytes = rw (word-written b 3 g) (all 0x17 11 l); fits = (g 0, g 1, g 2, word-small b 3 g) })
+    (λ l. record { kind = refl; bytes = all 0x18 2 l; fits = (g 0, g 1) })
     (λ l. record { kind = refl; bytes = all 0x1f 0 l; fits = tt })
     h
   where

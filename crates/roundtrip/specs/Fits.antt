@@ -3,7 +3,7 @@ use Prim.Native.Nat.{ℕ, _^_, _<_}
 use mathlib.Core.List.{List}
 use lib.ListN.{getD}
 use Rattle.records.specs.declared.Record.{Record}
-use Rattle.records.specs.declared.Record.the-variants.{Head, Event, Module, ModuleMove, Supervisor, SupervisorMove, Disabling, Step, End}
+use Rattle.records.specs.declared.Record.the-variants.{Head, Event, Module, ModuleMove, Supervisor, SupervisorMove, Disabling, Step, Marking, End}
 
 abbrev pub Byte : ℕ → Type 0
 Byte b = b < 256
@@ -20,6 +20,7 @@ Fits (Supervisor n st i a) = Byte n × Byte st × Byte i × Word a
 Fits (SupervisorMove v f e t) = Byte v × Byte f × Byte e × Byte t
 Fits (Disabling v st m) = Byte v × Byte st × Word m
 Fits (Step e i o x) = Byte e × Byte i × Byte o × Word x
+Fits (Marking m st) = Byte m × Byte st
 Fits End = Unit {0}
 
 abbrev pub Bytes : List ℕ → Type 0

@@ -11,7 +11,7 @@ use Rattle.records.specs.Kinds.{kindOf}
 use Rattle.records.specs.Key.{headKey, keyOf, sameKey, precedes}
 use Rattle.records.specs.Range.{inRange}
 use Rattle.records.specs.declared.Record.{Record}
-use Rattle.records.specs.declared.Record.the-variants.{Head, Event, Module, ModuleMove, Supervisor, SupervisorMove, Disabling, Step, End}
+use Rattle.records.specs.declared.Record.the-variants.{Head, Event, Module, ModuleMove, Supervisor, SupervisorMove, Disabling, Step, Marking, End}
 use Rattle.reader.specs.Find.{findIn}
 use Rattle.reader.specs.declared.Found.{Found}
 use Rattle.reader.specs.declared.Found.the-variants.{It}
@@ -61,6 +61,7 @@ first-head (Supervisor n st i a) t = absurd (false≢true (t .order))
 first-head (SupervisorMove v f e g) t = absurd (false≢true (t .order))
 first-head (Disabling v st m) t = absurd (false≢true (t .order))
 first-head (Step x i o y) t = absurd (false≢true (t .order))
+first-head (Marking m st) t = absurd (false≢true (t .order))
 first-head End t = absurd (false≢true (t .order))
 
 -- no head comes after another record
@@ -74,6 +75,7 @@ no-head (Supervisor a b c d) m v e h = h
 no-head (SupervisorMove a b c d) m v e h = h
 no-head (Disabling a b c) m v e h = h
 no-head (Step a b c d) m v e h = h
+no-head (Marking a b) m v e h = h
 no-head End m v e h = h
 
 -- so the head that a look-up finds stays the same
@@ -88,6 +90,7 @@ head-kept p ps (Supervisor n st i a) t = refl
 head-kept p ps (SupervisorMove v f e g) t = refl
 head-kept p ps (Disabling v st m) t = refl
 head-kept p ps (Step x i o y) t = refl
+head-kept p ps (Marking m st) t = refl
 head-kept p ps End t = refl
 
 pub record Headed (rs : List Record) : Type 0 where

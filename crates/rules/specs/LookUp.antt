@@ -5,7 +5,7 @@ use mathlib.Core.Bool.{Bool, cond, _&&_}
 use lib.Dec.{eqb, ltb}
 use Rattle.records.specs.Key.{keyBy, headKey, keyOf}
 use Rattle.records.specs.declared.Record.{Record}
-use Rattle.records.specs.declared.Record.the-variants.{Head, Event, Module, ModuleMove, Supervisor, SupervisorMove, Disabling, Step, End}
+use Rattle.records.specs.declared.Record.the-variants.{Head, Event, Module, ModuleMove, Supervisor, SupervisorMove, Disabling, Step, Marking, End}
 use Rattle.reader.specs.declared.Found.{Found}
 use Rattle.reader.specs.declared.Found.the-variants.{It, Missing}
 use Rattle.reader.specs.Find.{findIn, found}
@@ -20,6 +20,7 @@ field1 (Supervisor n st i a) = n
 field1 (SupervisorMove v f e t) = v
 field1 (Disabling v st m) = v
 field1 (Step e i o x) = e
+field1 (Marking m st) = m
 field1 End = 0
 
 unfoldable pub field2 : Record → ℕ
@@ -31,6 +32,7 @@ field2 (Supervisor n st i a) = st
 field2 (SupervisorMove v f e t) = f
 field2 (Disabling v st m) = st
 field2 (Step e i o x) = i
+field2 (Marking m st) = st
 field2 End = 0
 
 unfoldable pub field3 : Record → ℕ
@@ -42,6 +44,7 @@ field3 (Supervisor n st i a) = i
 field3 (SupervisorMove v f e t) = e
 field3 (Disabling v st m) = 0
 field3 (Step e i o x) = o
+field3 (Marking m st) = 0
 field3 End = 0
 
 -- its 8-byte field, and 0 where it has none
@@ -54,6 +57,7 @@ wordField (Supervisor n st i a) = a
 wordField (SupervisorMove v f e t) = 0
 wordField (Disabling v st m) = m
 wordField (Step e i o x) = x
+wordField (Marking m st) = 0
 wordField End = 0
 
 -- a field of the record that a look-up found, and 0 if it found none

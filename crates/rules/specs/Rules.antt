@@ -7,7 +7,7 @@ use Rattle.bits.specs.Bit.{bit, allBelow, everyEvent}
 use Rattle.records.specs.Kinds.{kindOf}
 use Rattle.records.specs.Key.{keyOf, precedes}
 use Rattle.records.specs.declared.Record.{Record}
-use Rattle.records.specs.declared.Record.the-variants.{Head, Event, Module, ModuleMove, Supervisor, SupervisorMove, Disabling, Step, End}
+use Rattle.records.specs.declared.Record.the-variants.{Head, Event, Module, ModuleMove, Supervisor, SupervisorMove, Disabling, Step, Marking, End}
 use Rattle.rules.specs.LookUp.{modulesOf, supervisorsOf, eventsOf, eventDeclared, moduleDeclared, supervisorDeclared, moduleState, supervisorState, ownerOf, controllable, alphabetOf, stepsOf}
 
 -- 4: "head not first, order or index rule broken". "Step indices of an event run 0, 1, 2 without a gap."
@@ -20,6 +20,7 @@ indexRuns rs (Supervisor n st i a) = true
 indexRuns rs (SupervisorMove v f e t) = true
 indexRuns rs (Disabling v st m) = true
 indexRuns rs (Step e i o x) = eqb i (stepsOf rs e)
+indexRuns rs (Marking m st) = true
 indexRuns rs End = true
 
 -- "There is one head. Records ascend by kind, then strictly by key": so no second head can follow
@@ -29,7 +30,7 @@ inOrder (p ∷ rs) r = precedes (keyOf p) (keyOf r) && indexRuns (p ∷ rs) r
 
 -- 6: "names an undeclared module, supervisor, event or state". "the number that a record of kind 11, 12 or 14 declares, and the module
 -- in kind 11, need only be below the count. A mask bit at or above the event count is 6, as is a respond operand that is no declared
--- event."
+-- event." Document 02, 2.1: kind 18 names a "module, marked state"
 unfoldable pub namesDeclared : List Record → Record → Bool
 namesDeclared rs (Head m v e) = true
 namesDeclared rs (Event n o c) = ltb n (eventsOf rs) && ltb o (modulesOf rs)
@@ -39,6 +40,7 @@ namesDeclared rs (Supervisor n st i a) = ltb n (supervisorsOf rs) && ltb i st &&
 namesDeclared rs (SupervisorMove v f e t) = supervisorDeclared rs v && supervisorState rs v f && eventDeclared rs e && supervisorState rs v t
 namesDeclared rs (Disabling v st m) = supervisorDeclared rs v && supervisorState rs v st && everyEvent m (eventDeclared rs)
 namesDeclared rs (Step e i o x) = eventDeclared rs e && (not (eqb o 5) || eventDeclared rs x)
+namesDeclared rs (Marking m st) = moduleDeclared rs m && moduleState rs m st
 namesDeclared rs End = true
 
 -- 7: "move by another module's event or one outside the alphabet; disabling mask with an event uncontrollable or outside the alphabet; a
@@ -52,6 +54,7 @@ keepsRules rs (Supervisor n st i a) = true
 keepsRules rs (SupervisorMove v f e t) = bit (alphabetOf rs v) e
 keepsRules rs (Disabling v st m) = everyEvent m (λ e. controllable rs e && bit (alphabetOf rs v) e)
 keepsRules rs (Step e i o x) = controllable rs e && (not (eqb o 5) || (not (controllable rs x) && eqb (ownerOf rs x) (ownerOf rs e)))
+keepsRules rs (Marking m st) = true
 keepsRules rs End = true
 
 -- 8: "end reached, a number promised by the head undeclared"
@@ -64,4 +67,5 @@ allDeclared rs (Supervisor n st i a) = true
 allDeclared rs (SupervisorMove v f e t) = true
 allDeclared rs (Disabling v st m) = true
 allDeclared rs (Step e i o x) = true
+allDeclared rs (Marking m st) = true
 allDeclared rs End = allBelow (moduleDeclared rs) (modulesOf rs) && allBelow (supervisorDeclared rs) (supervisorsOf rs) && allBelow (eventDeclared rs) (eventsOf rs)

@@ -12,7 +12,7 @@ use denote.Floats.{passes as holds, is-true}
 use Rattle.records.specs.Range.{inRange}
 use Rattle.records.specs.Key.{keyBy, keyOf}
 use Rattle.records.specs.declared.Record.{Record}
-use Rattle.records.specs.declared.Record.the-variants.{Head, Event, Module, ModuleMove, Supervisor, SupervisorMove, Disabling, Step, End}
+use Rattle.records.specs.declared.Record.the-variants.{Head, Event, Module, ModuleMove, Supervisor, SupervisorMove, Disabling, Step, Marking, End}
 use Rattle.records.specs.declared.RecordKey.{RecordKey}
 use Rattle.reader.specs.Find.{findIn, found}
 use Rattle.reader.specs.declared.Found.{Found}
@@ -42,6 +42,7 @@ keyed-is (Supervisor n st i a) = refl
 keyed-is (SupervisorMove v f e t) = refl
 keyed-is (Disabling v st m) = refl
 keyed-is (Step e i o x) = refl
+keyed-is (Marking m st) = refl
 keyed-is End = refl
 
 -- a move leads somewhere only where one is listed

@@ -93,6 +93,7 @@ fn push_record(t: Text, r: Record) -> Text {
             event,
             to,
         } => texts::push_numbers(t, &[supervisor, from, event, to]),
+        Record::Marking { owner, state } => texts::push_numbers(t, &[owner, state]),
         _ => push_long(t, r),
     }
 }
@@ -157,6 +158,7 @@ fn short_record(kind: u8, a: u8, b: u8, c: u8, d: u8) -> Record {
             event: c,
             to: d,
         },
+        0x18 => Record::Marking { owner: a, state: b },
         _ => Record::End,
     }
 }

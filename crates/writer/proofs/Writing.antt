@@ -15,7 +15,7 @@ use Rattle.records.specs.Kinds.{bodyLen, kindOf, sizeBy, sizeOf}
 use Rattle.records.specs.Bytes.{bytesOf}
 use Rattle.records.specs.Range.{inRange}
 use Rattle.records.specs.declared.Record.{Record}
-use Rattle.records.specs.declared.Record.the-variants.{Head, Event, Module, ModuleMove, Supervisor, SupervisorMove, Disabling, Step, End}
+use Rattle.records.specs.declared.Record.the-variants.{Head, Event, Module, ModuleMove, Supervisor, SupervisorMove, Disabling, Step, Marking, End}
 use Rattle.writer.specs.Write.{Wrote, answerOf}
 use Rattle.writer.specs.declared.Written.the-variants.{Length, Refused}
 
@@ -29,6 +29,7 @@ length-bytes (Supervisor n st i a) = refl
 length-bytes (SupervisorMove v f e t) = refl
 length-bytes (Disabling v st m) = refl
 length-bytes (Step e i o x) = refl
+length-bytes (Marking m st) = refl
 length-bytes End = refl
 
 -- from what the code of `put_record` is told: the case t that the record is

@@ -73,6 +73,7 @@ fn put_record(r: Record, s: &mut [u8])
             words::put_bytes(&mut *s, 0, &[0x17, event, index, operation]);
             words::put_word(&mut *s, 4, operand);
         }
+        Record::Marking { owner, state } => words::put_bytes(s, 0, &[0x18, owner, state]),
         Record::End => words::put_bytes(s, 0, &[0x1f]),
     }
 }

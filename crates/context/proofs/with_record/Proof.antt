@@ -45,6 +45,9 @@ with-step-requires c κs = search needs
 enum-told-4 : tie.Need-enum-told-4
 enum-told-4 c = search needs
 
+enum-told-5 : tie.Need-enum-told-5
+enum-told-5 c = search needs
+
 returns : tie.Need-returns
 unfolding countsAfter eventsAfter modulesAfter supervisorsAfter
 returns c = simp (c .before .before .before .key-of .ensures, c .before .r .given .1)
@@ -81,6 +84,10 @@ returns-9 : tie.Need-returns-9
 unfolding countsAfter eventsAfter modulesAfter supervisorsAfter
 returns-9 c = simp (c .before .before .key-of .ensures, c .enum-told4 .given .1)
 
+returns-10 : tie.Need-returns-10
+unfolding countsAfter eventsAfter modulesAfter supervisorsAfter
+returns-10 c = simp (c .before .before .key-of .ensures, c .enum-told5 .given .1)
+
 pub with-record-spec : {M : Type 1} → statement M
 with-record-spec =
     tie.close
@@ -99,6 +106,7 @@ with-record-spec =
     enum-known-r-5
     with-step-requires
     enum-told-4
+    enum-told-5
     returns
     returns-2
     returns-3
@@ -107,4 +115,5 @@ with-record-spec =
     returns-6
     returns-7
     returns-8
-    returns-9)
+    returns-9
+    returns-10)

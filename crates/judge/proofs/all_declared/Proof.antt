@@ -31,6 +31,9 @@ enum-told-8 c = search needs
 enum-told-9 : tie.Need-enum-told-9
 enum-told-9 c = search needs
 
+enum-told-10 : tie.Need-enum-told-10
+enum-told-10 c = search needs
+
 has-below-requires : tie.Need-has-below-requires
 has-below-requires c κs = search needs
 
@@ -74,7 +77,11 @@ returns-8 c = search all-arm
 
 returns-9 : tie.Need-returns-9
 unfolding allBy
-returns-9 c = all-arm _ _ (c .before .before .before .enum-told9 .given .1) (simp (c .before .before .has-below .ensures, c .before .has-below2 .ensures, c .has-below3 .ensures))
+returns-9 c = search all-arm
+
+returns-10 : tie.Need-returns-10
+unfolding allBy
+returns-10 c = all-arm _ _ (c .before .before .before .enum-told10 .given .1) (simp (c .before .before .has-below .ensures, c .before .has-below2 .ensures, c .has-below3 .ensures))
 
 pub all-declared-spec : {M : Type 1} → statement M
 all-declared-spec =
@@ -89,6 +96,7 @@ all-declared-spec =
     enum-told-7
     enum-told-8
     enum-told-9
+    enum-told-10
     has-below-requires
     has-below-requires-2
     has-below-requires-3
@@ -100,4 +108,5 @@ all-declared-spec =
     returns-6
     returns-7
     returns-8
-    returns-9)
+    returns-9
+    returns-10)

@@ -34,6 +34,9 @@ steps-of-requires c κs = search needs
 enum-told-8 : tie.Need-enum-told-8
 enum-told-8 c = search needs
 
+enum-told-9 : tie.Need-enum-told-9
+enum-told-9 c = search needs
+
 returns : tie.Need-returns
 unfolding indexBy
 returns c = search index-arm
@@ -70,6 +73,10 @@ returns-9 : tie.Need-returns-9
 unfolding indexBy
 returns-9 c = search index-arm
 
+returns-10 : tie.Need-returns-10
+unfolding indexBy
+returns-10 c = search index-arm
+
 pub index-runs-spec : {M : Type 1} → statement M
 index-runs-spec =
     tie.close
@@ -84,6 +91,7 @@ index-runs-spec =
     enum-known-r
     steps-of-requires
     enum-told-8
+    enum-told-9
     returns
     returns-2
     returns-3
@@ -92,4 +100,5 @@ index-runs-spec =
     returns-6
     returns-7
     returns-8
-    returns-9)
+    returns-9
+    returns-10)

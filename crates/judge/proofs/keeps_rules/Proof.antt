@@ -52,6 +52,9 @@ respond-kept-requires c κs = search needs
 enum-told-5 : tie.Need-enum-told-5
 enum-told-5 c = search needs
 
+enum-told-6 : tie.Need-enum-told-6
+enum-told-6 c = search needs
+
 returns : tie.Need-returns
 unfolding rulesBy
 returns c = search rules-arm
@@ -88,6 +91,10 @@ returns-9 : tie.Need-returns-9
 unfolding rulesBy
 returns-9 c = search rules-arm
 
+returns-10 : tie.Need-returns-10
+unfolding rulesBy
+returns-10 c = search rules-arm
+
 pub keeps-rules-spec : {M : Type 1} → statement M
 keeps-rules-spec =
     tie.close
@@ -108,6 +115,7 @@ keeps-rules-spec =
     has-requires-2
     respond-kept-requires
     enum-told-5
+    enum-told-6
     returns
     returns-2
     returns-3
@@ -116,4 +124,5 @@ keeps-rules-spec =
     returns-6
     returns-7
     returns-8
-    returns-9)
+    returns-9
+    returns-10)

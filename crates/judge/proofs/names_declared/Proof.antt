@@ -46,6 +46,12 @@ event-known-requires c κs = search needs
 operand-known-requires : tie.Need-operand-known-requires
 operand-known-requires c κs = search needs
 
+enum-known-r-8 : tie.Need-enum-known-r-8
+enum-known-r-8 c = search needs
+
+marking-named-requires : tie.Need-marking-named-requires
+marking-named-requires c κs = search needs
+
 enum-told-2 : tie.Need-enum-told-2
 enum-told-2 c = search needs
 
@@ -85,6 +91,10 @@ returns-9 : tie.Need-returns-9
 unfolding namesBy
 returns-9 c = search names-arm
 
+returns-10 : tie.Need-returns-10
+unfolding namesBy
+returns-10 c = search names-arm
+
 pub names-declared-spec : {M : Type 1} → statement M
 names-declared-spec =
     tie.close
@@ -103,6 +113,8 @@ names-declared-spec =
     enum-known-r-7
     event-known-requires
     operand-known-requires
+    enum-known-r-8
+    marking-named-requires
     enum-told-2
     returns
     returns-2
@@ -112,4 +124,5 @@ names-declared-spec =
     returns-6
     returns-7
     returns-8
-    returns-9)
+    returns-9
+    returns-10)

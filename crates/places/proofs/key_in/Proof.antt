@@ -1,5 +1,5 @@
 use Rattle.places.specs.Runs.{isMove}
-use Rattle.places.proofs.Keys.{move-key, pair-key}
+use Rattle.places.proofs.Keys.{move-key, pair-key, third-in}
 use borrow.Author.Needs.{needs}
 use Rattle.places.proofs.key_in.Statement.{statement}
 use Rattle.places.proofs.key_in.Tie as tie
@@ -17,7 +17,8 @@ add-third : tie.Need-add-third
 add-third c = search needs
 
 shared-slice-read-third : tie.Need-shared-slice-read-third
-shared-slice-read-third c = search needs
+unfolding isMove
+shared-slice-read-third c = search (needs, third-in)
 
 returns : tie.Need-returns
 unfolding isMove

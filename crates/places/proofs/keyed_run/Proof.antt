@@ -56,7 +56,20 @@ run-by-requires-4 c κs = search needs
 
 returns-4 : tie.Need-returns-4
 unfolding runOf beginOf endOf bodyLen
-returns-4 c = search run-keyed
+returns-4 c = search run-by-kind
+
+cast-run-by-9 : tie.Need-cast-run-by-9
+cast-run-by-9 c = search needs
+
+cast-run-by-10 : tie.Need-cast-run-by-10
+cast-run-by-10 c = search needs
+
+run-by-requires-5 : tie.Need-run-by-requires-5
+run-by-requires-5 c κs = search needs
+
+returns-5 : tie.Need-returns-5
+unfolding runOf beginOf endOf bodyLen
+returns-5 c = search run-keyed
 
 pub keyed-run-spec : {M : Type 1} → statement M
 keyed-run-spec =
@@ -77,4 +90,8 @@ keyed-run-spec =
     cast-run-by-7
     cast-run-by-8
     run-by-requires-4
-    returns-4)
+    returns-4
+    cast-run-by-9
+    cast-run-by-10
+    run-by-requires-5
+    returns-5)

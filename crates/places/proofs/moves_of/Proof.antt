@@ -4,7 +4,7 @@ use Prim.Native.Nat.{_-_}
 use borrow.Author.Needs.{needs}
 use Rattle.places.specs.Runs.{isMove, keyed}
 use Rattle.places.proofs.Counting.{inside-by}
-use Rattle.places.proofs.Keys.{key-room}
+use Rattle.places.proofs.Keys.{key-room, move-room}
 use Rattle.places.proofs.Scanning.{Moves, moves-begin, moves-stop, moves-hit, moves-miss, moves-end}
 use Rattle.places.proofs.moves_of.Statement.{statement}
 use Rattle.places.proofs.moves_of.Tie as tie
@@ -37,7 +37,7 @@ body-at-requires c κs = (search inside-by, search needs)
 
 key-in-requires : tie.Need-key-in-requires Inv-loop μ-loop
 unfolding keyed isMove
-key-in-requires c κs = (refl, search (key-room, inside-by))
+key-in-requires c κs = (refl, search (key-room, inside-by), search (move-room, inside-by))
 
 rank-requires-2 : tie.Need-rank-requires-2 Inv-loop μ-loop
 rank-requires-2 c κs = search needs

@@ -27,9 +27,12 @@ place-by-requires-7 c κs = search needs
 place-by-requires-8 : tie.Need-place-by-requires-8
 place-by-requires-8 c κs = search needs
 
+place-by-requires-9 : tie.Need-place-by-requires-9
+place-by-requires-9 c κs = search needs
+
 returns : tie.Need-returns
 unfolding notedAt
-returns c = cc
+returns c = simp (c .place-by9 .ensures, c .before .place-by8 .ensures, c .before .before .place-by7 .ensures, c .before .before .before .place-by6 .ensures, c .before .before .before .before .place-by5 .ensures, c .before .before .before .before .before .place-by4 .ensures, c .before .before .before .before .before .before .place-by3 .ensures, c .before .before .before .before .before .before .before .place-by2 .ensures, c .before .before .before .before .before .before .before .before .place-by .ensures)
 
 pub noted-spec : {M : Type 1} → statement M
 noted-spec =
@@ -43,4 +46,5 @@ noted-spec =
     place-by-requires-6
     place-by-requires-7
     place-by-requires-8
+    place-by-requires-9
     returns)

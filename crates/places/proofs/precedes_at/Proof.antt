@@ -1,5 +1,5 @@
 use Rattle.places.specs.Runs.{before}
-use Rattle.places.proofs.Keys.{key-room}
+use Rattle.places.proofs.Keys.{key-room, move-room}
 use borrow.Author.Needs.{needs}
 use Rattle.places.proofs.precedes_at.Statement.{statement}
 use Rattle.places.proofs.precedes_at.Tie as tie
@@ -8,7 +8,7 @@ body-at-requires : tie.Need-body-at-requires
 body-at-requires c κs = search needs
 
 key-in-requires : tie.Need-key-in-requires
-key-in-requires c κs = (search needs, search key-room)
+key-in-requires c κs = (search needs, search key-room, search move-room)
 
 precedes-requires : tie.Need-precedes-requires
 precedes-requires c κs = search needs

@@ -1,5 +1,5 @@
 use Rattle.places.proofs.Counting.{inside-by}
-use Rattle.places.proofs.Keys.{key-room}
+use Rattle.places.proofs.Keys.{key-room, move-room}
 use Rattle.places.proofs.Spots.{seek-past, seek-it, seek-none}
 use borrow.Author.Needs.{needs}
 use Rattle.places.proofs.seek_keyed.Statement.{statement}
@@ -18,7 +18,7 @@ body-at-requires : tie.Need-body-at-requires
 body-at-requires c κs = (search inside-by, search needs)
 
 key-in-requires : tie.Need-key-in-requires
-key-in-requires c κs = (search needs, search (key-room, inside-by))
+key-in-requires c κs = (search needs, search (key-room, inside-by), search (move-room, inside-by))
 
 same-key-requires : tie.Need-same-key-requires
 same-key-requires c κs = search needs

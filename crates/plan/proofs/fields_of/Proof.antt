@@ -54,6 +54,12 @@ enum-known-r-8 c = search needs
 fields-by-requires-8 : tie.Need-fields-by-requires-8
 fields-by-requires-8 c κs = search needs
 
+enum-known-r-9 : tie.Need-enum-known-r-9
+enum-known-r-9 c = search needs
+
+fields-by-requires-10 : tie.Need-fields-by-requires-10
+fields-by-requires-10 c κs = search needs
+
 enum-told : tie.Need-enum-told
 enum-told c = search needs
 
@@ -94,7 +100,11 @@ returns-8 c = c .fields-by8 .ensures ∙ sym (ap fieldsOf (c .before .before .r8
 
 returns-9 : tie.Need-returns-9
 unfolding field1 field2 field3 field4 wordField
-returns-9 c = c .fields-by9 .ensures ∙ sym (ap fieldsOf (c .before .enum-told .given .1))
+returns-9 c = c .fields-by9 .ensures ∙ sym (ap fieldsOf (c .before .before .r9 .given .1))
+
+returns-10 : tie.Need-returns-10
+unfolding field1 field2 field3 field4 wordField
+returns-10 c = c .fields-by10 .ensures ∙ sym (ap fieldsOf (c .before .enum-told .given .1))
 
 pub fields-of-spec : {M : Type 1} → statement M
 fields-of-spec =
@@ -116,8 +126,10 @@ fields-of-spec =
     fields-by-requires-7
     enum-known-r-8
     fields-by-requires-8
-    enum-told
+    enum-known-r-9
     fields-by-requires-9
+    enum-told
+    fields-by-requires-10
     returns
     returns-2
     returns-3
@@ -126,4 +138,5 @@ fields-of-spec =
     returns-6
     returns-7
     returns-8
-    returns-9)
+    returns-9
+    returns-10)

@@ -29,9 +29,13 @@ word-record-by-requires c κs = search needs
 
 returns-6 : tie.Need-returns-6
 unfolding recordBy
-returns-6 c =
+returns-6 c = rw (c .match .keys6)
+
+returns-7 : tie.Need-returns-7
+unfolding recordBy
+returns-7 c =
     let n = c .before .match .rest in
-    simp (ne-eqb _ _ (n .0 .0 .0 .0 .1), ne-eqb _ _ (n .0 .0 .0 .1), ne-eqb _ _ (n .0 .0 .1), ne-eqb _ _ (n .0 .1), ne-eqb _ _ (n .1)) (c .word-record-by .ensures)
+    simp (ne-eqb _ _ (n .0 .0 .0 .0 .0 .1), ne-eqb _ _ (n .0 .0 .0 .0 .1), ne-eqb _ _ (n .0 .0 .0 .1), ne-eqb _ _ (n .0 .0 .1), ne-eqb _ _ (n .0 .1), ne-eqb _ _ (n .1)) (c .word-record-by .ensures)
 
 pub record-by-spec : {M : Type 1} → statement M
-record-by-spec = tie.close (tie.spec word-record-by-requires returns returns-2 returns-3 returns-4 returns-5 returns-6)
+record-by-spec = tie.close (tie.spec word-record-by-requires returns returns-2 returns-3 returns-4 returns-5 returns-6 returns-7)

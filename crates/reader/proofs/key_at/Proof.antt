@@ -52,6 +52,9 @@ key-by-requires-8 c κs = search needs
 key-by-requires-9 : tie.Need-key-by-requires-9
 key-by-requires-9 c κs = search needs
 
+key-by-requires-10 : tie.Need-key-by-requires-10
+key-by-requires-10 c κs = search needs
+
 returns : tie.Need-returns
 unfolding recordOf keyOf
 returns c = rw (← c .before .before .before .before .before .within .ensures .1, c .before .match .keys1) cc
@@ -86,9 +89,14 @@ returns-8 c = rw (← c .before .before .before .before .before .within .ensures
 
 returns-9 : tie.Need-returns-9
 unfolding recordOf keyOf
-returns-9 c =
+returns-9 c = rw (← c .before .before .before .before .before .within .ensures .1, c .before .match .keys9) (simp (getD-drop, add-zero) cc)
+
+returns-10 : tie.Need-returns-10
+unfolding recordOf keyOf
+returns-10 c =
     let n = c .before .match .rest in
     simp (
+      ne-eqb _ _ (n .0 .0 .0 .0 .0 .0 .0 .0 .1),
       ne-eqb _ _ (n .0 .0 .0 .0 .0 .0 .0 .1),
       ne-eqb _ _ (n .0 .0 .0 .0 .0 .0 .1),
       ne-eqb _ _ (n .0 .0 .0 .0 .0 .1),
@@ -118,6 +126,7 @@ key-at-spec =
     key-by-requires-7
     key-by-requires-8
     key-by-requires-9
+    key-by-requires-10
     returns
     returns-2
     returns-3
@@ -126,4 +135,5 @@ key-at-spec =
     returns-6
     returns-7
     returns-8
-    returns-9)
+    returns-9
+    returns-10)

@@ -89,9 +89,14 @@ returns-8 c = rw (← c .before .before .before .before .before .within .ensures
 
 returns-9 : tie.Need-returns-9
 unfolding recordOf
-returns-9 c =
+returns-9 c = rw (← c .before .before .before .before .within .ensures .1, c .match .keys9) (simp (getD-drop, add-zero) cc)
+
+returns-10 : tie.Need-returns-10
+unfolding recordOf
+returns-10 c =
     let n = c .match .rest in
     simp (
+      ne-eqb _ _ (n .0 .0 .0 .0 .0 .0 .0 .0 .1),
       ne-eqb _ _ (n .0 .0 .0 .0 .0 .0 .0 .1),
       ne-eqb _ _ (n .0 .0 .0 .0 .0 .0 .1),
       ne-eqb _ _ (n .0 .0 .0 .0 .0 .1),
@@ -130,4 +135,5 @@ record-of-spec =
     returns-6
     returns-7
     returns-8
-    returns-9)
+    returns-9
+    returns-10)

@@ -20,7 +20,7 @@ array-read-result : tie.Need-array-read-result
 array-read-result c = search needs
 
 lens : List ℕ
-lens = 3 ∷ 3 ∷ 3 ∷ 4 ∷ 11 ∷ 4 ∷ 10 ∷ 11 ∷ 255 ∷ 255 ∷ 255 ∷ 255 ∷ 255 ∷ 255 ∷ 255 ∷ 0 ∷ []
+lens = 3 ∷ 3 ∷ 3 ∷ 4 ∷ 11 ∷ 4 ∷ 10 ∷ 11 ∷ 2 ∷ 255 ∷ 255 ∷ 255 ∷ 255 ∷ 255 ∷ 255 ∷ 0 ∷ []
 
 -- what the function answers
 unfoldable given : ℕ → ℕ

@@ -3,6 +3,7 @@ use lib.Dec.{leb}
 use mathlib.Core.Path.{sym, ap, _∙_}
 use Rattle.records.specs.Range.{inRange}
 use borrow.Author.Needs.{needs}
+use Rattle.records.proofs.Arms.{range-arm}
 use Rattle.records.proofs.in_range.Statement.{statement}
 use Rattle.records.proofs.in_range.Tie as tie
 
@@ -36,33 +37,36 @@ operand-in-range-requires c κs = search needs
 enum-told-3 : tie.Need-enum-told-3
 enum-told-3 c = search needs
 
+enum-told-4 : tie.Need-enum-told-4
+enum-told-4 c = search needs
+
 returns : tie.Need-returns
 unfolding inRange
-returns c = cc
+returns c = search range-arm
 
 returns-2 : tie.Need-returns-2
 unfolding inRange
-returns-2 c = cc
+returns-2 c = search range-arm
 
 returns-3 : tie.Need-returns-3
 unfolding inRange
-returns-3 c = cc
+returns-3 c = search range-arm
 
 returns-4 : tie.Need-returns-4
 unfolding inRange
-returns-4 c = cc
+returns-4 c = search range-arm
 
 returns-5 : tie.Need-returns-5
 unfolding inRange
-returns-5 c = sym (ap inRange (c .before .r4 .given .1))
+returns-5 c = search range-arm
 
 returns-6 : tie.Need-returns-6
 unfolding inRange
-returns-6 c = cc
+returns-6 c = search range-arm
 
 returns-7 : tie.Need-returns-7
 unfolding inRange
-returns-7 c = cc
+returns-7 c = search range-arm
 
 returns-8 : tie.Need-returns-8
 unfolding inRange
@@ -71,7 +75,11 @@ returns-8 c =
 
 returns-9 : tie.Need-returns-9
 unfolding inRange
-returns-9 c = cc
+returns-9 c = search range-arm
+
+returns-10 : tie.Need-returns-10
+unfolding inRange
+returns-10 c = search range-arm
 
 pub in-range-spec : {M : Type 1} → statement M
 in-range-spec =
@@ -87,6 +95,7 @@ in-range-spec =
     enum-known-r-6
     operand-in-range-requires
     enum-told-3
+    enum-told-4
     returns
     returns-2
     returns-3
@@ -95,4 +104,5 @@ in-range-spec =
     returns-6
     returns-7
     returns-8
-    returns-9)
+    returns-9
+    returns-10)

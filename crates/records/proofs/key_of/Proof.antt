@@ -52,6 +52,12 @@ enum-known-r-7 c = search needs
 key-by-requires-8 : tie.Need-key-by-requires-8
 key-by-requires-8 c κs = search needs
 
+enum-known-r-8 : tie.Need-enum-known-r-8
+enum-known-r-8 c = search needs
+
+key-by-requires-10 : tie.Need-key-by-requires-10
+key-by-requires-10 c κs = search needs
+
 enum-told-2 : tie.Need-enum-told-2
 enum-told-2 c = search needs
 
@@ -92,7 +98,11 @@ returns-8 c = c .key-by8 .ensures ∙ sym (ap keyOf (c .before .before .r7 .give
 
 returns-9 : tie.Need-returns-9
 unfolding keyOf
-returns-9 c = cc
+returns-9 c = c .key-by9 .ensures ∙ sym (ap keyOf (c .before .before .r8 .given .1))
+
+returns-10 : tie.Need-returns-10
+unfolding keyOf
+returns-10 c = cc
 
 pub key-of-spec : {M : Type 1} → statement M
 key-of-spec =
@@ -114,8 +124,10 @@ key-of-spec =
     key-by-requires-7
     enum-known-r-7
     key-by-requires-8
-    enum-told-2
+    enum-known-r-8
     key-by-requires-9
+    enum-told-2
+    key-by-requires-10
     returns
     returns-2
     returns-3
@@ -124,4 +136,5 @@ key-of-spec =
     returns-6
     returns-7
     returns-8
-    returns-9)
+    returns-9
+    returns-10)

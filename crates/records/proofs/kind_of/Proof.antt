@@ -30,6 +30,9 @@ enum-told-8 c = search needs
 enum-told-9 : tie.Need-enum-told-9
 enum-told-9 c = search needs
 
+enum-told-10 : tie.Need-enum-told-10
+enum-told-10 c = search needs
+
 returns : tie.Need-returns
 unfolding kindOf
 returns c = search needs
@@ -66,6 +69,10 @@ returns-9 : tie.Need-returns-9
 unfolding kindOf
 returns-9 c = search needs
 
+returns-10 : tie.Need-returns-10
+unfolding kindOf
+returns-10 c = search needs
+
 pub kind-of-spec : {M : Type 1} → statement M
 kind-of-spec =
     tie.close
@@ -79,6 +86,7 @@ kind-of-spec =
     enum-told-7
     enum-told-8
     enum-told-9
+    enum-told-10
     returns
     returns-2
     returns-3
@@ -87,4 +95,5 @@ kind-of-spec =
     returns-6
     returns-7
     returns-8
-    returns-9)
+    returns-9
+    returns-10)

@@ -85,6 +85,15 @@ put-bytes-requires-8 c κs = search needs
 put-word-requires-3 : tie.Need-put-word-requires-3
 put-word-requires-3 c κs = search needs
 
+enum-known-r-9 : tie.Need-enum-known-r-9
+enum-known-r-9 c = search needs
+
+slice-aggregate-put-bytes-10 : tie.Need-slice-aggregate-put-bytes-10
+slice-aggregate-put-bytes-10 c = search needs
+
+put-bytes-requires-10 : tie.Need-put-bytes-requires-10
+put-bytes-requires-10 c κs = search needs
+
 enum-told : tie.Need-enum-told
 enum-told c = search needs
 
@@ -154,6 +163,13 @@ returns-9 : tie.Need-returns-9
 unfolding bytesOf
 returns-9 c = search whole-put
 
+same-length-10 : tie.Need-same-length-10
+same-length-10 c = search needs
+
+returns-10 : tie.Need-returns-10
+unfolding bytesOf
+returns-10 c = search whole-put
+
 pub put-record-spec : {M : Type 1} → statement M
 put-record-spec =
     tie.close
@@ -185,9 +201,12 @@ put-record-spec =
     slice-aggregate-put-bytes-8
     put-bytes-requires-8
     put-word-requires-3
-    enum-told
+    enum-known-r-9
     slice-aggregate-put-bytes-9
     put-bytes-requires-9
+    enum-told
+    slice-aggregate-put-bytes-10
+    put-bytes-requires-10
     same-length
     returns
     same-length-2
@@ -205,4 +224,6 @@ put-record-spec =
     same-length-8
     returns-8
     same-length-9
-    returns-9)
+    returns-9
+    same-length-10
+    returns-10)
