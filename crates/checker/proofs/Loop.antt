@@ -170,19 +170,20 @@ module _ (s : List ℕ) (n : Counts) (known controllable : ℕ) (owner steps : L
       (past s 0x12 (b r) y (past s 0x11 (a (contextBy (keyBy 0 0 0 0) n (eventsBy known controllable owner steps) (modulesBy 0 states₀) vs)) x h))
 
   -- from the supervisors on
-  pub after-seven : (q vq mq dq sq : RecordKey) (i v m d x : ℕ) (ms : Modules) (supervisors : ℕ) (states₀ alphabet₀ states alphabet counts : List ℕ) {p vp mp dp sp : Places}
-      → Reached s (contextBy q n (eventsBy known controllable owner steps) ms (supervisorsBy 0 states₀ alphabet₀)) i p
+  pub after-eight : (q vq mq dq sq tq : RecordKey) (i v m d x t modules supervisors : ℕ) (sizes states₀ alphabet₀ states alphabet counts : List ℕ) {p vp mp dp sp tp : Places}
+      → Reached s (contextBy q n (eventsBy known controllable owner steps) (modulesBy modules sizes) (supervisorsBy 0 states₀ alphabet₀)) i p
       → Passed s 0x14 (atSupervisors q n known 0 states₀ alphabet₀) i (atSupervisors vq n known supervisors states alphabet) v → vp ≡ notedPast p (q .kind) 0x14 i v
       → Passed s 0x15 (atSupervisors vq n known supervisors states alphabet) v (atSupervisors mq n known supervisors states alphabet) m
       → mp ≡ notedPast vp (vq .kind) 0x15 v m
       → Passed s 0x16 (atDisablings mq n known controllable supervisors states alphabet) m (atDisablings dq n known controllable supervisors states alphabet) d
       → dp ≡ notedPast mp (mq .kind) 0x16 m d
       → Passed s 0x17 (atSteps dq n known controllable owner steps) d (atSteps sq n known controllable owner counts) x → sp ≡ notedPast dp (dq .kind) 0x17 d x
-      → Reached s (contextBy sq n (eventsBy known controllable owner counts) ms (supervisorsBy supervisors states alphabet)) x sp
-  unfolding Passed atSupervisors atDisablings atSteps
-  after-seven q vq mq dq sq i v m t x ms supervisors states₀ alphabet₀ states alphabet counts h a w b u c y d z =
-      let r : Context = contextBy (keyBy 0 0 0 0) n (eventsBy known controllable owner steps) ms (supervisorsBy supervisors states alphabet) in
-      past s 0x17 (d r) z (past s 0x16 (c r) y (past s 0x15 (b r) u (past s 0x14 (a r) w h)))
+      → Passed s 0x18 (atModules sq n modules sizes) x (atModules tq n modules sizes) t → tp ≡ notedPast sp (sq .kind) 0x18 x t
+      → Reached s (contextBy tq n (eventsBy known controllable owner counts) (modulesBy modules sizes) (supervisorsBy supervisors states alphabet)) t tp
+  unfolding Passed atSupervisors atDisablings atSteps atModules
+  after-eight q vq mq dq sq tq i v m l x t modules supervisors sizes states₀ alphabet₀ states alphabet counts h a w b u c y d z e g =
+      let r : List ℕ → Context = λ k. contextBy (keyBy 0 0 0 0) n (eventsBy known controllable owner k) (modulesBy modules sizes) (supervisorsBy supervisors states alphabet) in
+      past s 0x18 (e (r counts)) g (past s 0x17 (d (r steps)) z (past s 0x16 (c (r steps)) y (past s 0x15 (b (r steps)) u (past s 0x14 (a (r steps)) w h))))
 
 -- ---- the end record where the stretches stop
 

@@ -19,7 +19,7 @@ use Rattle.records.specs.Kinds.{kindOf, bodyLen, noLen, sizeBy}
 use Rattle.records.specs.Key.{keyBy, keyOf, precedes}
 use Rattle.records.specs.Range.{inRange}
 use Rattle.records.specs.declared.Record.{Record}
-use Rattle.records.specs.declared.Record.the-variants.{Head, Event, Module, ModuleMove, Supervisor, SupervisorMove, Disabling, Step}
+use Rattle.records.specs.declared.Record.the-variants.{Head, Event, Module, ModuleMove, Supervisor, SupervisorMove, Disabling, Step, Marking}
 use Rattle.records.specs.declared.RecordKey.{RecordKey}
 use Rattle.reader.specs.Read.{recordOf, readAt}
 use Rattle.reader.specs.Walk.{walkFrom}
@@ -86,6 +86,15 @@ module _ (s : List ℕ) (i k n : ℕ) {t : Bool} (e : t ≡ standsAt s i k n) (h
     -- a field's offset
     pub inside-by : (m : ℕ) → 0x11 ≤ k → k ≤ 0x17 → m ≤ 4 → length s < 2 ^ 64 → i + m < 2 ^ 64
     inside-by m a b q l = let r : i + 4 ≤ length s = fields-by a b in let t : i + m ≤ length s = omega arith in lt-of-le-of-lt t l
+
+-- the offset of a marking's field
+module _ (s : List ℕ) (i n : ℕ) {t : Bool} (e : t ≡ standsAt s i 0x18 n) (h : not t ≡ false) (z : n ≡ sizeBy 0x18) (m : ℕ) (a : m ≤ 2) where
+  pub marking-inside : i + m < length s
+  unfolding bodyLen
+  marking-inside = let r : i + n ≤ length s = room-by s i 0x18 n e h in omega (arith, z)
+
+  pub marking-fits : length s < 2 ^ 64 → i + m < 2 ^ 64
+  marking-fits l = let b : i + m < length s = marking-inside in let t : i + m ≤ length s = omega arith in lt-of-le-of-lt t l
 
 pub reads-whole : (s : List ℕ) (i k n : ℕ) → Whole-there s i k n → (bodyLen k ≡ noLen → ⊥) → n ≡ sizeBy k
     → readAt s i ≡ Whole (recordOf k (drop (i + 1) s)) (i + n)
@@ -160,6 +169,10 @@ module _ (s : List ℕ) (j : ℕ) {f : Fields} (g : f ≡ fieldsAt s j) where
       reads-whole s j 0x17 n w (λ q. absurd (omega arith)) z
       ∙ simp (field-at s j 0 1 refl, field-at s j 1 2 refl, field-at s j 2 3 refl, word-at s j 3 4 refl)
       (ap (λ (x : Fields). Whole (Step (x .first) (x .second) (x .third) (wordAt s (j + 4))) (j + n)) (sym g))
+
+reads-marking : (s : List ℕ) (j : ℕ) {n : ℕ} → n ≡ sizeBy 0x18 → Whole-there s j 0x18 n → readAt s j ≡ Whole (Marking (getD s (j + 1) 0) (getD s (j + 2) 0)) (j + n)
+unfolding recordOf bodyLen
+reads-marking s j {n} z w = reads-whole s j 0x18 n w (λ q. absurd (omega arith)) z ∙ simp (field-at s j 0 1 refl, field-at s j 1 2 refl)
 
 -- an index into a table, by the tests before it
 pub index-by : (k e m : ℕ) (o w : Bool) → k ≡ e → not ((o && ltb e m) && w) ≡ false → k < m
@@ -428,3 +441,24 @@ module _ (s : List ℕ) (c : Context → Context) (i : ℕ) (n : Counts) (p : Re
       ≡ atSteps (keyBy 0x17 (f .first) (f .second) 0) n known controllable owner (set counts k u) r = simp (lt-ltb (f .first) 64 l) cc
       in
       subst (λ (x : Context). Stretch s 0x17 (c r) i x (j + bytes)) g2 d
+
+module _ (s : List ℕ) (c : Context → Context) (i : ℕ) (n : Counts) (p : RecordKey) (j : ℕ) where
+  abbrev owner : ℕ
+  owner = getD s (j + 1) 0
+
+  abbrev state : ℕ
+  state = getD s (j + 2) 0
+
+  pub marking-step : (known : ℕ) (states : List ℕ) {b o t : Bool} {k bytes : ℕ} → bytes ≡ sizeBy 0x18 → b ≡ standsAt s j 0x18 bytes → not b ≡ false → k ≡ owner → t ≡ bit known owner
+      → o ≡ precedes p (keyBy 0x18 owner state 0) → not (o && ((ltb owner (n .modules) && t) && ltb state (getD states k 0))) ≡ false → Passed s 0x18 c i (atModules p n known states) j
+      → Passed s 0x18 c i (atModules (keyBy 0x18 owner state 0) n known states) (j + bytes)
+  unfolding Passed atModules judgeBy orderBy indexBy namesBy rulesBy allBy inRange keyOf kindOf countsAfter eventsAfter modulesAfter supervisorsAfter
+  marking-step known states {o = o} {t = t} {k = k} {bytes = bytes} sized e b1 k1 t1 o1 h v r =
+      let declared : Bool = ltb owner (n .modules) && t in
+      let below : Bool = ltb state (getD states k 0) in
+      let q = both o (declared && below) (not-false _ h) in
+      let m = both declared below (q .1) in
+      let d2 : (ltb owner (n .modules) && bit known owner) ≡ declared = cc in
+      let b2 : ltb state (getD states owner 0) ≡ below = cc in
+      reaches s 0x18 (j + bytes) (reads-marking s j sized (stands-told s j 0x18 bytes e b1)) (omega (arith, sized))
+      (simp (sym o1 ∙ q .0, d2 ∙ m .0, b2 ∙ m .1)) refl refl (λ z. absurd (omega arith)) (v r)

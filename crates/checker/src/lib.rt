@@ -490,6 +490,46 @@ fn steps(
     }
 }
 
+// Passes the markings from an offset on, in the same way.
+fn markings(
+    image: &[u8],
+    from: usize,
+    before: RecordKey,
+    n: Counts,
+    known: u64,
+    states: &[u8; 16],
+) -> Place
+    ensures { λ p. ⌜ Passed (now (image .entry)) 0x18 (atModules before n known (now (states .entry))) from (atModules (p .last) n known (now (states .entry))) (p .next) ⌝ }
+{
+    let mut last = before;
+    let mut i = from;
+    let size = records::size_by(0x18);
+    loop {
+        if !stands(image, i, 0x18, size) {
+            return Place { last, next: i };
+        }
+        let m = image[i + 1];
+        let st = image[i + 2];
+        if 16 <= m {
+            return Place { last, next: i };
+        }
+        let k = words::wide(m);
+        let count = states[k];
+        let key = RecordKey {
+            kind: 0x18,
+            first: m,
+            second: st,
+            third: 0,
+        };
+        let named = (m < n.modules) & bits::has(known, m) & (st < count);
+        if !(records::precedes(last, key) & named) {
+            return Place { last, next: i };
+        }
+        last = key;
+        i = i + size;
+    }
+}
+
 // Whether a faultless end record stands at an offset.
 fn end_kept(
     image: &[u8],
@@ -625,13 +665,16 @@ fn after_modules(
     );
     let sq = s.last;
     let sp = noted_past(dp, dq.kind, 0x17, d.next, s.next);
-    if end_kept(image, s.next, sq, n, modules, v.known, known) {
-        let p = places::noted(sp, sq.kind, 0x1f, s.next);
-        return end_at(image, s.next, p);
+    let t = markings(image, s.next, sq, n, modules, sizes);
+    let tq = t.last;
+    let tp = noted_past(sp, sq.kind, 0x18, s.next, t.next);
+    if end_kept(image, t.next, tq, n, modules, v.known, known) {
+        let p = places::noted(tp, tq.kind, 0x1f, t.next);
+        return end_at(image, t.next, p);
     }
     let c = Context {
         begun: true,
-        last: sq,
+        last: tq,
         counts: n,
         events: Events {
             known,
@@ -649,7 +692,7 @@ fn after_modules(
             alphabet,
         },
     };
-    judged(image, s.next, c, sp)
+    judged(image, t.next, c, tp)
 }
 
 // After the head: the records from the events on.

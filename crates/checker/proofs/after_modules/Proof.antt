@@ -1,5 +1,5 @@
 use borrow.Author.Needs.{needs}
-use Rattle.checker.proofs.Loop.{after-seven, end-inside, end-by}
+use Rattle.checker.proofs.Loop.{after-eight, end-inside, end-by}
 use Rattle.checker.proofs.after_modules.Statement.{statement}
 use Rattle.checker.proofs.after_modules.Tie as tie
 
@@ -27,6 +27,12 @@ steps-requires c κs = search needs
 noted-past-requires-4 : tie.Need-noted-past-requires-4
 noted-past-requires-4 c κs = search needs
 
+markings-requires : tie.Need-markings-requires
+markings-requires c κs = search needs
+
+noted-past-requires-5 : tie.Need-noted-past-requires-5
+noted-past-requires-5 c κs = search needs
+
 end-kept-requires : tie.Need-end-kept-requires
 end-kept-requires c κs = search needs
 
@@ -39,25 +45,27 @@ end-at-requires c κs = end-inside _ _ _ _ _ _ _ (c .before .before .end-kept .e
 returns : tie.Need-returns
 returns c =
     let e = c .before .before .before in
-    let a = e .before in
+    let t = e .before in
+    let a = t .before .before .before in
     let d = a .before .before .before .before in
     let m = d .before .before .before .before .before in
     let v = m .before .before .before .before .before in
     end-by _ _ _ _ _ _ _ (e .end-kept .ensures) (c .before .before .if1 .taken)
-    (after-seven _ _ _ _ _ _ _ _ _ _ _ _ _ _ _ _ _ _ _ _ _ _ _ (v .before .before .before .before .before .before .pre) (v .before .before .supervisors .ensures) (v .noted-past .ensures)
+    (after-eight _ _ _ _ _ _ _ _ _ _ _ _ _ _ _ _ _ _ _ _ _ _ _ _ _ _ (v .before .before .before .before .before .before .pre) (v .before .before .supervisors .ensures) (v .noted-past .ensures)
     (m .before .before .supervisor-moves .ensures) (m .noted-past2 .ensures) (d .before .before .disablings .ensures) (d .noted-past3 .ensures)
-    (a .before .before .steps .ensures) (a .noted-past4 .ensures))
+    (a .before .before .steps .ensures) (a .noted-past4 .ensures) (t .before .before .markings .ensures) (t .noted-past5 .ensures))
     (c .before .noted .ensures) (c .end-at .ensures)
 
 judged-requires : tie.Need-judged-requires
 judged-requires c κs =
-    let a = c .before .before .before .before in
+    let t = c .before .before .before .before in
+    let a = t .before .before .before in
     let d = a .before .before .before .before in
     let m = d .before .before .before .before .before in
     let v = m .before .before .before .before .before in
-    after-seven _ _ _ _ _ _ _ _ _ _ _ _ _ _ _ _ _ _ _ _ _ _ _ (v .before .before .before .before .before .before .pre) (v .before .before .supervisors .ensures) (v .noted-past .ensures)
+    after-eight _ _ _ _ _ _ _ _ _ _ _ _ _ _ _ _ _ _ _ _ _ _ _ _ _ _ (v .before .before .before .before .before .before .pre) (v .before .before .supervisors .ensures) (v .noted-past .ensures)
     (m .before .before .supervisor-moves .ensures) (m .noted-past2 .ensures) (d .before .before .disablings .ensures) (d .noted-past3 .ensures)
-    (a .before .before .steps .ensures) (a .noted-past4 .ensures)
+    (a .before .before .steps .ensures) (a .noted-past4 .ensures) (t .before .before .markings .ensures) (t .noted-past5 .ensures)
 
 returns-2 : tie.Need-returns-2
 returns-2 c = search needs
@@ -74,6 +82,8 @@ after-modules-spec =
     noted-past-requires-3
     steps-requires
     noted-past-requires-4
+    markings-requires
+    noted-past-requires-5
     end-kept-requires
     noted-requires
     end-at-requires
