@@ -39,6 +39,7 @@ uint32_t pewterslug_version(void);
 #define PEWTERSLUG_MESSAGE_BYTES 11  /* the longest message */
 #define PEWTERSLUG_RELEASE_BYTES 4
 #define PEWTERSLUG_STEP_BYTES 128    /* the longest answer of a step: 32 releases of 4 bytes */
+#define PEWTERSLUG_STUCK_BYTES 4143  /* the longest answer of find_stuck: a word of 4,095 events and 48 states */
 
 /* How many at most: modules, supervisors and events of a plan; responses queued and outputs of a module. */
 #define PEWTERSLUG_MODULE_LIMIT 16
@@ -63,10 +64,12 @@ uint32_t pewterslug_version(void);
  *   15 supervisor move      5  supervisor  from state        event             to
  *   16 disabling           11  supervisor  state                                       events disabled there, a mask, not 0
  *   17 procedure step      12  event       index 0 to 63     operation                 operand
+ *   18 marking              3  module      marked state
  *   1F end                  1
  *
  * Records ascend by kind, and within a kind strictly: events, modules and supervisors by their number, moves by owner, state and event,
- * disablings by supervisor and state, steps by event and index. The indices of an event's steps run 0, 1, 2 without a gap. */
+ * disablings by supervisor and state, steps by event and index, markings by module and state. The indices of an event's steps run 0, 1, 2
+ * without a gap. A module without a marking has all its states marked. */
 enum pewterslug_record {
     PEWTERSLUG_RECORD_HEAD = 0x10,
     PEWTERSLUG_RECORD_EVENT = 0x11,
@@ -76,6 +79,7 @@ enum pewterslug_record {
     PEWTERSLUG_RECORD_SUPERVISOR_MOVE = 0x15,
     PEWTERSLUG_RECORD_DISABLING = 0x16,
     PEWTERSLUG_RECORD_STEP = 0x17,
+    PEWTERSLUG_RECORD_MARKING = 0x18,
     PEWTERSLUG_RECORD_END = 0x1F
 };
 
@@ -125,7 +129,9 @@ enum pewterslug_done {
     PEWTERSLUG_NONE = 3,  /* a turn: none */
     PEWTERSLUG_BIDS = 4,  /* a module bids, the value is the supervisor */
     PEWTERSLUG_SENDS = 5, /* a supervisor sends its permit, the value is the module */
-    PEWTERSLUG_WAITS = 6  /* a step that waits */
+    PEWTERSLUG_WAITS = 6, /* a step that waits */
+    PEWTERSLUG_FREE = 7,  /* find_stuck: the plan never gets stuck */
+    PEWTERSLUG_STUCK = 8  /* find_stuck: it may; the word that leads there and the state are written */
 };
 
 static inline uint8_t pewterslug_number(uint64_t answer) { return (uint8_t)answer; }
@@ -151,7 +157,8 @@ enum pewterslug_refusal {
     PEWTERSLUG_REFUSAL_OUT_OF_TURN = 12,
     PEWTERSLUG_REFUSAL_QUEUE_FULL = 13,
     PEWTERSLUG_REFUSAL_FLOW_READING = 14,
-    PEWTERSLUG_REFUSAL_BUFFER_TOO_SHORT = 15
+    PEWTERSLUG_REFUSAL_BUFFER_TOO_SHORT = 15,
+    PEWTERSLUG_REFUSAL_TOO_MANY_STATES = 16
 };
 
 /* The condition of a number, for a log or a display. */
@@ -174,6 +181,7 @@ static inline const char *pewterslug_refusal_text(uint8_t number)
     case PEWTERSLUG_REFUSAL_QUEUE_FULL: return "response queue full";
     case PEWTERSLUG_REFUSAL_FLOW_READING: return "bad flow reading";
     case PEWTERSLUG_REFUSAL_BUFFER_TOO_SHORT: return "output buffer shorter than the answer";
+    case PEWTERSLUG_REFUSAL_TOO_MANY_STATES: return "more than 4,096 reachable joint states";
     default: return "unknown number";
     }
 }
@@ -301,6 +309,19 @@ uint64_t pewterslug_read_record(const uint8_t *image, size_t image_length, size_
  * at. A kind that is none is 5. */
 uint64_t pewterslug_write_record(uint8_t kind, uint8_t first, uint8_t second, uint8_t third, uint8_t fourth, uint64_t word,
                                  uint8_t *buffer, size_t buffer_length);
+
+/* Whether the plan ever gets stuck: a question for a workstation and not for a device. It takes about 2.0 MB of stack, and time that grows
+ * with the joint states times the events.
+ *
+ * A joint state is the states of all modules and all supervisors. An event may happen where its module has a move by it and, if it is
+ * controllable, no supervisor disables it; nothing else of a turn counts. A reachable joint state is stuck if no word of events leads from
+ * it to one with all modules marked. If there is none, the call did PEWTERSLUG_FREE and wrote nothing. If there is one, it did
+ * PEWTERSLUG_STUCK and wrote, a byte for each number, the shortest word that leads to a stuck joint state, of several the first by event
+ * numbers, and then the states that it leads to, modules first. The word's length is the answer's less the plan's modules and supervisors.
+ *
+ * After the image's numbers comes 16, where more than 4,096 joint states can be reached, whatever the buffer; then 15, where the buffer is
+ * shorter than what is to be written. PEWTERSLUG_STUCK_BYTES are always enough. */
+uint64_t pewterslug_find_stuck(const uint8_t *image, size_t image_length, uint8_t *buffer, size_t buffer_length);
 
 /* ---- one device ---- */
 

@@ -1,6 +1,6 @@
 /* The C interface from C, and from C++: the version; the two-valve plan (docs/two-valve.hex) on one device, then on many with the bytes of
- * each message, then refusals; and what the header itself has, its names, texts and what it reads from state bytes. tests/interface.sh
- * compares what this prints with tests/interface.expected. */
+ * each message, then refusals, and whether a plan gets stuck; and what the header itself has, its names, texts and what it reads from state
+ * bytes. tests/interface.sh compares what this prints with tests/interface.expected. */
 #include "pewterslug.h"
 
 #include <inttypes.h>
@@ -80,12 +80,14 @@ static void checks(void)
     const uint8_t end[] = {0x1F};
     const uint8_t undeclared[] = {0x10, 0x01, 0x00, 0x01, 0x1F};
     const uint8_t unknown[] = {0x20};
+    const uint8_t marking[] = {0x10, 0x01, 0x00, 0x01, 0x11, 0x00, 0x00, 0x00, 0x12, 0x00, 0x02, 0x00, 0x18, 0x00, 0x02, 0x1F};
 
     say("check P", pewterslug_check(plan, sizeof plan));
     say("check empty", pewterslug_check(plan, 0));
     say("check 1F", pewterslug_check(end, sizeof end));
     say("check 10 01 00 01 1F", pewterslug_check(undeclared, sizeof undeclared));
     say("check 20", pewterslug_check(unknown, sizeof unknown));
+    say("check a marking of state 2 of 2", pewterslug_check(marking, sizeof marking));
     say("check 49153 zeros", pewterslug_check(long_image, sizeof long_image));
 }
 
@@ -289,6 +291,8 @@ static void build_named(void)
     add(PEWTERSLUG_RECORD_STEP, 2, 3, PEWTERSLUG_OPERATION_WAIT_LITRES, 0, pewterslug_litres_word(131072));
     add(PEWTERSLUG_RECORD_STEP, 2, 4, PEWTERSLUG_OPERATION_OUTPUT_OFF, 0, 31);
     add(PEWTERSLUG_RECORD_STEP, 2, 5, PEWTERSLUG_OPERATION_RESPOND, 0, 1);
+    add(PEWTERSLUG_RECORD_MARKING, 0, 0, 0, 0, 0);
+    add(PEWTERSLUG_RECORD_MARKING, 0, 2, 0, 0, 0);
     add(PEWTERSLUG_RECORD_END, 0, 0, 0, 0, 0);
     say("check", pewterslug_check(named, named_length));
 }
@@ -380,17 +384,76 @@ static void numbers(void)
     REFUSED(PEWTERSLUG_REFUSAL_QUEUE_FULL, answer);
 }
 
+/* The two-valve plan with a pump that never stops and is marked only where it is off: once it has started, the plan is stuck. */
+static size_t build_stuck(uint8_t *image)
+{
+    const uint8_t last[] = {PEWTERSLUG_RECORD_MARKING, 0, 0, PEWTERSLUG_RECORD_END};
+
+    memcpy(image, plan, 33);                         /* up to the pump's move by event 1 */
+    memcpy(image + 33, plan + 38, sizeof plan - 39); /* from behind it up to the end record */
+    memcpy(image + sizeof plan - 6, last, sizeof last);
+    return sizeof plan - 6 + sizeof last;
+}
+
+static size_t put(uint8_t *image, size_t at, uint8_t kind, uint8_t first, uint8_t second, uint8_t third, uint8_t fourth)
+{
+    return at + pewterslug_length(pewterslug_write_record(kind, first, second, third, fourth, 0, image + at, PEWTERSLUG_RECORD_BYTES));
+}
+
+/* So many modules, up to 16, that each move once, so that there are 2 to that power joint states. */
+static size_t build_many(uint8_t *image, uint8_t modules)
+{
+    size_t at = put(image, 0, PEWTERSLUG_RECORD_HEAD, modules, 0, modules, 0);
+
+    for (uint8_t m = 0; m < modules; m++)
+        at = put(image, at, PEWTERSLUG_RECORD_EVENT, m, m, PEWTERSLUG_CLASS_CONTROLLABLE, 0);
+    for (uint8_t m = 0; m < modules; m++)
+        at = put(image, at, PEWTERSLUG_RECORD_MODULE, m, 2, 0, 0);
+    for (uint8_t m = 0; m < modules; m++)
+        at = put(image, at, PEWTERSLUG_RECORD_MODULE_MOVE, m, 0, m, 1);
+    return put(image, at, PEWTERSLUG_RECORD_END, 0, 0, 0, 0);
+}
+
+static void find_stuck(void)
+{
+    uint8_t image[256], buffer[PEWTERSLUG_STUCK_BYTES + 1], before[sizeof buffer];
+    size_t length = build_stuck(image);
+    uint64_t answer;
+
+    memset(buffer, 0xAA, sizeof buffer);
+    memcpy(before, buffer, sizeof buffer);
+    say("find_stuck P into 0 bytes", pewterslug_find_stuck(plan, sizeof plan, buffer, 0));
+    left(buffer, before, sizeof buffer);
+    say("find_stuck P cut", pewterslug_find_stuck(plan, sizeof plan - 1, buffer, sizeof buffer));
+    left(buffer, before, sizeof buffer);
+    say("find_stuck into 4 bytes", pewterslug_find_stuck(image, length, buffer, 4));
+    left(buffer, before, sizeof buffer);
+    answer = pewterslug_find_stuck(image, length, buffer, 5);
+    say("find_stuck into 5 bytes", answer);
+    show("word and states", buffer, pewterslug_length(answer));
+    left(buffer + 5, before + 5, sizeof buffer - 5);
+    memcpy(buffer, before, sizeof buffer);
+    answer = pewterslug_find_stuck(image, length, buffer, PEWTERSLUG_STUCK_BYTES);
+    say("find_stuck into the most", answer);
+    show("word and states", buffer, pewterslug_length(answer));
+    left(buffer + 5, before + 5, sizeof buffer - 5);
+    memcpy(buffer, before, sizeof buffer);
+    say("find_stuck of 4096 joint states", pewterslug_find_stuck(image, build_many(image, 12), buffer, 0));
+    REFUSED(PEWTERSLUG_REFUSAL_TOO_MANY_STATES, pewterslug_find_stuck(image, build_many(image, 13), buffer, 0));
+    left(buffer, before, sizeof buffer);
+}
+
 static void texts(void)
 {
     unsigned alike = 0, empty = 0, known = 0;
 
     for (unsigned number = 0; number < 256; number++) {
         const char *text = pewterslug_refusal_text((uint8_t)number);
-        for (unsigned other = 0; other < number && number <= PEWTERSLUG_REFUSAL_BUFFER_TOO_SHORT + 1; other++)
+        for (unsigned other = 0; other < number && number <= PEWTERSLUG_REFUSAL_TOO_MANY_STATES + 1; other++)
             alike += strcmp(text, pewterslug_refusal_text((uint8_t)other)) == 0;
         empty += text[0] == 0;
         known += strcmp(text, "unknown number") != 0;
-        if (number <= PEWTERSLUG_REFUSAL_BUFFER_TOO_SHORT + 1 || number == 255)
+        if (number <= PEWTERSLUG_REFUSAL_TOO_MANY_STATES + 1 || number == 255)
             printf("text %u: %s\n", number, text);
     }
     printf("texts: %u known, %u alike, %u empty\n", known, alike, empty);
@@ -409,13 +472,13 @@ static void answers(void)
 
 static void codes(void)
 {
-    printf("done %d event %d stray %d none %d bids %d sends %d waits %d\n", PEWTERSLUG_DONE, PEWTERSLUG_EVENT, PEWTERSLUG_STRAY,
-           PEWTERSLUG_NONE, PEWTERSLUG_BIDS, PEWTERSLUG_SENDS, PEWTERSLUG_WAITS);
+    printf("done %d event %d stray %d none %d bids %d sends %d waits %d free %d stuck %d\n", PEWTERSLUG_DONE, PEWTERSLUG_EVENT,
+           PEWTERSLUG_STRAY, PEWTERSLUG_NONE, PEWTERSLUG_BIDS, PEWTERSLUG_SENDS, PEWTERSLUG_WAITS, PEWTERSLUG_FREE, PEWTERSLUG_STUCK);
     printf("limits: image %d, modules %d, supervisors %d, events %d, queue %d, outputs %d\n", PEWTERSLUG_IMAGE_LIMIT,
            PEWTERSLUG_MODULE_LIMIT, PEWTERSLUG_SUPERVISOR_LIMIT, PEWTERSLUG_EVENT_LIMIT, PEWTERSLUG_QUEUE_LIMIT, PEWTERSLUG_OUTPUT_LIMIT);
-    printf("bytes: device %d, own %d, module %d, supervisor %d, record %d, message %d, release %d, step %d\n", PEWTERSLUG_DEVICE_BYTES,
-           PEWTERSLUG_OWN_BYTES, PEWTERSLUG_MODULE_BYTES, PEWTERSLUG_SUPERVISOR_BYTES, PEWTERSLUG_RECORD_BYTES, PEWTERSLUG_MESSAGE_BYTES,
-           PEWTERSLUG_RELEASE_BYTES, PEWTERSLUG_STEP_BYTES);
+    printf("bytes: device %d, own %d, module %d, supervisor %d, record %d, message %d, release %d, step %d, stuck %d\n",
+           PEWTERSLUG_DEVICE_BYTES, PEWTERSLUG_OWN_BYTES, PEWTERSLUG_MODULE_BYTES, PEWTERSLUG_SUPERVISOR_BYTES, PEWTERSLUG_RECORD_BYTES,
+           PEWTERSLUG_MESSAGE_BYTES, PEWTERSLUG_RELEASE_BYTES, PEWTERSLUG_STEP_BYTES, PEWTERSLUG_STUCK_BYTES);
 }
 
 /* Bytes that no call wrote: all 0, all FF, and each byte another, so that a field read from a wrong place shows. */
@@ -498,6 +561,7 @@ int main(void)
     build_named();
     run_named();
     numbers();
+    find_stuck();
     texts();
     answers();
     codes();

@@ -16,17 +16,19 @@
 #include "chance.h"
 #include "plan.h"
 
-enum { STACK_BYTES = 1 << 20, PAINT = 0xA5, PLANS = 3, UNDER_WAY_LIMIT = 64 };
+/* The search for a stuck state has the whole stack, the other calls its upper part, so that less is looked through after each. */
+enum { STACK_BYTES = 1 << 22, UPPER_BYTES = 1 << 18, PAINT = 0xA5, PLANS = 3, UNDER_WAY_LIMIT = 64 };
 
 enum which {
     VERSION, CHECK, READ_RECORD, WRITE_RECORD, DEVICE_START, DEVICE_TURN, DEVICE_RESPOND, DEVICE_TICK, MODULE_START, MODULE_STEP,
-    MODULE_DELIVER, MODULE_RESPOND, MODULE_TICK, SUPERVISOR_START, SUPERVISOR_STEP, SUPERVISOR_DELIVER, READ_MESSAGE, WRITE_MESSAGE, CALLS
+    MODULE_DELIVER, MODULE_RESPOND, MODULE_TICK, SUPERVISOR_START, SUPERVISOR_STEP, SUPERVISOR_DELIVER, READ_MESSAGE, WRITE_MESSAGE,
+    FIND_STUCK, CALLS
 };
 
 static const char *const names[CALLS] = {
     "version", "check", "read_record", "write_record", "device_start", "device_turn", "device_respond", "device_tick", "module_start",
     "module_step", "module_deliver", "module_respond", "module_tick", "supervisor_start", "supervisor_step", "supervisor_deliver", "read_message",
-    "write_message",
+    "write_message", "find_stuck",
 };
 
 static const struct {
@@ -54,6 +56,7 @@ struct fleet {
     uint8_t modules[PEWTERSLUG_MODULE_LIMIT][PEWTERSLUG_MODULE_BYTES];
     uint8_t supervisors[PEWTERSLUG_SUPERVISOR_LIMIT][PEWTERSLUG_SUPERVISOR_BYTES];
     uint8_t buffer[PEWTERSLUG_STEP_BYTES];
+    uint8_t word[PEWTERSLUG_STUCK_BYTES];
     struct {
         uint8_t bytes[PEWTERSLUG_MESSAGE_BYTES];
         size_t length;
@@ -121,6 +124,7 @@ static uint64_t perform_other(const struct call *call)
     case READ_RECORD: return pewterslug_read_record(plan->image, plan->length, call->offset);
     case WRITE_RECORD: return pewterslug_write_record(call->kind, 1, 1, 1, 1, 1, call->bytes, call->length);
     case READ_MESSAGE: return pewterslug_read_message(call->bytes, call->length);
+    case FIND_STUCK: return pewterslug_find_stuck(plan->image, plan->length, call->bytes, call->length);
     default: return pewterslug_write_message(call->kind, 0, 0, 0, 1, call->bytes, call->length);
     }
 }
@@ -140,11 +144,10 @@ static void perform(void)
         answer = perform_other(&current);
 }
 
-/* The stack grows downwards: its lowest byte that lost its paint is the deepest. */
-static size_t lowest_used(void)
+/* The stack grows downwards: its lowest byte that lost its paint, from a place on, is the deepest. */
+static size_t lowest_used(size_t place)
 {
     static uint8_t painted[4096];
-    size_t place = 0;
     memset(painted, PAINT, sizeof painted);
     while (place < STACK_BYTES && memcmp(stack + place, painted, sizeof painted) == 0)
         place += sizeof painted;
@@ -166,7 +169,7 @@ static uint64_t measured(struct fleet *fleet, struct call call)
     makecontext(&there, perform, 0);
     if (swapcontext(&here, &there) != 0)
         abort();
-    lowest = lowest_used();
+    lowest = lowest_used(call.which == FIND_STUCK ? 0 : STACK_BYTES - UPPER_BYTES);
     bytes = ((size_t)(base - (stack + lowest)) + 15) / 16 * 16; /* frames are multiples of 16 */
     memset(stack + lowest, PAINT, STACK_BYTES - lowest);
     if (bytes > most[fleet->plan_index][call.which])
@@ -266,6 +269,8 @@ static void start(struct fleet *fleet)
     struct call call = {.which = VERSION};
     measured(fleet, call);
     call.which = CHECK;
+    measured(fleet, call);
+    call = (struct call){.which = FIND_STUCK, .bytes = fleet->word, .length = sizeof fleet->word};
     measured(fleet, call);
     measured(fleet, call_device(fleet, DEVICE_START, 0));
     for (unsigned module = 0; module < fleet->plan.modules; module++) {

@@ -1,5 +1,6 @@
 -- `SameNumbers` of specs/Laws.antt.
 use mathlib.Core.Path.{_≡_, refl, sym, ap, _∙_}
+use mathlib.Core.Logic.{inl, inr}
 use mathlib.Core.List.{List}
 use mathlib.Core.Bool.{Bool, true, false, cond}
 use Prim.Native.Nat.{ℕ, _%_, _≤_, _<_}
@@ -39,7 +40,7 @@ use Rattle.permits.specs.declared.Stepped.the-variants.{Turned as Turns, Bids, 
 use Rattle.permits.specs.declared.Served.{Served}
 use Rattle.permits.specs.declared.Served.the-variants.{Sends, Waits as ServedWaits, Refused as ServeRefused}
 use Rattle.refusals.specs.Numbers.{verdictNumber, writtenNumber}
-use Rattle.refusals.specs.Refusals.{InTable, CheckAnswer, WriteAnswer, CallAnswer, TurnAnswer, StepAnswer, ServeAnswer}
+use Rattle.refusals.specs.Refusals.{InTable, CheckAnswer, WriteAnswer, CallAnswer, TurnAnswer, StepAnswer, ServeAnswer, BlockingAnswer, OfStuck}
 use Rattle.refusals.proofs.Refusals.{refusals}
 use Rattle.device_bytes.specs.Device.{deviceBytes, deviceOf}
 use Rattle.party_bytes.specs.Module.{moduleBytes, moduleOf}
@@ -48,6 +49,11 @@ use Rattle.packing.specs.Answer.{packed, verdictAnswer, calledAnswer, turnAnswe
 use Rattle.packing.specs.Flow.{flowOf}
 use Rattle.plan_interface.specs.Records.{readBy, recordBy, writtenAnswer, writeBy}
 use Rattle.plan_interface.specs.Messages.{messageKind, parsedAnswer, messageBy, writeParsed}
+use Rattle.blocking.specs.Numbers.{blockingNumber}
+use Rattle.blocking.proofs.OneAnswer.{one-answer}
+use Rattle.blocking.specs.declared.Blocking.{Blocking}
+use Rattle.blocking.specs.declared.Blocking.the-variants.{Free, Stuck, Refused as StuckRefused}
+use Rattle.analysis_interface.specs.Analysis.{blockingAnswer}
 use Rattle.device_interface.specs.Calls as Device
 use Rattle.module_interface.specs.Calls as Module
 use Rattle.supervisor_interface.specs.Calls as Supervisor
@@ -147,6 +153,19 @@ start-number size (Refused n o) bytes l h =
     let no : n ≡ 0 → ⊥ = λ e. (let low : 1 ≤ n = t .0 in omega arith) in
     number n o t ∙ sym (ap (λ (q : Bool). cond q (cond (ltb (length l) size) 15 0) n) (ne-eqb n 0 no))
 
+-- ---- the analysis of a plan
+
+blocking-number : (a : Blocking) → BlockingAnswer a → blockingAnswer a % 256 ≡ blockingNumber a
+unfolding blockingAnswer
+blocking-number Free h = accepted 7 0 0
+blocking-number (Stuck n) h = accepted 8 0 n
+blocking-number (StuckRefused n o) h = go (h .numbered n o refl)
+  where
+    go : OfStuck n → packed n 0 0 o % 256 ≡ n
+    go (inl t) = small n o (omega (arith, t .1))
+    go (inr (inl e)) = small n o (omega arith)
+    go (inr (inr e)) = small n o (omega arith)
+
 pub same-numbers : SameNumbers
 same-numbers =
     record {
@@ -167,4 +186,8 @@ same-numbers =
       supervisorStart = λ image v l. unfold Supervisor.startBytes in start-number 6 (supervisorStart image v .answer) (supervisorBytes (supervisorStart image v .state)) l (refusals .supervisors .start image v);
       supervisorStep = λ image s v l. unfold Supervisor.stepBytes in served-number _ (refusals .supervisors .step image v (supervisorOf s) l .answer);
       supervisorDeliver = λ image s v g. unfold Supervisor.deliverBytes in called-number _ (refusals .supervisors .deliver image v (supervisorOf s) g .answer);
+      findStuck = λ image l a r after t f.
+          ap (λ (x : ℕ). x % 256) (f .packed)
+          ∙ blocking-number (f .answer) (refusals .analyses .findStuck image l (f .answer) after (f .told) .answer)
+          ∙ ap blockingNumber (one-answer image l (f .answer) a after after (f .told) t .0);
     }

@@ -104,4 +104,9 @@ all-untouched =
             buffer = λ h. refusals .supervisors .step image v (supervisorOf s) l .buffer .untouched (λ z. h (same-numbers .supervisorStep image s v l ∙ z));
           };
       supervisorDeliver = λ image s v g. unfold Supervisor.deliverBytes in on-state _ _ _ s (same-numbers .supervisorDeliver image s v g);
+      findStuck = λ image l r after f.
+          record {
+            state = λ h. refl;
+            buffer = λ h. refusals .analyses .findStuck image l (f .answer) after (f .told) .buffer .untouched (λ z. h (same-numbers .findStuck image l (f .answer) r after (f .told) f ∙ z));
+          };
     }

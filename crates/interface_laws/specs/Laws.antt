@@ -32,6 +32,10 @@ use Rattle.packing.specs.Answer.{Answer, refused}
 use Rattle.packing.specs.Flow.{flowOf}
 use Rattle.plan_interface.specs.Records.{checkAnswer, readAnswer, recordBy, writeBytes}
 use Rattle.plan_interface.specs.Messages.{readMessageAnswer, messageBy, writeMessageBytes}
+use Rattle.blocking.specs.Blocking.{Told}
+use Rattle.blocking.specs.Numbers.{blockingNumber}
+use Rattle.blocking.specs.declared.Blocking.{Blocking}
+use Rattle.analysis_interface.specs.Analysis.{FoundBytes}
 use Rattle.device_interface.specs.Calls as Device
 use Rattle.module_interface.specs.Calls as Module
 use Rattle.supervisor_interface.specs.Calls as Supervisor
@@ -60,6 +64,7 @@ pub record AllUntouched : Type 0 where
   pub supervisorStart : (image : List ℕ) (v : ℕ) (l : List ℕ) → Untouched (Supervisor.startBytes image v l) [] l
   pub supervisorStep : (image s : List ℕ) (v : ℕ) (l : List ℕ) → Untouched (Supervisor.stepBytes image s v l) s l
   pub supervisorDeliver : (image s : List ℕ) (v : ℕ) (g : List ℕ) → Untouched (Supervisor.deliverBytes image s v g) s []
+  pub findStuck : (image l : List ℕ) (r : ℕ) (after : List ℕ) → FoundBytes image l r after → Untouched (record { number = r; state = []; buffer = after }) [] l
 
 -- ".. stand for no state: the call that gets them is refused with 9", on an image that is accepted, of one device always, of a module or a
 -- supervisor if it is the plan's
@@ -129,3 +134,4 @@ pub record SameNumbers : Type 0 where
       → numberOf (Supervisor.stepBytes image s v l) ≡ servedNumber (supervisorStep image v (supervisorOf s) l .answer)
   pub supervisorDeliver : (image s : List ℕ) (v : ℕ) (g : List ℕ)
       → numberOf (Supervisor.deliverBytes image s v g) ≡ calledNumber (supervisorDeliver image v (supervisorOf s) g .answer)
+  pub findStuck : (image l : List ℕ) (a : Blocking) (r : ℕ) (after : List ℕ) → Told image l a after → FoundBytes image l r after → r % 256 ≡ blockingNumber a

@@ -2,6 +2,7 @@
 ghost use mathlib.Core.Path.{_≡_};
 ghost use mathlib.Core.List.{[]};
 ghost use Rattle.packing.specs.Answer.{Answered};
+ghost use Rattle.analysis_interface.specs.Analysis.{FoundBytes};
 ghost use Rattle.plan_interface.specs.Records.{checkAnswer, readAnswer, writeBytes};
 ghost use Rattle.plan_interface.specs.Messages.{readMessageAnswer, writeMessageBytes};
 ghost use Rattle.device_interface.specs.Calls as Device;
@@ -49,6 +50,13 @@ pub extern "C" fn pewterslug_write_record(
     ensures { λ r. ⌜ Answered (writeBytes kind first second third fourth word (now (buffer .entry))) r [] (now (buffer .exit)) ⌝ }
 {
     plan_interface::write_record(kind, first, second, third, fourth, word, buffer)
+}
+
+#[no_mangle]
+pub extern "C" fn pewterslug_find_stuck(image: &[u8], buffer: &mut [u8]) -> u64
+    ensures { λ r. ⌜ FoundBytes (now (image .entry)) (now (buffer .entry)) r (now (buffer .exit)) ⌝ }
+{
+    analysis_interface::find_stuck(image, buffer)
 }
 
 // ---- one device

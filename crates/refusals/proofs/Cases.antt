@@ -35,8 +35,8 @@ in-table n p q = (leb-true _ _ p, leb-true _ _ q)
 pub at-zero : (n : ℕ) → Placed n 0
 at-zero n = record { long = λ e. refl; call = λ h. refl }
 
-module _ {E : Type 0} (number offset : E → ℕ) (refusal : ℕ → ℕ → E) where
-  pub accepts : (a : E) → ((n o : ℕ) → a ≢ refusal n o) → number a ≡ 0 → offset a ≡ 0 → Answer number offset refusal a
+module _ {E : Type 0} (Numbers : ℕ → Type 0) (number offset : E → ℕ) (refusal : ℕ → ℕ → E) where
+  pub accepts : (a : E) → ((n o : ℕ) → a ≢ refusal n o) → number a ≡ 0 → offset a ≡ 0 → Answer Numbers number offset refusal a
   accepts a d i z =
       record {
         numbered = λ n o e. absurd (d n o e);
@@ -46,11 +46,11 @@ module _ {E : Type 0} (number offset : E → ℕ) (refusal : ℕ → ℕ → E) 
         accepted = λ h. (i, z);
       }
 
-  pub refuses : ((n o : ℕ) → number (refusal n o) ≡ n) → ((n o : ℕ) → offset (refusal n o) ≡ o) → (n o : ℕ) → InTable n → Placed n o
-      → Answer number offset refusal (refusal n o)
+  pub refuses : ((n o : ℕ) → number (refusal n o) ≡ n) → ((n o : ℕ) → offset (refusal n o) ≡ o) → (n o : ℕ) → Numbers n → Placed n o
+      → Answer Numbers number offset refusal (refusal n o)
   refuses is at n o t p =
       record {
-        numbered = λ k l e. subst InTable (sym (is n o) ∙ ap number e ∙ is k l) t;
+        numbered = λ k l e. subst Numbers (sym (is n o) ∙ ap number e ∙ is k l) t;
         placed = subst (λ (k : ℕ). Placed k (offset (refusal n o))) (sym (is n o)) (subst (Placed n) (sym (at n o)) p);
         number-is = λ k l e. ap number e ∙ is k l;
         offset-is = λ k l e. ap offset e ∙ at k l;
@@ -81,10 +81,10 @@ put k a b e h =
 -- ---- a call without a buffer
 
 pub done : CallAnswer Done
-done = accepts calledNumber calledOffset CallRefused Done (λ n o e. never (cc)) refl refl
+done = accepts InTable calledNumber calledOffset CallRefused Done (λ n o e. never (cc)) refl refl
 
 pub call-refused : (n o : ℕ) → InTable n → Placed n o → CallAnswer (CallRefused n o)
-call-refused = refuses calledNumber calledOffset CallRefused (λ n o. refl) (λ n o. refl)
+call-refused = refuses InTable calledNumber calledOffset CallRefused (λ n o. refl) (λ n o. refl)
 
 module _ {A : Type 0} (x : A) where
   pub takes : (y : A) → Call x Done y

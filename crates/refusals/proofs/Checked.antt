@@ -64,10 +64,10 @@ judged n rs (more o r w) s = go (eqb (faultOf rs r) 0) refl (judged n (r ∷ rs)
     go false q j = (fault rs r .0 (eqb-false _ _ q), fault rs r .1)
 
 accepted : CheckAnswer Accepted
-accepted = accepts verdictNumber verdictOffset Refused Accepted (λ n o e. never (cc)) refl refl
+accepted = accepts InTable verdictNumber verdictOffset Refused Accepted (λ n o e. never (cc)) refl refl
 
 refused : (n o : ℕ) → InTable n → Placed n o → CheckAnswer (Refused n o)
-refused = refuses verdictNumber verdictOffset Refused (λ n o. refl) (λ n o. refl)
+refused = refuses InTable verdictNumber verdictOffset Refused (λ n o. refl) (λ n o. refl)
 
 -- what the check says of its verdict
 record Numbered (v : Verdict) : Type 0 where

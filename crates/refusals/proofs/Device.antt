@@ -89,7 +89,7 @@ module _ (rs : List Record) (d : Device) (m : ℕ) where
   turn-refused : (n o : ℕ) → InTable n → Placed n o → DeviceTurn d (turnRefused d n o)
   turn-refused n o t p =
       record {
-        answer = refuses turningNumber turningOffset TurnRefused (λ n o. refl) (λ n o. refl) n o t p;
+        answer = refuses InTable turningNumber turningOffset TurnRefused (λ n o. refl) (λ n o. refl) n o t p;
         state = same n d;
         event = event-of (TurnRefused n o);
         stray = stray-of (TurnRefused n o);
@@ -99,7 +99,7 @@ module _ (rs : List Record) (d : Device) (m : ℕ) where
   unfolding turnIn
   turn-in zero h =
       record {
-        answer = accepts turningNumber turningOffset TurnRefused _ (λ n o e. never (cc)) refl refl;
+        answer = accepts InTable turningNumber turningOffset TurnRefused _ (λ n o e. never (cc)) refl refl;
         state = taken d _;
         event = event-of _;
         stray = stray-of _;

@@ -4,4 +4,5 @@ pub mod Writers
 pub mod Device
 pub mod Modules
 pub mod Supervisors
+pub mod Analyses
 pub mod Refusals

@@ -38,9 +38,9 @@ start (Refused n o) rs m j = call-refused n o (j .numbered n o refl) (j .placed)
 -- the answer of an accepted step
 accepted : (rs : List Record) (m : ℕ) (x : Module) (c : Choice) → StepAnswer (answerBy rs m x c)
 unfolding answerBy
-accepted rs m x takesTurn = accepts steppedNumber steppedOffset StepRefused _ (λ n o e. never (cc)) refl refl
-accepted rs m x (bidsTo v) = accepts steppedNumber steppedOffset StepRefused _ (λ n o e. never (cc)) refl refl
-accepted rs m x waits = accepts steppedNumber steppedOffset StepRefused _ (λ n o e. never (cc)) refl refl
+accepted rs m x takesTurn = accepts InTable steppedNumber steppedOffset StepRefused _ (λ n o e. never (cc)) refl refl
+accepted rs m x (bidsTo v) = accepts InTable steppedNumber steppedOffset StepRefused _ (λ n o e. never (cc)) refl refl
+accepted rs m x waits = accepts InTable steppedNumber steppedOffset StepRefused _ (λ n o e. never (cc)) refl refl
 
 step-bytes : (a : Stepped) → StepBytes a
 step-bytes a = record { turned = λ t k e. ap steppedBytes e; bids = λ v k e. ap steppedBytes e; waiting = λ e. ap steppedBytes e }
@@ -51,7 +51,7 @@ module _ (rs : List Record) (m : ℕ) (x : Module) where
     step-refused : (n o : ℕ) → InTable n → Placed n o → ModuleStep x b (stepRefused x b n o)
     step-refused n o t p =
         record {
-          answer = refuses steppedNumber steppedOffset StepRefused (λ n o. refl) (λ n o. refl) n o t p;
+          answer = refuses InTable steppedNumber steppedOffset StepRefused (λ n o. refl) (λ n o. refl) n o t p;
           state = same n x;
           bytes = step-bytes _;
           buffer = untouched n b;

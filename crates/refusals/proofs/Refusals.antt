@@ -5,6 +5,7 @@ use Rattle.refusals.proofs.Writers.{writers}
 use Rattle.refusals.proofs.Device.{own-part, one-device}
 use Rattle.refusals.proofs.Modules.{modules}
 use Rattle.refusals.proofs.Supervisors.{supervisors}
+use Rattle.refusals.proofs.Analyses.{analyses}
 
 pub refusals : Refusals
-refusals = record { checker = checker; writers = writers; own = own-part; device = one-device; modules = modules; supervisors = supervisors }
+refusals = record { checker = checker; writers = writers; own = own-part; device = one-device; modules = modules; supervisors = supervisors; analyses = analyses }

@@ -38,8 +38,8 @@ start (Refused n o) rs v j = call-refused n o (j .numbered n o refl) (j .placed)
 -- the answer of an accepted step
 accepted : (bytes : List ℕ) (t : Option ℕ) → ServeAnswer (answerBy bytes t)
 unfolding answerBy
-accepted bytes none = accepts servedNumber servedOffset ServeRefused _ (λ n o e. never (cc)) refl refl
-accepted bytes (some m) = accepts servedNumber servedOffset ServeRefused _ (λ n o e. never (cc)) refl refl
+accepted bytes none = accepts InTable servedNumber servedOffset ServeRefused _ (λ n o e. never (cc)) refl refl
+accepted bytes (some m) = accepts InTable servedNumber servedOffset ServeRefused _ (λ n o e. never (cc)) refl refl
 
 serve-bytes : (a : Served) → ServeBytes a
 serve-bytes a = record { sends = λ m k e. ap servedBytes e; waiting = λ e. ap servedBytes e }
@@ -50,7 +50,7 @@ module _ (rs : List Record) (v : ℕ) (y : Supervisor) where
     step-refused : (n o : ℕ) → InTable n → Placed n o → SupervisorStep y b (stepRefused y b n o)
     step-refused n o t p =
         record {
-          answer = refuses servedNumber servedOffset ServeRefused (λ n o. refl) (λ n o. refl) n o t p;
+          answer = refuses InTable servedNumber servedOffset ServeRefused (λ n o. refl) (λ n o. refl) n o t p;
           state = same n y;
           bytes = serve-bytes _;
           buffer = untouched n b;

@@ -29,7 +29,7 @@ use Rattle.refusals.proofs.Checked.{checked}
 write-refused : (n : ℕ) (r : Record) (b : List ℕ) → InTable n → Write r b (WriteRefused n 0)
 write-refused n r b t =
     record {
-      answer = refuses writtenNumber writtenOffset WriteRefused (λ n o. refl) (λ n o. refl) n 0 t (at-zero n);
+      answer = refuses InTable writtenNumber writtenOffset WriteRefused (λ n o. refl) (λ n o. refl) n 0 t (at-zero n);
       offset = refl;
       bytes = λ k e. ap writtenLength e;
       buffer = untouched n b;
@@ -43,7 +43,7 @@ write r b = either (Write r b) (inRange r) (go (ltb (length b) (sizeOf r)) refl)
     go true e = write-refused 15 r b (in-table 15 refl refl)
     go false e =
         record {
-          answer = accepts writtenNumber writtenOffset WriteRefused _ (λ n o e. never (cc)) refl refl;
+          answer = accepts InTable writtenNumber writtenOffset WriteRefused _ (λ n o e. never (cc)) refl refl;
           offset = refl;
           bytes = λ k e. ap writtenLength e;
           buffer = put (sizeOf r) (bytesOf r) b (length-bytes r) (ltb-false _ _ e);
@@ -53,7 +53,7 @@ write r b = either (Write r b) (inRange r) (go (ltb (length b) (sizeOf r)) refl)
 rewrite-refused : (n o : ℕ) (s b : List ℕ) → InTable n → Placed n o → Rewrite s b (CopyRefused n o)
 unfolding rewriteBuffer
 rewrite-refused n o s b t p =
-    record { answer = refuses rewrittenNumber rewrittenOffset CopyRefused (λ n o. refl) (λ n o. refl) n o t p; bytes = λ k e. ap rewrittenLength e; buffer = untouched n b }
+    record { answer = refuses InTable rewrittenNumber rewrittenOffset CopyRefused (λ n o. refl) (λ n o. refl) n o t p; bytes = λ k e. ap rewrittenLength e; buffer = untouched n b }
 
 rewrite : (s b : List ℕ) (v : Verdict) → CheckAnswer v → Rewrite s b (rewriteAnswer v s b)
 unfolding rewriteAnswer rewriteBuffer
@@ -64,7 +64,7 @@ rewrite s b Accepted j = go (ltb (length b) (length (planBytes s))) refl
     go true e = rewrite-refused 15 0 s b (in-table 15 refl refl) (at-zero 15)
     go false e =
         record {
-          answer = accepts rewrittenNumber rewrittenOffset CopyRefused _ (λ n o e. never (cc)) refl refl;
+          answer = accepts InTable rewrittenNumber rewrittenOffset CopyRefused _ (λ n o e. never (cc)) refl refl;
           bytes = λ k e. ap rewrittenLength e;
           buffer = put (length (planBytes s)) (planBytes s) b refl (ltb-false _ _ e);
         }

@@ -3,7 +3,7 @@
 -- this paper's number and values for each case. The promises use that definition."
 use Prim.Native.Nat.{ℕ, _≤_}
 use mathlib.Core.Path.{_≡_}
-use mathlib.Core.Logic.{_≢_}
+use mathlib.Core.Logic.{_≢_, _⊎_}
 use mathlib.Core.List.{List}
 use mathlib.Core.Option.{Option, none, some}
 use mathlib.Core.Bool.{false}
@@ -48,6 +48,10 @@ use Rattle.permits.specs.declared.Supervisor.{Supervisor}
 use Rattle.permits.specs.declared.SupervisorCalled.{SupervisorCalled}
 use Rattle.permits.specs.declared.Served.{Served}
 use Rattle.permits.specs.declared.Served.the-variants.{Sends, Waits as ServedWaits, Refused as ServeRefused}
+use Rattle.blocking.specs.Blocking.{Told}
+use Rattle.blocking.specs.Numbers.{blockingNumber, blockingOffset, blockingLength}
+use Rattle.blocking.specs.declared.Blocking.{Blocking}
+use Rattle.blocking.specs.declared.Blocking.the-variants.{Free, Stuck, Refused as StuckRefused}
 use Rattle.refusals.specs.Numbers.{verdictNumber, verdictOffset, writtenNumber, writtenOffset, writtenLength, rewrittenNumber, rewrittenOffset, rewrittenLength}
 
 -- a refusal has a number, and what is accepted has 0
@@ -58,15 +62,19 @@ IsRefusal n = n ≢ 0
 abbrev pub InTable : ℕ → Type 0
 InTable n = (1 ≤ n) × (n ≤ 15)
 
+-- a number of the question whether a plan ever gets stuck: one of the image's, 15, or 16 of document 02
+abbrev pub OfStuck : ℕ → Type 0
+OfStuck n = ((1 ≤ n) × (n ≤ 8)) ⊎ ((n ≡ 15) ⊎ (n ≡ 16))
+
 -- the number n stands with the byte offset o: "0 for 1 and for 9 and above"
 pub record Placed (n o : ℕ) : Type 0 where
   pub long : n ≡ 1 → o ≡ 0
   pub call : 9 ≤ n → o ≡ 0
 
--- an answer a, by the definitions of its number and its offset and by its case of a refusal
-pub record Answer {E : Type 0} (number offset : E → ℕ) (refusal : ℕ → ℕ → E) (a : E) : Type 0 where
+-- an answer a, by the numbers that it may have, the definitions of its number and its offset, and its case of a refusal
+pub record Answer {E : Type 0} (Numbers : ℕ → Type 0) (number offset : E → ℕ) (refusal : ℕ → ℕ → E) (a : E) : Type 0 where
   -- "Bad input gets its number from document 01": so a refusal never has the 0 of what is taken
-  pub numbered : (n o : ℕ) → a ≡ refusal n o → InTable n
+  pub numbered : (n o : ℕ) → a ≡ refusal n o → Numbers n
   pub placed : Placed (number a) (offset a)
   -- the definitions give what the refusal holds, and 0 and 0 for what is accepted
   pub number-is : (n o : ℕ) → a ≡ refusal n o → number a ≡ n
@@ -97,25 +105,28 @@ pub record Lent (n k : ℕ) (b c : List ℕ) : Type 0 where
 -- ---- each kind of answer
 
 abbrev pub CheckAnswer : Verdict → Type 0
-CheckAnswer a = Answer verdictNumber verdictOffset Refused a
+CheckAnswer a = Answer InTable verdictNumber verdictOffset Refused a
 
 abbrev pub WriteAnswer : Written → Type 0
-WriteAnswer a = Answer writtenNumber writtenOffset WriteRefused a
+WriteAnswer a = Answer InTable writtenNumber writtenOffset WriteRefused a
 
 abbrev pub RewriteAnswer : Rewritten → Type 0
-RewriteAnswer a = Answer rewrittenNumber rewrittenOffset CopyRefused a
+RewriteAnswer a = Answer InTable rewrittenNumber rewrittenOffset CopyRefused a
 
 abbrev pub CallAnswer : Called → Type 0
-CallAnswer a = Answer calledNumber calledOffset CallRefused a
+CallAnswer a = Answer InTable calledNumber calledOffset CallRefused a
 
 abbrev pub TurnAnswer : Turning → Type 0
-TurnAnswer a = Answer turningNumber turningOffset TurnRefused a
+TurnAnswer a = Answer InTable turningNumber turningOffset TurnRefused a
 
 abbrev pub StepAnswer : Stepped → Type 0
-StepAnswer a = Answer steppedNumber steppedOffset StepRefused a
+StepAnswer a = Answer InTable steppedNumber steppedOffset StepRefused a
 
 abbrev pub ServeAnswer : Served → Type 0
-ServeAnswer a = Answer servedNumber servedOffset ServeRefused a
+ServeAnswer a = Answer InTable servedNumber servedOffset ServeRefused a
+
+abbrev pub BlockingAnswer : Blocking → Type 0
+BlockingAnswer a = Answer OfStuck blockingNumber blockingOffset StuckRefused a
 
 -- ---- one call: its answer, its state and its buffer
 
@@ -180,6 +191,14 @@ pub record SupervisorStep (y : Supervisor) (b : List ℕ) (c : ServeCall) : Type
   pub bytes : ServeBytes (c .answer)
   pub buffer : Lent (servedNumber (c .answer)) (servedBytes (c .answer)) b (c .buffer)
 
+-- the answer whether a plan ever gets stuck, with the buffer before and after
+pub record FindStuck (b : List ℕ) (a : Blocking) (c : List ℕ) : Type 0 where
+  pub answer : BlockingAnswer a
+  pub bytes : Held blockingLength Stuck a
+  -- document 02, 2.1: "If so, write nothing"
+  pub free : a ≡ Free → blockingLength a ≡ 0
+  pub buffer : Lent (blockingNumber a) (blockingLength a) b c
+
 -- ---- every call, party by party. A start is given no state, and the check lends nothing.
 
 pub record Checker : Type 0 where
@@ -218,6 +237,10 @@ pub record Supervisors : Type 0 where
   pub step : (image : List ℕ) (v : ℕ) (y : Supervisor) (b : List ℕ) → SupervisorStep y b (supervisorStep image v y b)
   pub deliver : (image : List ℕ) (v : ℕ) (y : Supervisor) (bytes : List ℕ) → SupervisorCall y (supervisorDeliver image v y bytes)
 
+-- the analysis of a plan, of every answer that `Told` allows
+pub record Analyses : Type 0 where
+  pub findStuck : (image b : List ℕ) (a : Blocking) (c : List ℕ) → Told image b a c → FindStuck b a c
+
 -- "a refused call returns the state unchanged and writes nothing into lent memory"
 pub record Refusals : Type 0 where
   pub checker : Checker
@@ -226,3 +249,4 @@ pub record Refusals : Type 0 where
   pub device : OneDevice
   pub modules : Modules
   pub supervisors : Supervisors
+  pub analyses : Analyses
