@@ -2,7 +2,7 @@
  *
  * Each slice that is lent ends where a page that may not be touched begins, so that one byte read or written past it ends the program; what
  * stands before it is compared. The C side is compiled with the address and undefined-behaviour sanitizers (tests/fuzz.sh). After each
- * call: an answer is 0 to 15; what is only read is as it was; a refused call left every lent byte as it was; an accepted one changed nothing
+ * call: an answer is 0 to 16; what is only read is as it was; a refused call left every lent byte as it was; an accepted one changed nothing
  * behind its answer's length, except the state that it was lent. A run of 20,000 calls or more must have met every number.
  *
  *   fuzz SEED COUNT
@@ -16,7 +16,7 @@
 #include "chance.h"
 #include "plan.h"
 
-enum { PAGE = 4096, ROOM = 13 * PAGE, CALLS = 17, PLANS = 3 };
+enum { PAGE = 4096, ROOM = 13 * PAGE, CALLS = 18, PLANS = 3, NUMBERS = 17, FIND_STUCK = 17, MARKING = 0x18 };
 
 /* A lent slice: `bytes` of them end at the guard page; `before` is what the room held when the call was made. */
 struct slice {
@@ -65,14 +65,13 @@ static uint8_t any_number(uint8_t count)
     return chance_one_in(&chance, 8) ? any_byte() : (uint8_t)chance_below(&chance, (uint32_t)count + 1);
 }
 
-/* A plan as it is, with a few bytes changed, cut, followed by something, or too long; or random bytes. */
-static const struct plan *choose_image(void)
+/* The image lent: the plan as it is, with a few bytes changed, cut, followed by something, or too long; or random bytes. */
+static void lend_image(const struct plan *plan)
 {
-    const struct plan *plan = &plans[chance_one_in(&chance, 64) ? 2 : chance_below(&chance, 2)];
     size_t length = plan->length;
     if (chance_one_in(&chance, 50)) {
         slice_random(&image, chance_below(&chance, 300));
-        return plan;
+        return;
     }
     if (chance_one_in(&chance, 6))
         length = chance_below(&chance, (uint32_t)length + 1);
@@ -84,7 +83,90 @@ static const struct plan *choose_image(void)
     memcpy(image.start, plan->image, length < plan->length ? length : plan->length);
     for (uint32_t changes = chance_one_in(&chance, 3) ? chance_below(&chance, 4) : 0; changes > 0 && length > 0; changes--)
         image.start[chance_below(&chance, (uint32_t)length)] = any_byte();
+}
+
+/* One of the three plans. */
+static const struct plan *choose_image(void)
+{
+    const struct plan *plan = &plans[chance_one_in(&chance, 64) ? 2 : chance_below(&chance, 2)];
+    lend_image(plan);
     return plan;
+}
+
+/* What later records of a small plan must know. */
+struct small {
+    uint8_t owner[6], states[3], stages[2];
+    uint64_t alphabets[2], controllable;
+};
+
+static void small_parties(struct plan *plan, struct small *small)
+{
+    for (uint8_t event = 0; event < plan->events; event++) {
+        uint8_t kind = (uint8_t)chance_below(&chance, 2);
+        small->owner[event] = (uint8_t)chance_below(&chance, plan->modules);
+        small->controllable |= (uint64_t)kind << event;
+        plan_add(plan, PEWTERSLUG_RECORD_EVENT, event, small->owner[event], kind, 0, 0);
+    }
+    for (uint8_t module = 0; module < plan->modules; module++) {
+        small->states[module] = (uint8_t)(1 + chance_below(&chance, 3));
+        plan_add(plan, PEWTERSLUG_RECORD_MODULE, module, small->states[module], (uint8_t)chance_below(&chance, small->states[module]), 0, 0);
+    }
+    for (uint8_t module = 0; module < plan->modules; module++)
+        for (uint8_t from = 0; from < small->states[module]; from++)
+            for (uint8_t event = 0; event < plan->events; event++)
+                if (small->owner[event] == module && !chance_one_in(&chance, 3))
+                    plan_add(plan, PEWTERSLUG_RECORD_MODULE_MOVE, module, from, event, (uint8_t)chance_below(&chance, small->states[module]), 0);
+}
+
+static void small_supervisors(struct plan *plan, struct small *small)
+{
+    for (uint8_t number = 0; number < plan->supervisors; number++) {
+        small->stages[number] = (uint8_t)(1 + chance_below(&chance, 3));
+        small->alphabets[number] = chance_below(&chance, 1u << plan->events);
+        plan_add(plan, PEWTERSLUG_RECORD_SUPERVISOR, number, small->stages[number], (uint8_t)chance_below(&chance, small->stages[number]), 0,
+                 small->alphabets[number]);
+    }
+    for (uint8_t number = 0; number < plan->supervisors; number++)
+        for (uint8_t from = 0; from < small->stages[number]; from++)
+            for (uint8_t event = 0; event < plan->events; event++)
+                if ((small->alphabets[number] >> event & 1) != 0 && !chance_one_in(&chance, 3))
+                    plan_add(plan, PEWTERSLUG_RECORD_SUPERVISOR_MOVE, number, from, event, (uint8_t)chance_below(&chance, small->stages[number]), 0);
+    for (uint8_t number = 0; number < plan->supervisors; number++)
+        for (uint8_t state = 0; state < small->stages[number]; state++) {
+            uint64_t mask = small->alphabets[number] & small->controllable & chance_below(&chance, 1u << plan->events);
+            if (mask != 0)
+                plan_add(plan, PEWTERSLUG_RECORD_DISABLING, number, state, 0, 0, mask);
+        }
+}
+
+/* An accepted plan of few parties and states, some of them marked; now and then spoilt. */
+static const struct plan *choose_small(void)
+{
+    static struct plan plan;
+    struct small small = {.controllable = 0};
+    plan.name = "small", plan.length = 0;
+    plan.modules = (uint8_t)(1 + chance_below(&chance, 3));
+    plan.supervisors = (uint8_t)chance_below(&chance, 3);
+    plan.events = (uint8_t)(1 + chance_below(&chance, 6));
+    plan_add(&plan, PEWTERSLUG_RECORD_HEAD, plan.modules, plan.supervisors, plan.events, 0, 0);
+    small_parties(&plan, &small);
+    small_supervisors(&plan, &small);
+    for (uint8_t module = 0; module < plan.modules; module++)
+        for (uint8_t state = 0; state < small.states[module]; state++)
+            if (chance_one_in(&chance, 3))
+                plan_add(&plan, MARKING, module, state, 0, 0, 0);
+    plan_add(&plan, PEWTERSLUG_RECORD_END, 0, 0, 0, 0, 0);
+    if (chance_one_in(&chance, 4)) {
+        lend_image(&plan);
+        return &plan;
+    }
+    slice_place(&image, plan.length);
+    memcpy(image.start, plan.image, plan.length);
+    if (pewterslug_check(image.start, image.length) != 0) {
+        printf("fuzz: a small plan is refused\n");
+        exit(1);
+    }
+    return &plan;
 }
 
 /* An uncontrollable event of the module; event records follow the head, four bytes each. */
@@ -264,7 +346,7 @@ static int broken(uint64_t answer, int writes)
     uint32_t written = pewterslug_number(answer) == 0 && writes ? pewterslug_length(answer) : 0;
     if ((answer >> 24 & 0xFF) != 0 || (pewterslug_number(answer) != 0 && (answer >> 8 & 0xFFFF) != 0))
         return 1;
-    if (pewterslug_number(answer) > 15 || changed(&image, image.start) || changed(&message, message.start))
+    if (pewterslug_number(answer) >= NUMBERS || changed(&image, image.start) || changed(&message, message.start))
         return 1;
     if (written > buffer.length || changed(&buffer, buffer.start + written))
         return 1;
@@ -274,9 +356,9 @@ static int broken(uint64_t answer, int writes)
 static uint64_t one_call(int *writes)
 {
     uint32_t call = chance_below(&chance, CALLS);
-    const struct plan *plan = choose_image();
+    const struct plan *plan = call == FIND_STUCK && !chance_one_in(&chance, 32) ? choose_small() : choose_image();
     choose_message(plan);
-    slice_random(&buffer, chance_one_in(&chance, 20) ? chance_below(&chance, 700) : chance_below(&chance, 140));
+    slice_random(&buffer, chance_one_in(&chance, 20) ? chance_below(&chance, 700) : chance_below(&chance, call == FIND_STUCK ? 20 : 140));
     slice_keep(&image);
     slice_keep(&message);
     slice_keep(&buffer);
@@ -287,13 +369,18 @@ static uint64_t one_call(int *writes)
         return module_call(call - 4, plan);
     if (call < 12)
         return supervisor_call(call - 9, plan);
+    if (call == FIND_STUCK) {
+        slice_random(&state, chance_below(&chance, 20));
+        slice_keep(&state);
+        return pewterslug_find_stuck(image.start, image.length, buffer.start, buffer.length);
+    }
     return other_call(call - 12);
 }
 
 int main(int count, char **words)
 {
     uint64_t seed = count > 1 ? strtoull(words[1], NULL, 10) : 1, calls = count > 2 ? strtoull(words[2], NULL, 10) : 20000;
-    uint64_t numbers[16] = {0};
+    uint64_t numbers[NUMBERS] = {0};
     if (!plan_build(&plans[0], "two-valve") || !plan_build(&plans[1], "orchard") || !plan_build(&plans[2], "full"))
         return 2;
     chance_start(&chance, seed, 0);
@@ -308,10 +395,10 @@ int main(int count, char **words)
         numbers[pewterslug_number(answer)]++;
     }
     printf("numbers:");
-    for (int number = 0; number < 16; number++)
+    for (int number = 0; number < NUMBERS; number++)
         printf(" %d:%llu", number, (unsigned long long)numbers[number]);
     printf("\n");
-    for (int number = 0; number < 16; number++)
+    for (int number = 0; number < NUMBERS; number++)
         if (numbers[number] == 0 && calls >= 20000) {
             printf("fuzz: no call got %d, so the run shows too little\n", number);
             return 1;

@@ -20,6 +20,7 @@ from plan_check import (
     END,
     EVENT,
     HEAD,
+    MARKING,
     MODULE,
     MODULE_MOVE,
     OUTPUT_ON,
@@ -61,6 +62,7 @@ class Device:
         self.running = set()  # modules whose procedure is not idle: no tick ever comes, so it stays so
 
     def take(self, kind, fields):
+        """Takes what a turn depends on: marks it has no use for."""
         if kind == HEAD:
             self.counts = fields
         elif kind == EVENT:
@@ -203,6 +205,7 @@ def random_plan(chance):
             if mask:
                 records.append((DISABLING, [v, s, mask]))
     records += [(STEP, [e, 0, OUTPUT_ON, 0]) for e in range(events) if kinds[e] == CONTROLLABLE and chance.random() < 0.05]
+    records += [(MARKING, [m, s]) for m in range(modules) for s in range(states[m]) if chance.random() < 0.2]
     records.append((END, []))
     return b"".join(bytes_of(kind, fields) for kind, fields in records)
 

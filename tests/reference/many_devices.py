@@ -33,7 +33,7 @@ from collections import namedtuple
 import plan_check
 from one_device import NO_SENSOR, PLACES, Device, Own, arrival, bits_of, eighths, judged, mask_of, numbers, subset
 from plan_check import (
-    DISABLING, END, EVENT, HEAD, MODULE, MODULE_MOVE, STEP, SUPERVISOR, SUPERVISOR_MOVE,
+    DISABLING, END, EVENT, HEAD, MARKING, MODULE, MODULE_MOVE, STEP, SUPERVISOR, SUPERVISOR_MOVE,
     OUTPUT_ON, OUTPUT_OFF, WAIT_TICKS, WAIT_LITRES, RESPOND, CONTROLLABLE, UNCONTROLLABLE,
 )
 
@@ -457,6 +457,7 @@ def random_plan(r, shape):
         records.append((MODULE, [m, states, r.randrange(states)]))
         mine = [(m, s, e) for s in range(states) for e in range(events) if owner[e] == m]
         records += [(MODULE_MOVE, [*key, r.randrange(states)]) for key in subset(r, mine, 0.8)]
+        records += [(MARKING, [m, s]) for s in subset(r, range(states), 0.3)]
     for v in range(supervisors):
         states = r.randint(1, 4)
         alphabet = subset(r, range(events), r.choice((0.1, 0.3, 0.6)))

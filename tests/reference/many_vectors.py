@@ -171,10 +171,10 @@ def damaged_plans(r, records):
     steps = [fields[0] for kind, fields in records if kind == STEP]
     command = r.choice([k for k, (kind, fields) in enumerate(records) if kind == EVENT and fields[0] in steps] or [event])
     cut = image[: r.choice((0, r.randrange(len(image))))].hex().upper() or "-"
-    image[r.randrange(len(image))] = r.choice((0, 1, 2, 3, 5, 64, 0x17, 0x1F, 0x20, 255, r.randrange(256)))
+    image[r.randrange(len(image))] = r.choice((0, 1, 2, 3, 5, 64, 0x17, 0x18, 0x1F, 0x20, 255, r.randrange(256)))
     return [
         text + "+00*49153",
-        text_of(records[:at]) + "+" + r.choice(("00", "0F", "18", "1E", "20", "FF")),
+        text_of(records[:at]) + "+" + r.choice(("00", "0F", "18", "19", "1E", "20", "FF")),
         cut,
         text + "+" + r.choice(("00", "1F", "20")),
         text_of(records[: at + 1] + records[at:]),
@@ -183,6 +183,7 @@ def damaged_plans(r, records):
         changed(records, module, 2, records[module][1][1]),
         changed(records, command, 2, 1 - records[command][1][2]),
         changed(records, 0, head, records[0][1][head] + 1),
+        text_of(records[:-1]) + "+18" + r.choice(("0000", "0004", "1000", "FFFF")) + "+1F",  # a mark doubled, out of order or undeclared
         image.hex().upper(),
     ]
 

@@ -36,7 +36,7 @@ from fractions import Fraction
 
 import plan_check
 from plan_check import (
-    DISABLING, END, EVENT, HEAD, MODULE, MODULE_MOVE, STEP, SUPERVISOR, SUPERVISOR_MOVE,
+    DISABLING, END, EVENT, HEAD, MARKING, MODULE, MODULE_MOVE, STEP, SUPERVISOR, SUPERVISOR_MOVE,
     OUTPUT_ON, OUTPUT_OFF, WAIT_TICKS, WAIT_LITRES, RESPOND, CONTROLLABLE, UNCONTROLLABLE,
 )
 
@@ -407,6 +407,7 @@ def random_plan(r):
         records.append((MODULE, [m, states, r.randrange(states)]))
         mine = [(m, s, e) for s in range(states) for e in range(events) if owner[e] == m]
         records += [(MODULE_MOVE, [*key, r.randrange(states)]) for key in subset(r, mine, 0.7)]
+        records += [(MARKING, [m, s]) for s in subset(r, range(states), 0.3)]
     for v in range(supervisors):
         states = r.randint(1, 4)
         alphabet = subset(r, range(events), 0.5)
@@ -552,7 +553,7 @@ class Maker:
     def another_image(self):
         """The image with one byte changed, some calls, and the image back."""
         image = bytearray(self.run.image)
-        image[self.r.randrange(len(image))] = self.r.choice((0, 1, 2, 3, 4, 5, 0x17, 0x1F, self.r.randrange(256)))
+        image[self.r.randrange(len(image))] = self.r.choice((0, 1, 2, 3, 4, 5, 0x17, 0x18, 0x1F, self.r.randrange(256)))
         self.say(("plan " if self.r.random() < 0.2 else "image ") + image.hex().upper())
         for _ in range(self.r.randint(1, 3)):
             self.call()

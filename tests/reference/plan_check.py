@@ -21,7 +21,7 @@ import sys
 
 LIMIT = 49152
 
-HEAD, EVENT, MODULE, MODULE_MOVE, SUPERVISOR, SUPERVISOR_MOVE, DISABLING, STEP = range(0x10, 0x18)
+HEAD, EVENT, MODULE, MODULE_MOVE, SUPERVISOR, SUPERVISOR_MOVE, DISABLING, STEP, MARKING = range(0x10, 0x19)
 END = 0x1F
 
 # The fields of each kind in their order, by their sizes in bytes.
@@ -34,6 +34,7 @@ FIELDS = {
     SUPERVISOR_MOVE: (1, 1, 1, 1),
     DISABLING: (1, 1, 8),
     STEP: (1, 1, 1, 8),
+    MARKING: (1, 1),
     END: (),
 }
 
@@ -47,6 +48,7 @@ KEY = {
     SUPERVISOR_MOVE: 3,
     DISABLING: 2,
     STEP: 2,
+    MARKING: 2,
     END: 0,
 }
 
@@ -160,6 +162,8 @@ class Plan:
         if kind == DISABLING:
             supervisor, state, mask = fields
             return not (self.has_state(SUPERVISOR, supervisor, state) and all(map(self.has_event, bits_of(mask))))
+        if kind == MARKING:
+            return not self.has_state(MODULE, *fields)
         if kind == STEP:
             event, _, operation, operand = fields
             return not (self.has_event(event) and (operation != RESPOND or self.has_event(operand)))

@@ -14,8 +14,12 @@ pub const BIDS: u8 = 4;
 pub const SENDS: u8 = 5;
 /// A step that waits.
 pub const WAITS: u8 = 6;
+/// Every reachable joint state can reach one with all modules marked.
+pub const FREE: u8 = 7;
+/// Some cannot: a word that leads to one, and that state, were written.
+pub const STUCK: u8 = 8;
 
-/// A refusal: a number of document 01 and a byte offset.
+/// A refusal: a number of the papers and a byte offset.
 #[derive(Clone, Copy, Debug, PartialEq, Eq)]
 pub struct Refusal {
     pub number: u8,

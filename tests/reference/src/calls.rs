@@ -4,6 +4,7 @@
 #[derive(Clone, Copy, Debug)]
 pub enum Call {
     Check,
+    FindStuck,
     ReadRecord {
         offset: usize,
     },
@@ -75,6 +76,7 @@ impl Engine for Reference {
     fn call(&self, call: Call, image: &[u8], state: &mut [u8], message: &[u8], buffer: &mut [u8]) -> u64 {
         match call {
             Call::Check => crate::check(image),
+            Call::FindStuck => crate::find_stuck(image, buffer),
             Call::ReadRecord { offset } => crate::read_record(image, offset),
             Call::WriteRecord {
                 kind,

@@ -1,7 +1,7 @@
-//! The orchard supervisory engine, written a second time from document 01 alone.
+//! The orchard supervisory engine, written a second time from document 01 and the change requests alone.
 //!
 //! It is the other side of a differential test of the proved engine and the yardstick of its benchmark, so nothing here was taken
-//! from that engine: only the paper, the readings of its open places, and the C header's bytes. Every call of the header stands here
+//! from that engine: only the papers, the readings of their open places, and the C header's bytes. Every call of the header stands here
 //! under its name, over slices. A refused call leaves every lent byte as it was.
 
 #![forbid(unsafe_code)]
@@ -10,6 +10,7 @@ pub mod answer;
 pub mod calls;
 pub mod cases;
 mod device;
+mod joint;
 pub mod message;
 mod module;
 pub mod plan;
@@ -25,6 +26,11 @@ use procedure::Reading;
 /// Checks a plan image.
 pub fn check(image: &[u8]) -> u64 {
     pack(plan::check(image).map(|_| Answer::done()))
+}
+
+/// Whether the plan ever gets stuck: writes a word that leads to a stuck joint state, and that state.
+pub fn find_stuck(image: &[u8], buffer: &mut [u8]) -> u64 {
+    pack(joint::find_stuck(image, buffer))
 }
 
 /// Reads the record at an offset by shape alone: the value is its kind, the length that of the whole record.

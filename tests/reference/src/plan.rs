@@ -15,6 +15,7 @@ pub const SUPERVISOR: u8 = 0x14;
 pub const SUPERVISOR_MOVE: u8 = 0x15;
 pub const DISABLING: u8 = 0x16;
 pub const STEP: u8 = 0x17;
+pub const MARKING: u8 = 0x18;
 pub const END: u8 = 0x1F;
 
 pub const OUTPUT_ON: u8 = 1;
@@ -30,6 +31,7 @@ pub const fn body_length(kind: u8) -> Option<usize> {
         MODULE_MOVE | SUPERVISOR_MOVE => Some(4),
         SUPERVISOR | STEP => Some(11),
         DISABLING => Some(10),
+        MARKING => Some(2),
         END => Some(0),
         _ => None,
     }
@@ -40,7 +42,7 @@ const fn byte_fields(kind: u8) -> usize {
     match kind {
         HEAD | EVENT | MODULE | SUPERVISOR | STEP => 3,
         MODULE_MOVE | SUPERVISOR_MOVE => 4,
-        DISABLING => 2,
+        DISABLING | MARKING => 2,
         _ => 0,
     }
 }
@@ -91,7 +93,7 @@ pub fn write(kind: u8, fields: [u8; 4], word: u64, buffer: &mut [u8]) -> Result<
 }
 
 /// The field of eight bytes at the end of a body.
-fn word(body: &[u8]) -> u64 {
+pub(crate) fn word(body: &[u8]) -> u64 {
     body.last_chunk().map_or(0, |bytes| u64::from_be_bytes(*bytes))
 }
 
@@ -156,12 +158,14 @@ pub struct Plan<'a> {
     pub module_events: [u64; 16],
     pub module_states: [u8; 16],
     pub module_initial: [u8; 16],
+    /// The marked states of each module, bit s for state s: those that have a record, or all where none has.
+    pub marked: [u32; 16],
     pub supervisor_states: [u8; 32],
     pub supervisor_initial: [u8; 32],
     pub alphabet: [u64; 32],
-    module_moves: &'a [[u8; 5]],
-    supervisor_moves: &'a [[u8; 5]],
-    disablings: &'a [[u8; 11]],
+    pub(crate) module_moves: &'a [[u8; 5]],
+    pub(crate) supervisor_moves: &'a [[u8; 5]],
+    pub(crate) disablings: &'a [[u8; 11]],
     steps: &'a [[u8; 12]],
 }
 
@@ -324,6 +328,7 @@ impl<'a> Check<'a> {
             module_events: [0; 16],
             module_states: [0; 16],
             module_initial: [0; 16],
+            marked: [0; 16],
             supervisor_states: [0; 32],
             supervisor_initial: [0; 32],
             alphabet: [0; 32],
@@ -354,6 +359,7 @@ impl<'a> Check<'a> {
             [STEP, event, index, operation, a, b, c, d, e, f, g, h, ..] => {
                 self.step(event, index, operation, u64::from_be_bytes([a, b, c, d, e, f, g, h]))?;
             }
+            [MARKING, module, state, ..] => self.marking(module, state)?,
             [HEAD, modules, supervisors, events, ..] => self.head(modules, supervisors, events)?,
             [EVENT, number, module, class, ..] => self.event(number, module, class)?,
             [MODULE, number, states, initial, ..] => self.module(number, states, initial)?,
@@ -461,6 +467,14 @@ impl<'a> Check<'a> {
         demand(!respond || self.plan.is_response(module, operand as u8), 7)
     }
 
+    fn marking(&mut self, module: u8, state: u8) -> Verdict {
+        self.ascend(MARKING, module, state, 0)?;
+        demand(contains(self.modules, module), 6)?;
+        demand(state < self.plan.module_states[module as usize], 6)?;
+        self.plan.marked[module as usize] |= 1 << state;
+        Ok(())
+    }
+
     /// Every number that the head promised is declared; none above was, so counting them suffices.
     fn end(&mut self) -> Verdict {
         self.ascend(END, 0, 0, 0)?;
@@ -484,7 +498,14 @@ impl<'a> Check<'a> {
             let (start, end) = self.spans[usize::from(kind & 0x0F)];
             &image[start..end]
         };
+        let mut marked = self.plan.marked;
+        for (marked, states) in marked.iter_mut().zip(self.plan.module_states) {
+            if *marked == 0 {
+                *marked = ((1u64 << states) - 1) as u32;
+            }
+        }
         Plan {
+            marked,
             module_moves: section(MODULE_MOVE).as_chunks().0,
             supervisor_moves: section(SUPERVISOR_MOVE).as_chunks().0,
             disablings: section(DISABLING).as_chunks().0,

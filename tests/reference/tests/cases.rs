@@ -1,18 +1,18 @@
 //! The generator gives what it promises: valid plans of all sizes, every number of the table, and schedules that keep demand 3.
 
-use reference::answer::number;
+use reference::answer::{did, length, number, FREE, STUCK};
 use reference::calls::{Engine, Reference};
 use reference::cases::{
-    break_device, break_module, break_supervisor, device_case, fit_device, fit_module, fit_supervisor, image_case, image_of, lively_plan,
-    message_case, module_case, plan, record_case, records_of, schedule, sized, supervisor_case, Case, Ground, Rng, World, DEVICE_CLAUSES,
-    MODULE_CLAUSES, SUPERVISOR_CLAUSES,
+    break_device, break_module, break_supervisor, counter, crowded, device_case, fit_device, fit_module, fit_supervisor,
+    full_with_two_states, image_case, image_of, lively_plan, message_case, module_case, plan, record_case, records_of, schedule, sized,
+    stuck_case, supervisor_case, switches, Case, Ground, Rng, World, DEVICE_CLAUSES, MODULE_CLAUSES, STUCK_BYTES, SUPERVISOR_CLAUSES,
 };
 use std::collections::BTreeSet;
 
 /// Draws cases on many plans and gives how often each number arose, 0 for accepted.
-fn counts(seed: u64, plans: usize, mut draw: impl FnMut(&mut Rng, &mut Ground) -> Case) -> [usize; 16] {
+fn counts(seed: u64, plans: usize, mut draw: impl FnMut(&mut Rng, &mut Ground) -> Case) -> [usize; 17] {
     let mut rng = Rng::new(seed);
-    let mut counts = [0; 16];
+    let mut counts = [0; 17];
     for _ in 0..plans {
         let records = plan(&mut rng);
         let image = image_of(&records);
@@ -77,10 +77,10 @@ fn every_kind_is_turned_down_for_every_reason() {
         case
     });
     let expected: [(u8, &[u8]); 6] = [
-        (3, &[0x10, 0x11, 0x12, 0x13, 0x14, 0x15, 0x16, 0x17]),
-        (4, &[0x10, 0x11, 0x12, 0x13, 0x14, 0x15, 0x16, 0x17, 0x1F]),
+        (3, &[0x10, 0x11, 0x12, 0x13, 0x14, 0x15, 0x16, 0x17, 0x18]),
+        (4, &[0x10, 0x11, 0x12, 0x13, 0x14, 0x15, 0x16, 0x17, 0x18, 0x1F]),
         (5, &[0x10, 0x11, 0x12, 0x14, 0x16, 0x17]),
-        (6, &[0x11, 0x12, 0x13, 0x14, 0x15, 0x16, 0x17]),
+        (6, &[0x11, 0x12, 0x13, 0x14, 0x15, 0x16, 0x17, 0x18]),
         (7, &[0x13, 0x15, 0x16, 0x17]),
         (8, &[0x1F]),
     ];
@@ -92,7 +92,7 @@ fn every_kind_is_turned_down_for_every_reason() {
 }
 
 /// Asserts that some cases are accepted and each of the numbers arises.
-fn arise(counts: [usize; 16], numbers: &[usize]) {
+fn arise(counts: [usize; 17], numbers: &[usize]) {
     assert!(counts[0] >= 1000, "{counts:?}");
     for &number in numbers {
         assert!(counts[number] >= 5, "number {number}: {counts:?}");
@@ -106,6 +106,10 @@ fn every_number_of_a_call_arises() {
     arise(counts(5, 120, supervisor_case), &[9, 10, 11, 12, 15]);
     arise(counts(6, 120, |rng, ground| record_case(rng, ground)), &[2, 3, 5, 15]);
     arise(counts(7, 120, |rng, ground| message_case(rng, ground)), &[10, 15]);
+    arise(
+        counts(13, 120, |rng, ground| stuck_case(rng, ground)),
+        &[1, 2, 3, 4, 5, 6, 8, 15, 16],
+    );
 }
 
 /// Each clause of fitting, broken, gives 9 on many plans.
@@ -157,4 +161,39 @@ fn schedules_keep_demand_three() {
         fired += world.record.len();
     }
     assert!(fired > 1000, "{fired} events");
+}
+
+/// Of small plans many get stuck and many do not, and words of several lengths lead there.
+#[test]
+fn small_plans_get_stuck_and_do_not() {
+    let (mut free, mut lengths) = (0, BTreeSet::new());
+    counts(14, 60, |rng, ground| {
+        let case = stuck_case(rng, ground);
+        let answer = reference::find_stuck(&case.image, &mut [0; STUCK_BYTES]);
+        free += usize::from(number(answer) == 0 && did(answer) == FREE);
+        if did(answer) == STUCK {
+            let parties = case.image[1] + case.image[2];
+            lengths.insert(length(answer) - u32::from(parties));
+        }
+        case
+    });
+    assert!(free >= 500, "{free}");
+    assert!((0..8).all(|length| lengths.contains(&length)), "{lengths:?}");
+}
+
+/// Plans whose joint states can be counted are answered up to 4,096 of them.
+#[test]
+fn joint_states_are_counted() {
+    let answer = |records: Vec<Vec<u8>>| {
+        let answer = reference::find_stuck(&image_of(&records), &mut [0; STUCK_BYTES]);
+        (number(answer), did(answer), length(answer))
+    };
+    assert_eq!(answer(switches(12)), (0, FREE, 0));
+    assert_eq!(answer(switches(13)), (16, 0, 0));
+    assert_eq!(answer(crowded(12, 32, 5)), (0, FREE, 0));
+    assert_eq!(answer(crowded(13, 32, 4)), (16, 0, 0));
+    assert_eq!(answer(counter(12, 1)), (0, STUCK, 4_095 + 1 + 12));
+    assert_eq!(answer(counter(12, 0)), (16, 0, 0));
+    assert_eq!(answer(full_with_two_states()), (0, FREE, 0));
+    assert_eq!(image_of(&full_with_two_states()).len(), 49_152);
 }

@@ -226,6 +226,49 @@ fn readings_of_steps() {
     assert_eq!(steps(&[long[0], long[2]]), (4, 93));
 }
 
+/// The check of P with marks before its end record; the first of them stands at 81.
+fn marks(records: &str) -> (u8, u32) {
+    checked(&PLAN_P.replace("1F", &format!("{records} 1F")))
+}
+
+#[test]
+fn readings_of_marks() {
+    assert_eq!(marks("18 00 00"), (0, 0));
+    assert_eq!(marks("18 00 00 18 00 01 18 01 00 18 01 01"), (0, 0));
+    assert_eq!(marks("18 00 01 18 01 00"), (0, 0));
+    assert_eq!(marks("17 00 00 01 0000000000000000 18 00 00"), (0, 0));
+    assert_eq!(checked("18"), (3, 0));
+    assert_eq!(checked("18 00"), (3, 0));
+    assert_eq!(checked("18 00 00"), (4, 0));
+    assert_eq!(marks("18 00 00 18 00 00"), (4, 84));
+    assert_eq!(marks("18 00 01 18 00 00"), (4, 84));
+    assert_eq!(marks("18 01 00 18 00 01"), (4, 84));
+    assert_eq!(marks("18 01 00 18 00 02"), (4, 84));
+    assert_eq!(marks("18 00 00 17 00 00 01 0000000000000000"), (4, 84));
+    assert_eq!(marks("18 00 02"), (6, 81));
+    assert_eq!(marks("18 02 00"), (6, 81));
+    assert_eq!(marks("18 FF FF"), (6, 81));
+    assert_eq!(checked("10020001 11000001 12010100 18 00 00 1F"), (6, 12));
+    assert_eq!(checked("10020001 11000001 12010100 18 01 00 1F"), (8, 15));
+    assert_eq!(checked(&format!("{PLAN_P} 18 00 00")), (4, 82));
+    // Kinds above it are still unknown.
+    assert_eq!(checked("19"), (2, 0));
+    assert_eq!(marks("1E 00 00"), (2, 81));
+}
+
+#[test]
+fn a_module_without_marks_has_all_its_states_marked() {
+    let marked = |records: &str| {
+        let image = hex(&PLAN_P.replace("1F", &format!("{records} 1F")));
+        plan::check(&image).map(|plan| plan.marked[..2].to_vec())
+    };
+    assert_eq!(marked(""), Ok(vec![3, 3]));
+    assert_eq!(marked("18 00 01"), Ok(vec![2, 3]));
+    assert_eq!(marked("18 00 00 18 01 00"), Ok(vec![1, 1]));
+    let wide = hex("10010001 11000001 12002000 1F");
+    assert_eq!(plan::check(&wide).map(|plan| plan.marked[0]), Ok(u32::MAX));
+}
+
 #[test]
 fn readings_of_records() {
     let image = p();
@@ -244,12 +287,18 @@ fn readings_of_records() {
     assert_eq!(write_record(0x12, 200, 1, 77, 9, 1, &mut buffer[..4]), 4 << 32);
     assert_eq!(write_record(0x17, 0, 64, 1, 9, 1, &mut []), 5);
     assert_eq!(write_record(0x1F, 0, 64, 1, 9, 1, &mut []), 15);
+    let mut buffer = [0xAA; 4];
+    assert_eq!(write_record(0x18, 255, 254, 9, 9, 1, &mut buffer), 3 << 32);
+    assert_eq!(buffer[..], hex("18FFFE AA"));
+    assert_eq!(write_record(0x18, 0, 0, 9, 9, 1, &mut buffer[..2]), 15);
+    assert_eq!(read_record(&hex("18FFFE"), 0), 0x18 << 16 | 3 << 32);
+    assert_eq!(read_record(&hex("18FF"), 0), 3);
 }
 
 /// An accepted plan, taken apart into records and written, yields its own bytes.
 #[test]
 fn a_plan_taken_apart() {
-    let image = watered();
+    let image = hex(&PLAN_P.replace("1F", "17 00 00 04 4010000000000000 18 00 00 18 01 01 1F"));
     let mut written = Vec::new();
     while written.len() < image.len() {
         let answer = read_record(&image, written.len());
@@ -257,7 +306,7 @@ fn a_plan_taken_apart() {
         let record = &image[written.len()..written.len() + length(answer) as usize];
         let mut buffer = [0; 12];
         let bytes = match value(answer) {
-            0x16 => 2,
+            0x16 | 0x18 => 2,
             0x14 | 0x17 => 3,
             _ => record.len() - 1,
         };

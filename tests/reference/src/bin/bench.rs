@@ -9,7 +9,9 @@ mod foreign;
 use foreign::Foreign;
 use reference::answer::{did, number, BIDS, EVENT};
 use reference::calls::{Call, Engine, Reference};
-use reference::cases::{fit_module, hex, image_of, sized, Case, Rng, PLAN_P};
+use reference::cases::{
+    counter, crowded, fit_module, full_with_two_states, hex, image_of, sized, switches, Case, Rng, PLAN_P, STUCK_BYTES,
+};
 use reference::message::Message;
 use reference::plan::{self, Plan};
 use reference::state::{DEVICE_BYTES, MODULE_BYTES, SUPERVISOR_BYTES};
@@ -17,8 +19,9 @@ use std::hint::black_box;
 use std::process::ExitCode;
 use std::time::Instant;
 
-/// Odd, so that the median is one of them.
+/// Odd, so that the median is one of them; fewer for calls of more than a millisecond.
 const ROUNDS: usize = 101;
+const SLOW_ROUNDS: usize = 11;
 /// How long one side runs in a round: short, so that other work on the machine spoils few of them.
 const ROUND_NANOSECONDS: f64 = 3e5;
 const BUFFER_BYTES: usize = 128;
@@ -151,6 +154,27 @@ fn rows(image: &[u8]) -> Vec<(&'static str, Case)> {
     rows.rows
 }
 
+/// Whether a plan gets stuck: by its joint states, 4 of the two-valve plan and then as named; with many events and supervisors, with
+/// the longest word, and 2 of an image of 49,152 bytes.
+fn stuck_rows() -> Vec<(&'static str, Case)> {
+    let plans = [
+        ("stuck, 4 states", hex(PLAN_P)),
+        ("stuck, 128", image_of(&switches(7))),
+        ("stuck, 4096", image_of(&switches(12))),
+        ("stuck, 4096 crowded", image_of(&crowded(12, 32, 5))),
+        ("stuck, 4096 in a row", image_of(&counter(12, 1))),
+        ("stuck, 2", image_of(&full_with_two_states())),
+    ];
+    let case = |image| Case {
+        call: Call::FindStuck,
+        image,
+        state: Vec::new(),
+        message: Vec::new(),
+        buffer: vec![0; STUCK_BYTES],
+    };
+    plans.into_iter().map(|(name, image)| (name, case(image))).collect()
+}
+
 /// Nanoseconds per call over so many calls.
 fn time(engine: &impl Engine, case: &Case, calls: usize) -> f64 {
     let mut state = case.state.clone();
@@ -177,10 +201,11 @@ fn median(mut times: Vec<f64>) -> f64 {
 
 /// Both sides' medians; the rounds alternate.
 fn measure(case: &Case) -> (f64, f64) {
-    let once = time(&Reference, case, 20).max(time(&Foreign, case, 20)).max(1.0);
-    let calls = (ROUND_NANOSECONDS / once) as usize + 1;
+    let slower = |calls| time(&Reference, case, calls).max(time(&Foreign, case, calls)).max(1.0);
+    let slow = slower(1) > 1e6;
+    let calls = if slow { 1 } else { (ROUND_NANOSECONDS / slower(20)) as usize + 1 };
     let (mut engine, mut reference) = (Vec::new(), Vec::new());
-    for _ in 0..ROUNDS {
+    for _ in 0..if slow { SLOW_ROUNDS } else { ROUNDS } {
         engine.push(time(&Foreign, case, calls));
         reference.push(time(&Reference, case, calls));
     }
@@ -205,19 +230,20 @@ fn main() -> ExitCode {
         "call", "image bytes", "engine ns", "reference ns", "ratio"
     );
     let sets: Vec<_> = images.iter().map(|image| rows(image)).collect();
-    for (name, _) in &sets[0] {
-        for (_, case) in sets.iter().flatten().filter(|(other, _)| other == name) {
-            if !agree(case) {
-                println!("{name:<20} {:>11} the two sides do not agree", case.image.len());
-                return ExitCode::FAILURE;
-            }
-            let (engine, reference) = measure(case);
-            let bytes = case.image.len();
-            println!(
-                "{name:<20} {bytes:>11} {engine:>12.1} {reference:>13.1} {:>8.2}",
-                reference / engine
-            );
+    let by_name = sets[0]
+        .iter()
+        .flat_map(|(name, _)| sets.iter().flatten().filter(move |(other, _)| other == name));
+    for (name, case) in by_name.chain(&stuck_rows()) {
+        let bytes = case.image.len();
+        if !agree(case) {
+            println!("{name:<20} {bytes:>11} the two sides do not agree");
+            return ExitCode::FAILURE;
         }
+        let (engine, reference) = measure(case);
+        println!(
+            "{name:<20} {bytes:>11} {engine:>12.1} {reference:>13.1} {:>8.2}",
+            reference / engine
+        );
     }
     ExitCode::SUCCESS
 }

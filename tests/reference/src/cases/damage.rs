@@ -4,7 +4,7 @@ use super::plans::{image_of, plan, Records};
 use super::Rng;
 use crate::plan::{self, IMAGE_LIMIT};
 
-const KINDS: [u8; 9] = [
+const KINDS: [u8; 10] = [
     plan::HEAD,
     plan::EVENT,
     plan::MODULE,
@@ -13,6 +13,7 @@ const KINDS: [u8; 9] = [
     plan::SUPERVISOR_MOVE,
     plan::DISABLING,
     plan::STEP,
+    plan::MARKING,
     plan::END,
 ];
 
@@ -61,7 +62,7 @@ fn damage_record(rng: &mut Rng, records: &mut Records) {
         return;
     }
     let at = some_record(rng, records);
-    match rng.below(14) {
+    match rng.below(16) {
         0 => {
             records.remove(at);
         }
@@ -90,6 +91,7 @@ fn damage_record(rng: &mut Rng, records: &mut Records) {
             records.insert(at, foreign);
         }
         12 => long_procedure(rng, records),
+        13 | 14 => new_mark(rng, records),
         _ => new_step(rng, records),
     }
 }
@@ -162,4 +164,13 @@ fn new_step(rng: &mut Rng, records: &mut Records) {
     step.extend_from_slice(&operand.to_be_bytes());
     let at = records.len() - 1;
     records.insert(at, step);
+}
+
+/// A mark of some module and state before the end record, often undeclared or out of order; seldom before other kinds.
+fn new_mark(rng: &mut Rng, records: &mut Records) {
+    let last = records.len() - 1;
+    let at = if rng.chance(80) { last } else { rng.below(records.len()) };
+    let module = if rng.chance(60) { 15 } else { rng.below(18) as u8 };
+    let state = if rng.chance(60) { rng.below(3) as u8 } else { rng.pick(&LIMITS) };
+    records.insert(at, vec![plan::MARKING, module, state]);
 }

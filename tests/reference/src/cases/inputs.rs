@@ -67,7 +67,7 @@ impl<'a> Ground<'a> {
     }
 }
 
-fn case(call: Call) -> Case {
+pub(super) fn case(call: Call) -> Case {
     Case {
         call,
         image: Vec::new(),
@@ -258,13 +258,13 @@ fn write_record_case(rng: &mut Rng) -> Case {
         ]),
     };
     let kind = if rng.chance(92) {
-        rng.pick(&[0x10, 0x11, 0x12, 0x13, 0x14, 0x15, 0x16, 0x17, 0x17, 0x17, 0x1F])
+        rng.pick(&[0x10, 0x11, 0x12, 0x13, 0x14, 0x15, 0x16, 0x17, 0x17, 0x17, 0x18, 0x1F])
     } else {
         rng.byte()
     };
     let small = rng.chance(60);
     let fields = [(); 4].map(|()| if small { rng.between(1, 5) as u8 } else { rng.pick(&limits) });
-    let length = rng.pick(&[0, 1, 3, 4, 5, 10, 11, 12, 12, 12, 13, 20]);
+    let length = rng.pick(&[0, 1, 2, 3, 4, 5, 10, 11, 12, 12, 12, 13, 20]);
     Case {
         buffer: rng.bytes(length),
         ..case(Call::WriteRecord { kind, fields, word })

@@ -27,25 +27,27 @@ pub fn records_of(image: &[u8]) -> Records {
 
 /// How big and how dense a random plan is; percentages where nothing else is said.
 #[derive(Clone, Copy, Debug)]
-struct Shape {
-    modules: usize,
-    supervisors: usize,
-    events: usize,
-    module_states: usize,
-    supervisor_states: usize,
-    controllable: usize,
-    alphabet: usize,
-    module_moves: usize,
-    supervisor_moves: usize,
-    disablings: usize,
+pub(super) struct Shape {
+    pub(super) modules: usize,
+    pub(super) supervisors: usize,
+    pub(super) events: usize,
+    pub(super) module_states: usize,
+    pub(super) supervisor_states: usize,
+    pub(super) controllable: usize,
+    pub(super) alphabet: usize,
+    pub(super) module_moves: usize,
+    pub(super) supervisor_moves: usize,
+    pub(super) disablings: usize,
     /// At most this many steps for each event.
-    steps: usize,
+    pub(super) steps: usize,
+    /// Modules with marks, each of whose states then is marked half of the time.
+    pub(super) marks: usize,
     /// At most this many bytes, and exactly as many if `fill` and there is enough to fill with.
-    bytes: usize,
-    fill: bool,
+    pub(super) bytes: usize,
+    pub(super) fill: bool,
 }
 
-const MIDDLING: Shape = Shape {
+pub(super) const MIDDLING: Shape = Shape {
     modules: 4,
     supervisors: 3,
     events: 12,
@@ -57,6 +59,7 @@ const MIDDLING: Shape = Shape {
     supervisor_moves: 60,
     disablings: 50,
     steps: 4,
+    marks: 50,
     bytes: IMAGE_LIMIT,
     fill: false,
 };
@@ -231,7 +234,7 @@ struct Draft<'r> {
     alphabets: Vec<u64>,
 }
 
-fn random(rng: &mut Rng, shape: Shape) -> Records {
+pub(super) fn random(rng: &mut Rng, shape: Shape) -> Records {
     let declared = 4 + 4 * shape.events + 4 * shape.modules + 12 * shape.supervisors + 1;
     let mut draft = Draft {
         rng,
@@ -246,17 +249,30 @@ fn random(rng: &mut Rng, shape: Shape) -> Records {
     let events = draft.events();
     let modules = draft.modules();
     let supervisors = draft.supervisors();
+    let mut marks = draft.marks();
     let mut steps = draft.steps();
     let disablings = draft.disablings();
     let module_moves = draft.module_moves();
-    // Moves are five bytes: dropping last steps of twelve makes the room a multiple of five.
-    while shape.fill && !draft.room.is_multiple_of(5) && steps.pop().is_some() {
-        draft.room += 12;
+    // Moves are five bytes: dropping last steps of twelve, then marks of three, makes the room a multiple of five.
+    while shape.fill && !draft.room.is_multiple_of(5) {
+        let Some(dropped) = steps.pop().or_else(|| marks.pop()) else {
+            break;
+        };
+        draft.room += dropped.len();
     }
     let supervisor_moves = draft.supervisor_moves();
     let head = vec![plan::HEAD, shape.modules as u8, shape.supervisors as u8, shape.events as u8];
     let mut records = vec![head];
-    for section in [events, modules, module_moves, supervisors, supervisor_moves, disablings, steps] {
+    for section in [
+        events,
+        modules,
+        module_moves,
+        supervisors,
+        supervisor_moves,
+        disablings,
+        steps,
+        marks,
+    ] {
         records.extend(section);
     }
     records.push(vec![plan::END]);
@@ -382,6 +398,21 @@ impl Draft<'_> {
                 let mut record = vec![plan::STEP, event as u8, index as u8, operation];
                 record.extend_from_slice(&operand.to_be_bytes());
                 records.push(record);
+            }
+        }
+        records
+    }
+
+    fn marks(&mut self) -> Records {
+        let mut records = Vec::new();
+        for module in 0..self.shape.modules {
+            if !self.rng.chance(self.shape.marks) {
+                continue;
+            }
+            for state in 0..self.module_states[module] {
+                if self.rng.chance(50) && self.spend(3) {
+                    records.push(vec![plan::MARKING, module as u8, state as u8]);
+                }
             }
         }
         records

@@ -65,7 +65,7 @@ fn without(records: &Records, field: usize, gone: u8) -> Option<Records> {
             }
             (3, plan::DISABLING) => mask_without(&mut record, gone) != 0,
             (2, plan::SUPERVISOR | plan::SUPERVISOR_MOVE | plan::DISABLING) => move_down(&mut record[1], gone),
-            (1, plan::MODULE | plan::MODULE_MOVE) => move_down(&mut record[1], gone),
+            (1, plan::MODULE | plan::MODULE_MOVE | plan::MARKING) => move_down(&mut record[1], gone),
             (1, plan::EVENT) => {
                 if !move_down(&mut record[2], gone) {
                     record[2] = 0;
