@@ -32,7 +32,9 @@ import listing  # noqa: E402
 import many_devices  # noqa: E402
 import one_device  # noqa: E402
 import plan_check  # noqa: E402
-from plan_check import DISABLING, END, EVENT, HEAD, MODULE, MODULE_MOVE, STEP, SUPERVISOR, SUPERVISOR_MOVE  # noqa: E402
+from plan_check import (  # noqa: E402
+    DISABLING, END, EVENT, HEAD, MARKING, MODULE, MODULE_MOVE, STEP, SUPERVISOR, SUPERVISOR_MOVE,
+)
 
 SEEDS = 200
 DAMAGES, SMALL = 12, 1500  # damages of each random image, if it is so short
@@ -166,7 +168,8 @@ def every_kind_image():
     records += [(SUPERVISOR, [0, 2, 0, 7]), (SUPERVISOR_MOVE, [0, 1, 2, 0]), (DISABLING, [0, 1, 5])]
     steps = [(1, 31), (2, 0), (3, 9), (4, one_device.bits_of(2.5)), (5, 1)]
     records += [(STEP, [0, index, *step]) for index, step in enumerate(steps)]
-    return image_of(records + [(STEP, [2, 0, 1, 1]), (END, [])])
+    records += [(STEP, [2, 0, 1, 1]), (MARKING, [0, 0]), (MARKING, [0, 1]), (MARKING, [1, 0])]
+    return image_of(records + [(END, [])])
 
 
 def steps_image():
@@ -203,7 +206,8 @@ def damaged(chance, image):
     record = chance.choice(places)
     after = plan_check.read(image, record)[2]
     near = bytes([max(0, min(255, image[at] + chance.choice((-1, 1, 2))))])
-    anything = bytes([chance.choice((0, 1, 2, 5, 6, 16, 32, 63, 64, 0x17, 0x18, 0x1F, 255, chance.randrange(256)))])
+    kinds = (0x17, 0x18, 0x19, 0x1F)
+    anything = bytes([chance.choice((0, 1, 2, 5, 6, 16, 32, 63, 64, *kinds, 255, chance.randrange(256)))])
     return chance.choice((
         image[:at] + near + image[at + 1 :],
         image[:at] + near + image[at + 1 :],
@@ -347,6 +351,7 @@ procedure a.close
   off coil
 module a                      # the first
   states shut open
+  marked open
   command open close
   response done
   output lamp coil
@@ -357,11 +362,13 @@ procedure b.open
 module b like a
   states stuck
   initial stuck
+  marked shut
   stuck close shut
 group opens a.open
 group opens b.open
 """, """
 module second = 1
+  marked shut open
   states shut open stuck
   command open = 3
   output lamp = 0
@@ -373,6 +380,7 @@ module second = 1
   response done
 module first
   states shut open
+  marked open
   command open = 0
   command close = 1
   response done=2
@@ -513,11 +521,13 @@ def draw(path, name):
 
 
 def judge_drawings(path, known, drawings):
-    """The states, moves and disablings that are drawn are as many as the plan has."""
-    states, moves, dashed, disabled, initial = [], 0, 0, 0, []
+    """The states, marked states, moves and disablings that are drawn are as many as the plan has."""
+    states, marked, moves, dashed, disabled, initial = [], 0, 0, 0, 0, []
     for text in drawings.values():
-        nodes = re.findall(r'^  s[0-9]+ \[label="(.*)"\];$', text, re.M)
+        outlined = re.findall(r'^  s[0-9]+ \[label="(.*)"(, peripheries=2)?\];$', text, re.M)
+        nodes = [label for label, _ in outlined]
         states.append(len(nodes))
+        marked += sum(outline != "" for _, outline in outlined)
         disabled += sum(len(node.split("\\n")) - 2 for node in nodes if "\\n" in node)
         arrows = re.findall(r'^  s[0-9]+ -> s[0-9]+ \[label="(.*)"(, style=dashed)?\];$', text, re.M)
         moves += sum(len(label.split("\\n")) for label, _ in arrows)
@@ -528,6 +538,7 @@ def judge_drawings(path, known, drawings):
     owners = [fields for kind in (MODULE, SUPERVISOR) for fields in kinds[kind].values()]
     insist(sorted(states) == sorted(fields[0] for fields in owners), path, "states drawn:", states)
     insist(sorted(map(int, initial)) == sorted(fields[1] for fields in owners), path, "initial states drawn:", initial)
+    insist(marked == len(kinds[MARKING]), path, "marked states drawn:", marked)
     insist(moves == len(moved), path, "moves drawn:", moves)
     insist(dashed == sum(kinds[EVENT][e,][1] == 0 for e in moved), path, "dashed moves drawn:", dashed)
     masks = [fields[0] for fields in kinds[DISABLING].values()]

@@ -1,12 +1,13 @@
 #!/usr/bin/env bash
 # Plans as text. Each examples/plans/NAME.plan must build the stored image NAME.hex and be accepted by the proved check; where there is a
-# NAME.script, the simulation must print NAME.expected. The orchard must be that of examples/wire. Then tests/plans.py: these plans shown and
-# built again, texts with faults or notes (tests/plans/*.plan, told as in *.expected), random and damaged images and texts, drawings.
+# NAME.script, the simulation must print NAME.expected, and where there is a NAME.stuck, the program stuck must print that. The orchard must be
+# that of examples/wire. Then tests/plans.py: these plans shown and built again, texts with faults or notes (tests/plans/*.plan, told as in
+# *.expected), random and damaged images and texts, drawings.
 set -eu
 cd "$(dirname "$0")/.."
 here=$PWD
 mkdir -p target
-rt check listing simulate > target/plans.log 2>&1 || { tail -n 40 target/plans.log; exit 1; }
+rt check listing simulate stuck > target/plans.log 2>&1 || { tail -n 40 target/plans.log; exit 1; }
 kit=$(dirname "$(dirname "$(rt doc)")")
 loader=$(find "$kit" -name ld-linux-x86-64.so.2 | head -n 1)
 room=$(mktemp -d)
@@ -25,11 +26,26 @@ for plan in examples/plans/*.plan; do
   if [ -e "$name.script" ]; then
     (cd "$room" && run simulate < "$here/$name.script") | cmp - "$name.expected" || fail "$name.script is answered otherwise"
   fi
+  if [ -e "$name.stuck" ]; then
+    (cd "$room" && run stuck) | cmp - "$name.stuck" || fail "whether $plan gets stuck is answered otherwise"
+  fi
   count=$((count + 1))
 done
 cmp <(tests/bytes.sh docs/two-valve.hex) <(tests/bytes.sh examples/plans/two-valve.hex) || fail "the two-valve plan is not that of docs"
 ${CC:-cc} -std=c11 -Wall -Wextra -Werror -Iinclude -Iexamples/wire tests/orchard.c examples/wire/orchard.c -o "$room/orchard"
 "$room/orchard" | cmp - <(tests/bytes.sh examples/plans/orchard.hex) || fail "the orchard plan is not that of examples/wire"
+
+# the program stuck without a plan, with an image that is refused, and with an initial state that is stuck, to which the empty word leads
+mkdir "$room/alone"
+stuck() { # EXPECTED
+  [ "$(cd "$room/alone" && run stuck)" = "$1" ] || fail "stuck does not print: $1"
+}
+stuck 'plan refused 3 at 0'
+printf '\037' > "$room/alone/plan.bin"
+stuck 'plan refused 4 at 0'
+printf '%s\n' 'module m' 'states here there' 'marked there' 'response stays' 'here stays here' > "$room/alone/stays.plan"
+tools/plan build "$room/alone/stays.plan" -o "$room/alone/plan.bin" 2> /dev/null || fail "a plan that is stuck from the start is not built"
+stuck $'plan 1 0 1\nword\nstates 0'
 
 # the command line itself: a plan shown and built again beside its text, no file, a text with a fault, an image that cannot be shown
 tools/plan show "$room/plan.bin" "$room/plan.names" > "$room/again.plan" || fail "$plan is not shown"
