@@ -311,7 +311,7 @@ uint64_t pewterslug_write_record(uint8_t kind, uint8_t first, uint8_t second, ui
                                  uint8_t *buffer, size_t buffer_length);
 
 /* Whether the plan ever gets stuck: a question for a workstation and not for a device. It takes about 2.0 MB of stack, and time that grows
- * with the joint states times the events.
+ * with the joint states found, the modules and supervisors, and the events that may happen in each.
  *
  * A joint state is the states of all modules and all supervisors. An event may happen where its module has a move by it and, if it is
  * controllable, no supervisor disables it; nothing else of a turn counts. A reachable joint state is stuck if no word of events leads from
