@@ -26,8 +26,8 @@ use Rattle.modules.specs.declared.Own.{Own}
 use Rattle.modules.specs.declared.Turn.the-variants.{Event}
 use Rattle.modules.specs.Turn.{emptyOwn}
 use Rattle.modules.specs.Fits.{ownFits, ownEmpty}
-use Rattle.words.specs.Lists.{listFrom}
-use Rattle.words.proofs.Lists.{any-slot, over, over-on, over-rest}
+use Rattle.words.specs.Lists.{listFrom, front}
+use Rattle.words.proofs.Lists.{any-slot, front-on, front-rest}
 use Rattle.device_states.specs.declared.Device.{Device}
 use Rattle.device_states.specs.States.{stateOf, ownSlotFits, stateSlotFits, deviceFits, shownBy, stateAfterTurn}
 
@@ -131,16 +131,16 @@ module _ (rs : List Record) (states : List ℕ) where
   abbrev pub moved : ℕ → ℕ → ℕ
   moved e v = stateAfterTurn rs v (stateOf states v) (Event e)
 
-  module _ (k : length states ≡ 32) (e i : ℕ) {l : List ℕ} (w : l ≡ over (moved e) 0 states i) where
-    pub moved-on : (v : ℕ) {x : ℕ} → v ≡ i → x ≡ supervisorAfter rs v (stateOf states i) e → i < 32 → set l i x ≡ over (moved e) 0 states (i + 1)
+  module _ (k : length states ≡ 32) (e i : ℕ) {l : List ℕ} (w : l ≡ front (moved e) i states) where
+    pub moved-on : (v : ℕ) {x : ℕ} → v ≡ i → x ≡ supervisorAfter rs v (stateOf states i) e → i < 32 → set l i x ≡ front (moved e) (i + 1) states
     moved-on v q g h =
-        over-on (moved e) 0 states i w
+        front-on (moved e) i states w
         (g ∙ ap (λ (j : ℕ). supervisorAfter rs j (stateOf states i) e) q ∙ (unfold stateAfterTurn in refl)) (omega (arith, k, h))
 
     -- the others stay
     pub moved-rest : i ≤ 32 → ((v : ℕ) → i ≤ v → v < 32 → moved e v ≡ stateOf states v) → l ≡ listFrom (moved e) 0 32
     moved-rest h same =
-        over-rest (moved e) 0 states i w (omega (arith, k, h)) (λ v a b. same v a (omega (arith, k, b))) ∙ ap (listFrom (moved e) 0) k
+        front-rest (moved e) i states 0 w (omega (arith, k, h)) (λ v a b. same v a (omega (arith, k, b))) ∙ ap (listFrom (moved e) 0) k
 
     pub moved-all : 32 ≤ i → i ≤ 32 → l ≡ listFrom (moved e) 0 32
     moved-all h m = moved-rest m (λ v a b. absurd (omega arith))

@@ -5,9 +5,10 @@ use native.Mathlib.Numerals.{add-one}
 use native.Mathlib.Omega.{arith}
 use mathlib.Core.Path.{_≡_, refl, sym, ap, ap₂, _∙_}
 use mathlib.Core.List.{List, [], _∷_, _++_, append-assoc, append-nil}
-use lib.ListN.{length, getD, set, take, drop, replicate, length-drop}
-use lib.Seq.{sets, set-append-seam, drop-cons, drop-drop, getD-drop}
-use Rattle.words.specs.Lists.{listFrom}
+use lib.ListN.{length, getD, set, take, drop, replicate, length-set, length-append, length-drop, List·getD-append}
+use lib.Seq.{sets, set-append-seam, take-at, drop-at, drop-cons, drop-drop, getD-drop}
+use Rattle.words.specs.Word.{written}
+use Rattle.words.specs.Lists.{listFrom, front}
 
 -- a list filled from its start: f 0, f 1, .. up to i, and d in the other slots
 module _ {A : Type 0} (f : ℕ → A) where
@@ -61,32 +62,62 @@ module _ {A : Type 0} (f : ℕ → A) where
       ap₂ (λ (y : A) (k : List A). y ∷ k) (ap f (sym (add-zero i)) ∙ h 0 (omega arith))
       (rest-is d (suc i) r (λ v k. ap f (suc-add i v ∙ sym (add-suc i v)) ∙ h (suc v) (omega arith)))
 
-  -- the other slots hold what they did in the list at the start
-  module _ (d : A) (l : List A) where
-    abbrev pub over : ℕ → List A
-    over i = listFrom f 0 i ++ drop i l
+  module _ (n : ℕ) (l : List A) where
+    pub front-first : take n (front f n l) ≡ listFrom f 0 n
+    front-first = take-at (listFrom f 0 n) (drop n l) n (from-length 0 n)
 
-    pub over-on : (i : ℕ) {x : A} {k : List A} → k ≡ over i → x ≡ f i → i < length l → set k i x ≡ over (i + 1)
-    over-on i e g h =
-        seam-on i (getD l i d) (drop (suc i) l) (e ∙ ap (λ (k : List A). listFrom f 0 i ++ k) (drop-cons l i d h)) g
-        ∙ ap (λ (j : ℕ). listFrom f 0 (i + 1) ++ drop j l) (sym (add-one i))
+    pub front-behind : drop n (front f n l) ≡ drop n l
+    front-behind = drop-at (listFrom f 0 n) (drop n l) n (from-length 0 n)
 
-    pub over-rest : (i : ℕ) {k : List A} → k ≡ over i → i ≤ length l → ((v : ℕ) → i ≤ v → v < length l → f v ≡ getD l v d)
-        → k ≡ listFrom f 0 (length l)
-    over-rest i e h same =
-        let m : length (drop i l) ≡ length l - i = length-drop i l in
-        let n : i + length (drop i l) ≡ length l = omega arith in
-        let kept : listFrom f i (length (drop i l)) ≡ drop i l =
-        rest-is d i (drop i l) (λ v w. same (i + v) (omega arith) (omega arith) ∙ sym (getD-drop i l v d)) in
-        e ∙ ap (λ (r : List A). listFrom f 0 i ++ r) (sym kept)
-        ∙ ap (λ (j : ℕ). listFrom f 0 i ++ listFrom f j (length (drop i l))) (sym (zero-add i))
-        ∙ from-join 0 i (length (drop i l)) ∙ ap (listFrom f 0) n
+    pub front-size : n ≤ length l → length (front f n l) ≡ length l
+    front-size h = let x = from-length 0 n in let y = length-append (listFrom f 0 n) (drop n l) in let z = length-drop n l in omega arith
+
+    pub front-at : (j : ℕ) (d : A) → j < n → getD (front f n l) j d ≡ f j
+    front-at j d h = let z = from-length 0 n in List·getD-append (listFrom f 0 n) (drop n l) d j (omega arith) ∙ from-at 0 n j d h ∙ ap f (zero-add j)
+
+    -- one member more
+    pub front-on : {x : A} {k : List A} → k ≡ front f n l → x ≡ f n → n < length l → set k n x ≡ front f (n + 1) l
+    front-on {x} e g h =
+        seam-on n (getD l n x) (drop (suc n) l) (e ∙ ap (λ (r : List A). listFrom f 0 n ++ r) (drop-cons l n x h)) g
+        ∙ ap (λ (j : ℕ). listFrom f 0 (n + 1) ++ drop j l) (sym (add-one n))
+
+    -- the others are the function's too
+    pub front-rest : (d : A) {k : List A} → k ≡ front f n l → n ≤ length l → ((v : ℕ) → n ≤ v → v < length l → f v ≡ getD l v d) → k ≡ listFrom f 0 (length l)
+    front-rest d e h same =
+        let m : length (drop n l) ≡ length l - n = length-drop n l in
+        let all : n + length (drop n l) ≡ length l = omega arith in
+        let kept : listFrom f n (length (drop n l)) ≡ drop n l =
+        rest-is d n (drop n l) (λ v w. same (n + v) (omega arith) (omega arith) ∙ sym (getD-drop n l v d)) in
+        e ∙ ap (λ (r : List A). listFrom f 0 n ++ r) (sym kept)
+        ∙ ap (λ (j : ℕ). listFrom f 0 n ++ listFrom f j (length (drop n l))) (sym (zero-add n))
+        ∙ from-join 0 n (length (drop n l)) ∙ ap (listFrom f 0) all
+
+pub front-written : (f : ℕ → ℕ) (n : ℕ) (l : List ℕ) → front f n l ≡ written (listFrom f 0 n) l
+front-written f n l = ap (λ (m : ℕ). listFrom f 0 n ++ drop m l) (sym (from-length f 0 n))
+
+-- ---- a loop that writes the first n members of l, before the i-th of them
+pub record Writing {A : Type 0} (f : ℕ → A) (n : ℕ) (l k : List A) (i : ℕ) : Type 0 where
+  pub within : i ≤ n
+  pub room : n ≤ length l
+  pub size : length k ≡ length l
+  pub is : k ≡ front f i l
+
+module _ {A : Type 0} (f : ℕ → A) (n : ℕ) (l : List A) where
+  pub writes-begin : n ≤ length l → Writing f n l l 0
+  unfolding listFrom
+  writes-begin h = record { within = omega arith; room = h; size = refl; is = refl }
+
+  pub writes-go : (k : List A) (i : ℕ) {x : A} → Writing f n l k i → i < n → x ≡ f i → Writing f n l (set k i x) (i + 1)
+  writes-go k i {x} W h e = let r = W .room in record { within = omega arith; room = r; size = length-set k i x ∙ W .size; is = front-on f i l (W .is) e (omega arith) }
+
+  pub writes-end : (k : List A) (i : ℕ) → Writing f n l k i → n ≤ i → k ≡ front f n l
+  writes-end k i W h = let w = W .within in let z : i ≡ n = omega arith in W .is ∙ ap (λ (j : ℕ). front f j l) z
 
 module _ {A : Type 0} (d : A) where
   -- the slots of a list, one after the other
   pub same-slots : (l : List A) → listFrom (λ v. getD l v d) 0 (length l) ≡ l
   unfolding listFrom
-  same-slots l = sym (over-rest (λ v. getD l v d) d l 0 refl (omega arith) (λ v h k. refl))
+  same-slots l = sym (front-rest (λ v. getD l v d) 0 l d refl (omega arith) (λ v h k. refl))
 
   -- a slot, whatever stands for what is not there
   pub any-slot : (b : A) (l : List A) (i j : ℕ) → i ≡ j → j < length l → getD l i d ≡ getD l j b

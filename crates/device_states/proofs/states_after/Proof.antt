@@ -3,14 +3,13 @@ use Prim.Native.Nat.{_-_, _%_, _≤_}
 use native.Mathlib.Omega.{arith}
 use borrow.Author.Needs.{needs}
 use Rattle.places.specs.Places.{recordsBy}
-use Rattle.words.specs.Lists.{listFrom}
-use Rattle.words.proofs.Lists.{over}
+use Rattle.words.specs.Lists.{listFrom, front}
 use Rattle.device_states.proofs.Slots.{moved, moved-on, moved-rest, moved-all, stays}
 use Rattle.device_states.proofs.states_after.Statement.{statement}
 use Rattle.device_states.proofs.states_after.Tie as tie
 
 abbrev Inv-loop : tie.InvT-loop
-Inv-loop image places e states n next₀ i₀ next i = (i ≤ 32) × (next ≡ over (moved (recordsBy image places) states e) 0 states i)
+Inv-loop image places e states n next₀ i₀ next i = (i ≤ 32) × (next ≡ front (moved (recordsBy image places) states e) i states)
 
 abbrev μ-loop : tie.MeasureT-loop
 μ-loop image places e states n next₀ i₀ next i = 32 - i
