@@ -33,10 +33,10 @@ pub push-done : (s : List ℕ) {i : ℕ} {t x : Text} → length s ≤ i → app
 unfolding appended
 push-done s {i} {t} h f = sym (ap (appended t) (drop-of-length-le s h)) ∙ f
 
--- digits: a number below 10, and one digit more
-pub number-small : (t : Text) {r : Text} (n : ℕ) → n < 10 → r ≡ pushed t (48 + n) → r ≡ appended t (decimal n)
-unfolding appended digits
-number-small t n h e = simp (lt-ltb n 10 h) e
+-- a number below 10
+pub decimal-small : (n : ℕ) → n < 10 → decimal n ≡ (48 + n) ∷ []
+unfolding digits
+decimal-small n h = simp (lt-ltb n 10 h)
 
 -- fuel that is not needed
 enough : (k n : ℕ) → n < 10 ^ suc k → digits (suc (suc k)) n ≡ digits (suc k) n
@@ -50,14 +50,31 @@ one-more : (k n : ℕ) → 10 ≤ n → digits (suc k) n ≡ digits k (n / 10) +
 unfolding digits
 one-more k n h = simp (le-ltb n 10 h)
 
+-- one digit more
+pub decimal-longer : (n : ℕ) → 10 ≤ n → Fits w64 n → decimal n ≡ decimal (n / 10) ++ ((48 + n % 10) ∷ [])
+decimal-longer n h f = one-more 19 n h ∙ ap (λ (l : List ℕ). l ++ ((48 + n % 10) ∷ [])) (sym (enough 18 (n / 10) (omega arith)))
+
+-- numbers behind a text
+pub number-small : (t : Text) {r : Text} (n : ℕ) → n < 10 → r ≡ pushed t (48 + n) → r ≡ appended t (decimal n)
+unfolding appended
+number-small t n h e = e ∙ sym (ap (appended t) (decimal-small n h))
+
 pub number-longer : (t : Text) {u r : Text} (n : ℕ) → 10 ≤ n → Fits w64 n → u ≡ appended t (decimal (n / 10)) → r ≡ pushed u (48 + n % 10) → r ≡ appended t (decimal n)
 unfolding appended
 number-longer t n h f e g =
-    g
-    ∙ ap (λ (u : Text). pushed u (48 + n % 10)) (e ∙ ap (appended t) (enough 18 (n / 10) (omega arith)))
-    ∙ sym (ap (appended t) (one-more 19 n h) ∙ appended-append t (digits 19 (n / 10)) ((48 + n % 10) ∷ []))
+    g ∙ ap (λ (u : Text). pushed u (48 + n % 10)) e
+    ∙ sym (ap (appended t) (decimal-longer n h f) ∙ appended-append t (decimal (n / 10)) ((48 + n % 10) ∷ []))
 
 -- how long a number is
+pub digits-most : (k n : ℕ) → length (digits k n) ≤ k
+unfolding digits
+digits-most zero n = zero-le
+digits-most (suc k) n = go (ltb n 10) (digits-most k (n / 10))
+  where
+    go : (b : Bool) → length (digits k (n / 10)) ≤ k → length (cond b ((48 + n) ∷ []) (digits k (n / 10) ++ ((48 + n % 10) ∷ []))) ≤ suc k
+    go true g = omega arith
+    go false g = simp length-append (omega arith)
+
 digits-length : (k j n : ℕ) → n < 10 ^ suc j → length (digits k n) ≤ suc j
 unfolding digits
 digits-length zero j n h = zero-le
@@ -71,8 +88,8 @@ digits-length (suc k) (suc j) n h = go (ltb n 10) (digits-length k j (n / 10) (l
 spaced-short : (n : ℕ) → Fits w8 n → length (spaced n) ≤ 4
 spaced-short n h = let g = digits-length 20 2 n (omega arith) in omega arith
 
-spaced-wide : (n : ℕ) → Fits w64 n → length (spaced n) ≤ 21
-spaced-wide n h = let g = digits-length 20 19 n (omega arith) in omega arith
+spaced-wide : (n : ℕ) → length (spaced n) ≤ 21
+spaced-wide n = let g = digits-most 20 n in omega arith
 
 -- and how long numbers of a byte each are
 pub spaced-all-short : (xs : List ℕ) → ((i : ℕ) → i < length xs → Fits w8 (getD xs i 0)) → length (spacedAll xs) ≤ 4 * length xs
@@ -160,8 +177,8 @@ module _ {t : Text} {bs : List ℕ} {k : ℕ} (s : So t bs k) {r : Text} where
   pub so-field : (n : ℕ) → Fits w8 n → k + 4 ≤ 328 → r ≡ appended t (spaced n) → So r (bs ++ spaced n) (k + 4)
   so-field n f h e = so-all (spaced n) 4 (spaced-short n f) h e
 
-  pub so-wide : (n : ℕ) → Fits w64 n → k + 21 ≤ 328 → r ≡ appended t (spaced n) → So r (bs ++ spaced n) (k + 21)
-  so-wide n f h e = so-all (spaced n) 21 (spaced-wide n f) h e
+  pub so-wide : (n : ℕ) → k + 21 ≤ 328 → r ≡ appended t (spaced n) → So r (bs ++ spaced n) (k + 21)
+  so-wide n h e = so-all (spaced n) 21 (spaced-wide n) h e
 
   pub so-push : (b : ℕ) → k + 1 ≤ 328 → r ≡ pushed t b → So r (bs ++ (b ∷ [])) (k + 1)
   unfolding appended

@@ -11,7 +11,7 @@ unfoldable pub ascii : String → List ℕ
 ascii String.[] = []
 ascii (String._∷_ c s) = code c ∷ ascii s
 
--- the last digits of n, at most k of them, without leading zeros
+-- the last digits of n, at most k of them: of a number below 10 ^ k all, without leading zeros
 unfoldable pub digits : ℕ → ℕ → List ℕ
 digits zero n = []
 digits (suc k) n = cond (ltb n 10) ((code "0" + n) ∷ []) (digits k (n / 10) ++ ((code "0" + n % 10) ∷ []))

@@ -3,7 +3,7 @@ use mathlib.Core.Path.{_≡_}
 use Prim.Native.Nat.{ℕ}
 use native.Mathlib.Nat.{le-refl}
 use native.Mathlib.Omega.{arith}
-use mir.Syntax.{w8, w64}
+use mir.Syntax.{w8}
 use mir.Val.{Fits}
 use Rattle.texts.specs.declared.Text.{Text}
 use Rattle.texts.specs.Ascii.{ascii}
@@ -15,12 +15,12 @@ use Rattle.script.proofs.plan_refused_line.Statement.{statement}
 use Rattle.script.proofs.plan_refused_line.Tie as tie
 
 module _ (n o : ℕ) {u w x y r : Text} where
-  refused-by : Fits w8 n → Fits w64 o → u ≡ cut (ascii "plan refused") → w ≡ appended u (spaced n) → x ≡ appended w (ascii " at") → y ≡ appended x (spaced o)
+  refused-by : Fits w8 n → u ≡ cut (ascii "plan refused") → w ≡ appended u (spaced n) → x ≡ appended w (ascii " at") → y ≡ appended x (spaced o)
       → r ≡ pushed y 10 → r ≡ textOf (planRefusedLine n o)
   unfolding ascii planRefusedLine
-  refused-by f g q e k i j =
+  refused-by f q e k i j =
       let s = so-field (so-word (ascii "plan refused") 12 (le-refl 12) (omega arith) q) n f (omega arith) e in
-      so-push (so-wide (so-all s (ascii " at") 3 (le-refl 3) (omega arith) k) o g (omega arith) i) 10 (omega arith) j .is
+      so-push (so-wide (so-all s (ascii " at") 3 (le-refl 3) (omega arith) k) o (omega arith) i) 10 (omega arith) j .is
 
 slice-aggregate-word : tie.Need-slice-aggregate-word
 slice-aggregate-word c = search needs
