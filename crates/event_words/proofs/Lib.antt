@@ -1,0 +1,7 @@
+pub mod Ascending
+pub mod OneList
+pub mod Sums
+pub mod EachOnce
+pub mod SumIsWords
+pub mod Same
+pub mod Along

@@ -1,0 +1,3 @@
+pub mod Words
+pub mod Listed
+pub mod Table
