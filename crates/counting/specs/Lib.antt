@@ -1,0 +1,4 @@
+pub mod Counting
+pub mod Numbers
+pub mod Laws
+pub mod Post
