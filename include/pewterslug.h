@@ -40,6 +40,7 @@ uint32_t pewterslug_version(void);
 #define PEWTERSLUG_RELEASE_BYTES 4
 #define PEWTERSLUG_STEP_BYTES 128    /* the longest answer of a step: 32 releases of 4 bytes */
 #define PEWTERSLUG_STUCK_BYTES 4143  /* the longest answer of find_stuck: a word of 4,095 events and 48 states */
+#define PEWTERSLUG_COUNT_BYTES 86037 /* enough for every text of count_words: 4,097 lines of 20 digits and a line feed */
 
 /* How many at most: modules, supervisors and events of a plan; responses queued and outputs of a module. */
 #define PEWTERSLUG_MODULE_LIMIT 16
@@ -158,7 +159,8 @@ enum pewterslug_refusal {
     PEWTERSLUG_REFUSAL_QUEUE_FULL = 13,
     PEWTERSLUG_REFUSAL_FLOW_READING = 14,
     PEWTERSLUG_REFUSAL_BUFFER_TOO_SHORT = 15,
-    PEWTERSLUG_REFUSAL_TOO_MANY_STATES = 16
+    PEWTERSLUG_REFUSAL_TOO_MANY_STATES = 16,
+    PEWTERSLUG_REFUSAL_TOO_MANY_WORDS = 17
 };
 
 /* The condition of a number, for a log or a display. */
@@ -182,6 +184,7 @@ static inline const char *pewterslug_refusal_text(uint8_t number)
     case PEWTERSLUG_REFUSAL_FLOW_READING: return "bad flow reading";
     case PEWTERSLUG_REFUSAL_BUFFER_TOO_SHORT: return "output buffer shorter than the answer";
     case PEWTERSLUG_REFUSAL_TOO_MANY_STATES: return "more than 4,096 reachable joint states";
+    case PEWTERSLUG_REFUSAL_TOO_MANY_WORDS: return "length above 40, or more words than 64 bits count";
     default: return "unknown number";
     }
 }
@@ -322,6 +325,19 @@ uint64_t pewterslug_write_record(uint8_t kind, uint8_t first, uint8_t second, ui
  * After the image's numbers comes 16, where more than 4,096 joint states can be reached, whatever the buffer; then 15, where the buffer is
  * shorter than what is to be written. PEWTERSLUG_STUCK_BYTES are always enough. */
 uint64_t pewterslug_find_stuck(const uint8_t *image, size_t image_length, uint8_t *buffer, size_t buffer_length);
+
+/* How many words of events lead to each joint state: a question for a workstation too. It takes about 2.1 MB of stack, and time that
+ * grows as find_stuck's does, and with the length times the joint states found and the events that may happen in each.
+ *
+ * Counted are the words of exactly `length` events, 0 to 40, that may happen from the initial joint state on. The call did PEWTERSLUG_DONE
+ * and wrote a text of decimal numbers, each with a line feed behind it: for each reachable joint state how many of the words end in it, also
+ * where that is 0, and then their sum. The joint states ascend by the state of module 0, then of module 1 and so on, then by those of the
+ * supervisors. Markings are not looked at.
+ *
+ * After the image's numbers comes 16, where more than 4,096 joint states can be reached, whatever the length and the buffer; then 17, where
+ * the length is above 40, or a count or the sum, of the words of that length or of a shorter one, is above 2 to the 64th less one; then 15,
+ * where the buffer is shorter than the text. PEWTERSLUG_COUNT_BYTES are always enough. */
+uint64_t pewterslug_count_words(const uint8_t *image, size_t image_length, uint64_t length, uint8_t *buffer, size_t buffer_length);
 
 /* ---- one device ---- */
 

@@ -1,1 +1,2 @@
 pub mod OneFound
+pub mod OneCounted

@@ -40,7 +40,7 @@ use Rattle.permits.specs.declared.Stepped.the-variants.{Turned as Turns, Bids, 
 use Rattle.permits.specs.declared.Served.{Served}
 use Rattle.permits.specs.declared.Served.the-variants.{Sends, Waits as ServedWaits, Refused as ServeRefused}
 use Rattle.refusals.specs.Numbers.{verdictNumber, writtenNumber}
-use Rattle.refusals.specs.Refusals.{InTable, CheckAnswer, WriteAnswer, CallAnswer, TurnAnswer, StepAnswer, ServeAnswer, BlockingAnswer, OfStuck}
+use Rattle.refusals.specs.Refusals.{InTable, CheckAnswer, WriteAnswer, CallAnswer, TurnAnswer, StepAnswer, ServeAnswer, BlockingAnswer, OfStuck, CountingAnswer, OfCounts}
 use Rattle.refusals.proofs.Refusals.{refusals}
 use Rattle.device_bytes.specs.Device.{deviceBytes, deviceOf}
 use Rattle.party_bytes.specs.Module.{moduleBytes, moduleOf}
@@ -54,6 +54,11 @@ use Rattle.blocking.proofs.OneAnswer.{one-answer}
 use Rattle.blocking.specs.declared.Blocking.{Blocking}
 use Rattle.blocking.specs.declared.Blocking.the-variants.{Free, Stuck, Refused as StuckRefused}
 use Rattle.analysis_interface.specs.Analysis.{blockingAnswer}
+use Rattle.counting.specs.Numbers.{countingNumber}
+use Rattle.counting.proofs.OneAnswer.{one-answer as one-count}
+use Rattle.counting.specs.declared.Counting.{Counting}
+use Rattle.counting.specs.declared.Counting.the-variants.{Printed, Refused as CountRefused}
+use Rattle.analysis_interface.specs.Counts.{countingAnswer}
 use Rattle.device_interface.specs.Calls as Device
 use Rattle.module_interface.specs.Calls as Module
 use Rattle.supervisor_interface.specs.Calls as Supervisor
@@ -153,18 +158,27 @@ start-number size (Refused n o) bytes l h =
     let no : n ≡ 0 → ⊥ = λ e. (let low : 1 ≤ n = t .0 in omega arith) in
     number n o t ∙ sym (ap (λ (q : Bool). cond q (cond (ltb (length l) size) 15 0) n) (ne-eqb n 0 no))
 
--- ---- the analysis of a plan
+-- ---- the analyses of a plan
+
+of-stuck : (n o : ℕ) → OfStuck n → packed n 0 0 o % 256 ≡ n
+of-stuck n o (inl t) = small n o (omega (arith, t .1))
+of-stuck n o (inr (inl e)) = small n o (omega arith)
+of-stuck n o (inr (inr e)) = small n o (omega arith)
 
 blocking-number : (a : Blocking) → BlockingAnswer a → blockingAnswer a % 256 ≡ blockingNumber a
 unfolding blockingAnswer
 blocking-number Free h = accepted 7 0 0
 blocking-number (Stuck n) h = accepted 8 0 n
-blocking-number (StuckRefused n o) h = go (h .numbered n o refl)
+blocking-number (StuckRefused n o) h = of-stuck n o (h .numbered n o refl)
+
+counting-number : (a : Counting) → CountingAnswer a → countingAnswer a % 256 ≡ countingNumber a
+unfolding countingAnswer
+counting-number (Printed n) h = accepted 0 0 n
+counting-number (CountRefused n o) h = go (h .numbered n o refl)
   where
-    go : OfStuck n → packed n 0 0 o % 256 ≡ n
-    go (inl t) = small n o (omega (arith, t .1))
-    go (inr (inl e)) = small n o (omega arith)
-    go (inr (inr e)) = small n o (omega arith)
+    go : OfCounts n → packed n 0 0 o % 256 ≡ n
+    go (inl t) = of-stuck n o t
+    go (inr e) = small n o (omega arith)
 
 pub same-numbers : SameNumbers
 same-numbers =
@@ -190,4 +204,8 @@ same-numbers =
           ap (λ (x : ℕ). x % 256) (f .packed)
           ∙ blocking-number (f .answer) (refusals .analyses .findStuck image l (f .answer) after (f .told) .answer)
           ∙ ap blockingNumber (one-answer image l (f .answer) a after after (f .told) t .0);
+      countWords = λ image m l a r after t f.
+          ap (λ (x : ℕ). x % 256) (f .packed)
+          ∙ counting-number (f .answer) (refusals .analyses .countWords image m l (f .answer) after (f .told) .answer)
+          ∙ ap countingNumber (one-count image m l (f .answer) a after after (f .told) t .0);
     }

@@ -109,4 +109,9 @@ all-untouched =
             state = λ h. refl;
             buffer = λ h. refusals .analyses .findStuck image l (f .answer) after (f .told) .buffer .untouched (λ z. h (same-numbers .findStuck image l (f .answer) r after (f .told) f ∙ z));
           };
+      countWords = λ image m l r after f.
+          record {
+            state = λ h. refl;
+            buffer = λ h. refusals .analyses .countWords image m l (f .answer) after (f .told) .buffer .untouched (λ z. h (same-numbers .countWords image m l (f .answer) r after (f .told) f ∙ z));
+          };
     }

@@ -35,7 +35,11 @@ use Rattle.plan_interface.specs.Messages.{readMessageAnswer, messageBy, writeMe
 use Rattle.blocking.specs.Blocking.{Told}
 use Rattle.blocking.specs.Numbers.{blockingNumber}
 use Rattle.blocking.specs.declared.Blocking.{Blocking}
+use Rattle.counting.specs.Counting.{Told as CountsTold}
+use Rattle.counting.specs.Numbers.{countingNumber}
+use Rattle.counting.specs.declared.Counting.{Counting}
 use Rattle.analysis_interface.specs.Analysis.{FoundBytes}
+use Rattle.analysis_interface.specs.Counts.{CountedBytes}
 use Rattle.device_interface.specs.Calls as Device
 use Rattle.module_interface.specs.Calls as Module
 use Rattle.supervisor_interface.specs.Calls as Supervisor
@@ -65,6 +69,7 @@ pub record AllUntouched : Type 0 where
   pub supervisorStep : (image s : List ℕ) (v : ℕ) (l : List ℕ) → Untouched (Supervisor.stepBytes image s v l) s l
   pub supervisorDeliver : (image s : List ℕ) (v : ℕ) (g : List ℕ) → Untouched (Supervisor.deliverBytes image s v g) s []
   pub findStuck : (image l : List ℕ) (r : ℕ) (after : List ℕ) → FoundBytes image l r after → Untouched (record { number = r; state = []; buffer = after }) [] l
+  pub countWords : (image : List ℕ) (m : ℕ) (l : List ℕ) (r : ℕ) (after : List ℕ) → CountedBytes image m l r after → Untouched (record { number = r; state = []; buffer = after }) [] l
 
 -- ".. stand for no state: the call that gets them is refused with 9", on an image that is accepted, of one device always, of a module or a
 -- supervisor if it is the plan's
@@ -135,3 +140,4 @@ pub record SameNumbers : Type 0 where
   pub supervisorDeliver : (image s : List ℕ) (v : ℕ) (g : List ℕ)
       → numberOf (Supervisor.deliverBytes image s v g) ≡ calledNumber (supervisorDeliver image v (supervisorOf s) g .answer)
   pub findStuck : (image l : List ℕ) (a : Blocking) (r : ℕ) (after : List ℕ) → Told image l a after → FoundBytes image l r after → r % 256 ≡ blockingNumber a
+  pub countWords : (image : List ℕ) (m : ℕ) (l : List ℕ) (a : Counting) (r : ℕ) (after : List ℕ) → CountsTold image m l a after → CountedBytes image m l r after → r % 256 ≡ countingNumber a

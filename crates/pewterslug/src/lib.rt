@@ -3,6 +3,7 @@ ghost use mathlib.Core.Path.{_≡_};
 ghost use mathlib.Core.List.{[]};
 ghost use Rattle.packing.specs.Answer.{Answered};
 ghost use Rattle.analysis_interface.specs.Analysis.{FoundBytes};
+ghost use Rattle.analysis_interface.specs.Counts.{CountedBytes};
 ghost use Rattle.plan_interface.specs.Records.{checkAnswer, readAnswer, writeBytes};
 ghost use Rattle.plan_interface.specs.Messages.{readMessageAnswer, writeMessageBytes};
 ghost use Rattle.device_interface.specs.Calls as Device;
@@ -57,6 +58,13 @@ pub extern "C" fn pewterslug_find_stuck(image: &[u8], buffer: &mut [u8]) -> u64
     ensures { λ r. ⌜ FoundBytes (now (image .entry)) (now (buffer .entry)) r (now (buffer .exit)) ⌝ }
 {
     analysis_interface::find_stuck(image, buffer)
+}
+
+#[no_mangle]
+pub extern "C" fn pewterslug_count_words(image: &[u8], length: u64, buffer: &mut [u8]) -> u64
+    ensures { λ r. ⌜ CountedBytes (now (image .entry)) length (now (buffer .entry)) r (now (buffer .exit)) ⌝ }
+{
+    analysis_interface::count_words(image, length, buffer)
 }
 
 // ---- one device

@@ -52,6 +52,10 @@ use Rattle.blocking.specs.Blocking.{Told}
 use Rattle.blocking.specs.Numbers.{blockingNumber, blockingOffset, blockingLength}
 use Rattle.blocking.specs.declared.Blocking.{Blocking}
 use Rattle.blocking.specs.declared.Blocking.the-variants.{Free, Stuck, Refused as StuckRefused}
+use Rattle.counting.specs.Counting.{Told as CountsTold}
+use Rattle.counting.specs.Numbers.{countingNumber, countingOffset, countingLength}
+use Rattle.counting.specs.declared.Counting.{Counting}
+use Rattle.counting.specs.declared.Counting.the-variants.{Printed, Refused as CountRefused}
 use Rattle.refusals.specs.Numbers.{verdictNumber, verdictOffset, writtenNumber, writtenOffset, writtenLength, rewrittenNumber, rewrittenOffset, rewrittenLength}
 
 -- a refusal has a number, and what is accepted has 0
@@ -65,6 +69,10 @@ InTable n = (1 ≤ n) × (n ≤ 15)
 -- a number of the question whether a plan ever gets stuck: one of the image's, 15, or 16 of document 02
 abbrev pub OfStuck : ℕ → Type 0
 OfStuck n = ((1 ≤ n) × (n ≤ 8)) ⊎ ((n ≡ 15) ⊎ (n ≡ 16))
+
+-- a number of the question how many words lead to each joint state: one of `OfStuck`, or 17
+abbrev pub OfCounts : ℕ → Type 0
+OfCounts n = OfStuck n ⊎ (n ≡ 17)
 
 -- the number n stands with the byte offset o: "0 for 1 and for 9 and above"
 pub record Placed (n o : ℕ) : Type 0 where
@@ -127,6 +135,9 @@ ServeAnswer a = Answer InTable servedNumber servedOffset ServeRefused a
 
 abbrev pub BlockingAnswer : Blocking → Type 0
 BlockingAnswer a = Answer OfStuck blockingNumber blockingOffset StuckRefused a
+
+abbrev pub CountingAnswer : Counting → Type 0
+CountingAnswer a = Answer OfCounts countingNumber countingOffset CountRefused a
 
 -- ---- one call: its answer, its state and its buffer
 
@@ -199,6 +210,12 @@ pub record FindStuck (b : List ℕ) (a : Blocking) (c : List ℕ) : Type 0 where
   pub free : a ≡ Free → blockingLength a ≡ 0
   pub buffer : Lent (blockingNumber a) (blockingLength a) b c
 
+-- the answer how many words lead to each joint state, with the buffer before and after
+pub record CountWords (b : List ℕ) (a : Counting) (c : List ℕ) : Type 0 where
+  pub answer : CountingAnswer a
+  pub bytes : Held countingLength Printed a
+  pub buffer : Lent (countingNumber a) (countingLength a) b c
+
 -- ---- every call, party by party. A start is given no state, and the check lends nothing.
 
 pub record Checker : Type 0 where
@@ -237,9 +254,10 @@ pub record Supervisors : Type 0 where
   pub step : (image : List ℕ) (v : ℕ) (y : Supervisor) (b : List ℕ) → SupervisorStep y b (supervisorStep image v y b)
   pub deliver : (image : List ℕ) (v : ℕ) (y : Supervisor) (bytes : List ℕ) → SupervisorCall y (supervisorDeliver image v y bytes)
 
--- the analysis of a plan, of every answer that `Told` allows
+-- the analyses of a plan, of every answer that their contracts allow
 pub record Analyses : Type 0 where
   pub findStuck : (image b : List ℕ) (a : Blocking) (c : List ℕ) → Told image b a c → FindStuck b a c
+  pub countWords : (image : List ℕ) (m : ℕ) (b : List ℕ) (a : Counting) (c : List ℕ) → CountsTold image m b a c → CountWords b a c
 
 -- "a refused call returns the state unchanged and writes nothing into lent memory"
 pub record Refusals : Type 0 where
