@@ -2,7 +2,7 @@
  *
  * Each slice that is lent ends where a page that may not be touched begins, so that one byte read or written past it ends the program; what
  * stands before it is compared. The C side is compiled with the address and undefined-behaviour sanitizers (tests/fuzz.sh). After each
- * call: an answer is 0 to 16; what is only read is as it was; a refused call left every lent byte as it was; an accepted one changed nothing
+ * call: an answer is 0 to 17; what is only read is as it was; a refused call left every lent byte as it was; an accepted one changed nothing
  * behind its answer's length, except the state that it was lent. A run of 20,000 calls or more must have met every number.
  *
  *   fuzz SEED COUNT
@@ -16,7 +16,7 @@
 #include "chance.h"
 #include "plan.h"
 
-enum { PAGE = 4096, ROOM = 13 * PAGE, CALLS = 18, PLANS = 3, NUMBERS = 17, FIND_STUCK = 17, MARKING = 0x18 };
+enum { PAGE = 4096, ROOM = 13 * PAGE, CALLS = 19, PLANS = 3, NUMBERS = 18, FIND_STUCK = 17, COUNT_WORDS = 18, MARKING = 0x18 };
 
 /* A lent slice: `bytes` of them end at the guard page; `before` is what the room held when the call was made. */
 struct slice {
@@ -334,6 +334,26 @@ static uint64_t other_call(uint32_t call)
     return pewterslug_write_message((uint8_t)chance_below(&chance, 5), any_byte(), any_byte(), any_byte(), word, buffer.start, buffer.length);
 }
 
+/* A length of words: mostly one that is counted, now and then one of any bits. */
+static uint64_t any_length(void)
+{
+    uint64_t high = chance_below(&chance, 0xFFFFFFFF);
+    if (chance_one_in(&chance, 12))
+        return high << chance_below(&chance, 33) | chance_below(&chance, 64);
+    return chance_below(&chance, chance_one_in(&chance, 3) ? 46 : 8);
+}
+
+/* A question about the joint states of a plan; the state is not lent. */
+static uint64_t joint_call(uint32_t call)
+{
+    uint64_t length = any_length();
+    slice_random(&state, chance_below(&chance, 20));
+    slice_keep(&state);
+    if (call == FIND_STUCK)
+        return pewterslug_find_stuck(image.start, image.length, buffer.start, buffer.length);
+    return pewterslug_count_words(image.start, image.length, length, buffer.start, buffer.length);
+}
+
 static int changed(const struct slice *slice, const uint8_t *from)
 {
     return memcmp(from, slice->before + (from - slice->room), (size_t)(slice->room + ROOM - from)) != 0
@@ -353,12 +373,20 @@ static int broken(uint64_t answer, int writes)
     return changed(&state, pewterslug_number(answer) == 0 ? state.room + ROOM : state.start);
 }
 
+/* How long the buffer of a call may be, so that it is often long enough and often not. */
+static uint32_t most_bytes(uint32_t call)
+{
+    if (chance_one_in(&chance, 20) || (call == COUNT_WORDS && chance_one_in(&chance, 2)))
+        return 700;
+    return call == FIND_STUCK || call == COUNT_WORDS ? 20 : 140;
+}
+
 static uint64_t one_call(int *writes)
 {
     uint32_t call = chance_below(&chance, CALLS);
-    const struct plan *plan = call == FIND_STUCK && !chance_one_in(&chance, 32) ? choose_small() : choose_image();
+    const struct plan *plan = call >= FIND_STUCK && !chance_one_in(&chance, 32) ? choose_small() : choose_image();
     choose_message(plan);
-    slice_random(&buffer, chance_one_in(&chance, 20) ? chance_below(&chance, 700) : chance_below(&chance, call == FIND_STUCK ? 20 : 140));
+    slice_random(&buffer, chance_below(&chance, most_bytes(call)));
     slice_keep(&image);
     slice_keep(&message);
     slice_keep(&buffer);
@@ -369,12 +397,7 @@ static uint64_t one_call(int *writes)
         return module_call(call - 4, plan);
     if (call < 12)
         return supervisor_call(call - 9, plan);
-    if (call == FIND_STUCK) {
-        slice_random(&state, chance_below(&chance, 20));
-        slice_keep(&state);
-        return pewterslug_find_stuck(image.start, image.length, buffer.start, buffer.length);
-    }
-    return other_call(call - 12);
+    return call >= FIND_STUCK ? joint_call(call) : other_call(call - 12);
 }
 
 int main(int count, char **words)

@@ -1,6 +1,6 @@
 /* The C interface from C, and from C++: the version; the two-valve plan (docs/two-valve.hex) on one device, then on many with the bytes of
- * each message, then refusals, and whether a plan gets stuck; and what the header itself has, its names, texts and what it reads from state
- * bytes. tests/interface.sh compares what this prints with tests/interface.expected. */
+ * each message, then refusals, whether a plan gets stuck and how many words it has; and what the header itself has, its names, texts and
+ * what it reads from state bytes. tests/interface.sh compares what this prints with tests/interface.expected. */
 #include "pewterslug.h"
 
 #include <inttypes.h>
@@ -443,17 +443,45 @@ static void find_stuck(void)
     left(buffer, before, sizeof buffer);
 }
 
+static void count_words(void)
+{
+    uint8_t image[256], before[16];
+    static uint8_t buffer[PEWTERSLUG_COUNT_BYTES];
+    uint64_t answer;
+
+    memset(buffer, 0xAA, sizeof buffer);
+    memset(before, 0xAA, sizeof before);
+    say("count_words P, 3 events, into 9 bytes", pewterslug_count_words(plan, sizeof plan, 3, buffer, 9));
+    left(buffer, before, sizeof before);
+    say("count_words P cut", pewterslug_count_words(plan, sizeof plan - 1, 41, buffer, 0));
+    left(buffer, before, sizeof before);
+    answer = pewterslug_count_words(plan, sizeof plan, 3, buffer, 10);
+    say("count_words P, 3 events, into 10 bytes", answer);
+    printf("%.*s", (int)pewterslug_length(answer), (const char *)buffer);
+    left(buffer + 10, before, sizeof before - 10);
+    answer = pewterslug_count_words(plan, sizeof plan, 0, buffer, sizeof buffer);
+    say("count_words P, no event, into the most", answer);
+    printf("%.*s", (int)pewterslug_length(answer), (const char *)buffer);
+    left(buffer + 10, before, sizeof before - 10);
+    memset(buffer, 0xAA, sizeof buffer);
+    REFUSED(PEWTERSLUG_REFUSAL_TOO_MANY_WORDS, pewterslug_count_words(plan, sizeof plan, 41, buffer, 0));
+    REFUSED(PEWTERSLUG_REFUSAL_TOO_MANY_WORDS, pewterslug_count_words(plan, sizeof plan, UINT64_MAX, buffer, sizeof buffer));
+    REFUSED(PEWTERSLUG_REFUSAL_TOO_MANY_STATES, pewterslug_count_words(image, build_many(image, 13), 41, buffer, sizeof buffer));
+    left(buffer, before, sizeof before);
+    say("count_words of 4096 joint states", pewterslug_count_words(image, build_many(image, 12), 12, buffer, sizeof buffer));
+}
+
 static void texts(void)
 {
     unsigned alike = 0, empty = 0, known = 0;
 
     for (unsigned number = 0; number < 256; number++) {
         const char *text = pewterslug_refusal_text((uint8_t)number);
-        for (unsigned other = 0; other < number && number <= PEWTERSLUG_REFUSAL_TOO_MANY_STATES + 1; other++)
+        for (unsigned other = 0; other < number && number <= PEWTERSLUG_REFUSAL_TOO_MANY_WORDS + 1; other++)
             alike += strcmp(text, pewterslug_refusal_text((uint8_t)other)) == 0;
         empty += text[0] == 0;
         known += strcmp(text, "unknown number") != 0;
-        if (number <= PEWTERSLUG_REFUSAL_TOO_MANY_STATES + 1 || number == 255)
+        if (number <= PEWTERSLUG_REFUSAL_TOO_MANY_WORDS + 1 || number == 255)
             printf("text %u: %s\n", number, text);
     }
     printf("texts: %u known, %u alike, %u empty\n", known, alike, empty);
@@ -476,9 +504,9 @@ static void codes(void)
            PEWTERSLUG_STRAY, PEWTERSLUG_NONE, PEWTERSLUG_BIDS, PEWTERSLUG_SENDS, PEWTERSLUG_WAITS, PEWTERSLUG_FREE, PEWTERSLUG_STUCK);
     printf("limits: image %d, modules %d, supervisors %d, events %d, queue %d, outputs %d\n", PEWTERSLUG_IMAGE_LIMIT,
            PEWTERSLUG_MODULE_LIMIT, PEWTERSLUG_SUPERVISOR_LIMIT, PEWTERSLUG_EVENT_LIMIT, PEWTERSLUG_QUEUE_LIMIT, PEWTERSLUG_OUTPUT_LIMIT);
-    printf("bytes: device %d, own %d, module %d, supervisor %d, record %d, message %d, release %d, step %d, stuck %d\n",
+    printf("bytes: device %d, own %d, module %d, supervisor %d, record %d, message %d, release %d, step %d, stuck %d, count %d\n",
            PEWTERSLUG_DEVICE_BYTES, PEWTERSLUG_OWN_BYTES, PEWTERSLUG_MODULE_BYTES, PEWTERSLUG_SUPERVISOR_BYTES, PEWTERSLUG_RECORD_BYTES,
-           PEWTERSLUG_MESSAGE_BYTES, PEWTERSLUG_RELEASE_BYTES, PEWTERSLUG_STEP_BYTES, PEWTERSLUG_STUCK_BYTES);
+           PEWTERSLUG_MESSAGE_BYTES, PEWTERSLUG_RELEASE_BYTES, PEWTERSLUG_STEP_BYTES, PEWTERSLUG_STUCK_BYTES, PEWTERSLUG_COUNT_BYTES);
 }
 
 /* Bytes that no call wrote: all 0, all FF, and each byte another, so that a field read from a wrong place shows. */
@@ -562,6 +590,7 @@ int main(void)
     run_named();
     numbers();
     find_stuck();
+    count_words();
     texts();
     answers();
     codes();

@@ -27,7 +27,7 @@ fi
 # The table of numbers in docs/EMBEDDING.md has the header's names.
 # shellcheck disable=SC2016
 sed -n 's/^    PEWTERSLUG_REFUSAL_\([A-Z_]*\) = \([0-9]*\).*/| \2 | `\1` |/p' include/pewterslug.h > target/interface.names
-[ "$(wc -l < target/interface.names)" -eq 16 ] || { echo "interface: the header has not 16 numbers"; exit 1; }
+[ "$(wc -l < target/interface.names)" -eq 17 ] || { echo "interface: the header has not 17 numbers"; exit 1; }
 while read -r row; do
   grep -qF "$row" docs/EMBEDDING.md || { echo "interface: docs/EMBEDDING.md has no row '$row'"; exit 1; }
 done < target/interface.names

@@ -5,7 +5,7 @@
 set -eu
 cd "$(dirname "$0")/.."
 mkdir -p target
-rt check listing simulate stuck device_vectors many_vectors > target/reference-page.log 2>&1 || { tail -n 40 target/reference-page.log; exit 1; }
+rt check listing simulate stuck word_counts device_vectors many_vectors > target/reference-page.log 2>&1 || { tail -n 40 target/reference-page.log; exit 1; }
 kit=$(dirname "$(dirname "$(rt doc)")")
 loader=$(find "$kit" -name ld-linux-x86-64.so.2 | head -n 1)
 room=$(mktemp -d)
@@ -126,7 +126,7 @@ for word, arguments, lines in blocks:
         continue
     program, name = arguments
     script, expected = script_of(lines)
-    if program in ("listing", "simulate", "stuck"):
+    if program in ("listing", "simulate", "stuck", "word_counts"):
         printed = run(program, "".join(line + "\n" for line in script), parts[name]).splitlines()
     else:  # these two are given the plan in a line, which `device_vectors` answers
         printed = run(program, "".join(line + "\n" for line in ["plan " + parts[name].hex().upper()] + script)).splitlines()
@@ -199,7 +199,8 @@ for kind, body in re.findall(r"k 0x(\w\w)\) (\d+)", definition("crates/records/s
 for kind, body in re.findall(r"shaped 0x(\w\w) (\d+)", definition("crates/messages/specs/Message.antt", "parse")):
     row(6, r"%s \| [^|]+ \| [^|]+: %d \|" % (kind, int(body) + 1), "message %s with a body of %s bytes" % (kind, body))
 numbers = list(range(1, int(re.search(r"n ≤ (\d+)", definition("crates/refusals/specs/Refusals.antt", "InTable")).group(1)) + 1))
-numbers += [int(n) for n in re.findall(r"n ≡ (\d+)", definition("crates/refusals/specs/Refusals.antt", "OfStuck")) if int(n) not in numbers]
+for name in ("OfStuck", "OfCounts"):
+    numbers += [int(n) for n in re.findall(r"n ≡ (\d+)", definition("crates/refusals/specs/Refusals.antt", name)) if int(n) not in numbers]
 for number in numbers:
     row(8, r"%d \| [^|]+ \| [^|]+ \| [^|]+ \|$" % number, "number %d" % number)
 layouts = "".join(re.findall(r"/\* ---- states, by offset ----.*?\*/", header, re.S))

@@ -16,19 +16,19 @@
 #include "chance.h"
 #include "plan.h"
 
-/* The search for a stuck state has the whole stack, the other calls its upper part, so that less is looked through after each. */
+/* The questions about joint states have the whole stack, the other calls its upper part, so that less is looked through after each. */
 enum { STACK_BYTES = 1 << 22, UPPER_BYTES = 1 << 18, PAINT = 0xA5, PLANS = 3, UNDER_WAY_LIMIT = 64 };
 
 enum which {
     VERSION, CHECK, READ_RECORD, WRITE_RECORD, DEVICE_START, DEVICE_TURN, DEVICE_RESPOND, DEVICE_TICK, MODULE_START, MODULE_STEP,
     MODULE_DELIVER, MODULE_RESPOND, MODULE_TICK, SUPERVISOR_START, SUPERVISOR_STEP, SUPERVISOR_DELIVER, READ_MESSAGE, WRITE_MESSAGE,
-    FIND_STUCK, CALLS
+    FIND_STUCK, COUNT_WORDS, CALLS
 };
 
 static const char *const names[CALLS] = {
     "version", "check", "read_record", "write_record", "device_start", "device_turn", "device_respond", "device_tick", "module_start",
     "module_step", "module_deliver", "module_respond", "module_tick", "supervisor_start", "supervisor_step", "supervisor_deliver", "read_message",
-    "write_message", "find_stuck",
+    "write_message", "find_stuck", "count_words",
 };
 
 static const struct {
@@ -42,6 +42,7 @@ struct call {
     uint8_t number, event, sensor, kind;
     double litres;
     size_t offset;
+    uint64_t words; /* how long the words are that are counted */
     uint8_t *state;
     size_t state_length;
     uint8_t *bytes; /* the message, or the output buffer */
@@ -56,7 +57,7 @@ struct fleet {
     uint8_t modules[PEWTERSLUG_MODULE_LIMIT][PEWTERSLUG_MODULE_BYTES];
     uint8_t supervisors[PEWTERSLUG_SUPERVISOR_LIMIT][PEWTERSLUG_SUPERVISOR_BYTES];
     uint8_t buffer[PEWTERSLUG_STEP_BYTES];
-    uint8_t word[PEWTERSLUG_STUCK_BYTES];
+    uint8_t text[PEWTERSLUG_COUNT_BYTES]; /* longer than any other answer */
     struct {
         uint8_t bytes[PEWTERSLUG_MESSAGE_BYTES];
         size_t length;
@@ -125,6 +126,7 @@ static uint64_t perform_other(const struct call *call)
     case WRITE_RECORD: return pewterslug_write_record(call->kind, 1, 1, 1, 1, 1, call->bytes, call->length);
     case READ_MESSAGE: return pewterslug_read_message(call->bytes, call->length);
     case FIND_STUCK: return pewterslug_find_stuck(plan->image, plan->length, call->bytes, call->length);
+    case COUNT_WORDS: return pewterslug_count_words(plan->image, plan->length, call->words, call->bytes, call->length);
     default: return pewterslug_write_message(call->kind, 0, 0, 0, 1, call->bytes, call->length);
     }
 }
@@ -169,7 +171,7 @@ static uint64_t measured(struct fleet *fleet, struct call call)
     makecontext(&there, perform, 0);
     if (swapcontext(&here, &there) != 0)
         abort();
-    lowest = lowest_used(call.which == FIND_STUCK ? 0 : STACK_BYTES - UPPER_BYTES);
+    lowest = lowest_used(call.which >= FIND_STUCK ? 0 : STACK_BYTES - UPPER_BYTES);
     bytes = ((size_t)(base - (stack + lowest)) + 15) / 16 * 16; /* frames are multiples of 16 */
     memset(stack + lowest, PAINT, STACK_BYTES - lowest);
     if (bytes > most[fleet->plan_index][call.which])
@@ -270,8 +272,11 @@ static void start(struct fleet *fleet)
     measured(fleet, call);
     call.which = CHECK;
     measured(fleet, call);
-    call = (struct call){.which = FIND_STUCK, .bytes = fleet->word, .length = sizeof fleet->word};
+    call = (struct call){.which = FIND_STUCK, .bytes = fleet->text, .length = sizeof fleet->text};
     measured(fleet, call);
+    call.which = COUNT_WORDS;
+    for (call.words = 0; call.words <= 41; call.words++)
+        measured(fleet, call);
     measured(fleet, call_device(fleet, DEVICE_START, 0));
     for (unsigned module = 0; module < fleet->plan.modules; module++) {
         call = call_module(fleet, MODULE_START, module);

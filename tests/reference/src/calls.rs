@@ -5,6 +5,9 @@
 pub enum Call {
     Check,
     FindStuck,
+    CountWords {
+        length: u64,
+    },
     ReadRecord {
         offset: usize,
     },
@@ -77,6 +80,7 @@ impl Engine for Reference {
         match call {
             Call::Check => crate::check(image),
             Call::FindStuck => crate::find_stuck(image, buffer),
+            Call::CountWords { length } => crate::count_words(image, length, buffer),
             Call::ReadRecord { offset } => crate::read_record(image, offset),
             Call::WriteRecord {
                 kind,

@@ -7,6 +7,7 @@ use reference::calls::{Call, Engine};
 extern "C" {
     fn pewterslug_check(image: *const u8, image_length: usize) -> u64;
     fn pewterslug_find_stuck(image: *const u8, image_length: usize, buffer: *mut u8, buffer_length: usize) -> u64;
+    fn pewterslug_count_words(image: *const u8, image_length: usize, length: u64, buffer: *mut u8, buffer_length: usize) -> u64;
     fn pewterslug_read_record(image: *const u8, image_length: usize, offset: usize) -> u64;
     fn pewterslug_write_record(
         kind: u8,
@@ -98,6 +99,7 @@ impl Engine for Foreign {
             match call {
                 Call::Check => pewterslug_check(i, il),
                 Call::FindStuck => pewterslug_find_stuck(i, il, b, bl),
+                Call::CountWords { length } => pewterslug_count_words(i, il, length, b, bl),
                 Call::ReadRecord { offset } => pewterslug_read_record(i, il, offset),
                 Call::WriteRecord {
                     kind,

@@ -33,6 +33,11 @@ pub fn find_stuck(image: &[u8], buffer: &mut [u8]) -> u64 {
     pack(joint::find_stuck(image, buffer))
 }
 
+/// Writes how many words of a length end in each reachable joint state, and their sum, one number a line.
+pub fn count_words(image: &[u8], length: u64, buffer: &mut [u8]) -> u64 {
+    pack(joint::count_words(image, length, buffer))
+}
+
 /// Reads the record at an offset by shape alone: the value is its kind, the length that of the whole record.
 pub fn read_record(image: &[u8], offset: usize) -> u64 {
     pack(plan::read(image, offset).map(|(kind, body)| Answer::new(DONE, kind, 1 + body.len())))

@@ -3,16 +3,17 @@
 use reference::answer::{did, length, number, FREE, STUCK};
 use reference::calls::{Engine, Reference};
 use reference::cases::{
-    break_device, break_module, break_supervisor, counter, crowded, device_case, fit_device, fit_module, fit_supervisor,
-    full_with_two_states, image_case, image_of, lively_plan, message_case, module_case, plan, record_case, records_of, schedule, sized,
-    stuck_case, supervisor_case, switches, Case, Ground, Rng, World, DEVICE_CLAUSES, MODULE_CLAUSES, STUCK_BYTES, SUPERVISOR_CLAUSES,
+    break_device, break_module, break_supervisor, counter, counts_case, crowded, device_case, fit_device, fit_module, fit_supervisor,
+    full_with_two_states, image_case, image_of, lively_plan, message_case, module_case, plan, record_case, records_of, rounds, schedule,
+    sized, stuck_case, supervisor_case, switches, Case, Ground, Rng, World, COUNT_BYTES, DEVICE_CLAUSES, MODULE_CLAUSES, STUCK_BYTES,
+    SUPERVISOR_CLAUSES,
 };
 use std::collections::BTreeSet;
 
 /// Draws cases on many plans and gives how often each number arose, 0 for accepted.
-fn counts(seed: u64, plans: usize, mut draw: impl FnMut(&mut Rng, &mut Ground) -> Case) -> [usize; 17] {
+fn counts(seed: u64, plans: usize, mut draw: impl FnMut(&mut Rng, &mut Ground) -> Case) -> [usize; 18] {
     let mut rng = Rng::new(seed);
-    let mut counts = [0; 17];
+    let mut counts = [0; 18];
     for _ in 0..plans {
         let records = plan(&mut rng);
         let image = image_of(&records);
@@ -92,7 +93,7 @@ fn every_kind_is_turned_down_for_every_reason() {
 }
 
 /// Asserts that some cases are accepted and each of the numbers arises.
-fn arise(counts: [usize; 17], numbers: &[usize]) {
+fn arise(counts: [usize; 18], numbers: &[usize]) {
     assert!(counts[0] >= 1000, "{counts:?}");
     for &number in numbers {
         assert!(counts[number] >= 5, "number {number}: {counts:?}");
@@ -109,6 +110,10 @@ fn every_number_of_a_call_arises() {
     arise(
         counts(13, 120, |rng, ground| stuck_case(rng, ground)),
         &[1, 2, 3, 4, 5, 6, 8, 15, 16],
+    );
+    arise(
+        counts(15, 120, |rng, ground| counts_case(rng, ground)),
+        &[1, 2, 3, 4, 5, 6, 8, 15, 16, 17],
     );
 }
 
@@ -196,4 +201,37 @@ fn joint_states_are_counted() {
     assert_eq!(answer(counter(12, 0)), (16, 0, 0));
     assert_eq!(answer(full_with_two_states()), (0, FREE, 0));
     assert_eq!(image_of(&full_with_two_states()).len(), 49_152);
+}
+
+/// The last line of a text, the sum, and how many lines it has; or the number.
+fn sum(records: Vec<Vec<u8>>, length: u64) -> Result<(u64, usize), u8> {
+    let mut buffer = [0; COUNT_BYTES];
+    let answer = reference::count_words(&image_of(&records), length, &mut buffer);
+    if number(answer) != 0 {
+        return Err(number(answer));
+    }
+    let text = String::from_utf8(buffer[..reference::answer::length(answer) as usize].to_vec()).expect("digits");
+    assert!(text.ends_with('\n'));
+    let numbers: Vec<u64> = text.lines().map(|line| line.parse().expect("a number")).collect();
+    let (sum, counts) = numbers.split_last().expect("a sum");
+    assert_eq!(counts.iter().sum::<u64>(), *sum);
+    Ok((*sum, numbers.len()))
+}
+
+/// Plans whose words can be counted have so many.
+#[test]
+fn words_are_counted() {
+    for length in 0..=40 {
+        assert_eq!(sum(rounds(&[32, 32, 4]), length), Ok((3u64.pow(length as u32), 4_097)));
+        assert_eq!(sum(counter(12, 1), length), Ok((1, 4_097)));
+    }
+    assert_eq!(sum(switches(12), 17), Ok((12u64.pow(17), 4_097)));
+    assert_eq!(sum(switches(12), 18), Err(17));
+    assert_eq!(sum(switches(13), 41), Err(16));
+    assert_eq!(sum(rounds(&[3]), 40), Ok((1, 4)));
+    assert_eq!(sum(rounds(&[3]), 41), Err(17));
+    // of 60 events 48 have a move in a joint state, and the supervisors disable at most twelve of them
+    let crowd = sum(crowded(12, 32, 5), 11).expect("a sum").0;
+    assert!((36u64.pow(11)..=48u64.pow(11)).contains(&crowd));
+    assert_eq!(sum(crowded(12, 32, 5), 12), Err(17));
 }

@@ -10,7 +10,7 @@ use foreign::Foreign;
 use reference::answer::{did, number, BIDS, EVENT};
 use reference::calls::{Call, Engine, Reference};
 use reference::cases::{
-    counter, crowded, fit_module, full_with_two_states, hex, image_of, sized, switches, Case, Rng, PLAN_P, STUCK_BYTES,
+    counter, crowded, fit_module, full_with_two_states, hex, image_of, rounds, sized, switches, Case, Rng, COUNT_BYTES, PLAN_P, STUCK_BYTES,
 };
 use reference::message::Message;
 use reference::plan::{self, Plan};
@@ -175,6 +175,27 @@ fn stuck_rows() -> Vec<(&'static str, Case)> {
     plans.into_iter().map(|(name, image)| (name, case(image))).collect()
 }
 
+/// How many words a plan allows, of the greatest length up to 40 at which 64 bits hold their number: of the two-valve plan, of 4,096
+/// joint states with three events, of as many with 60 events and 32 supervisors, of as many in a row, and of 2 of an image of 49,152
+/// bytes.
+fn count_rows() -> Vec<(&'static str, Case)> {
+    let plans = [
+        ("count, two-valve at 40", 40, hex(PLAN_P)),
+        ("count, 4096 at 40", 40, image_of(&rounds(&[32, 32, 4]))),
+        ("count, 4096 crowded at 11", 11, image_of(&crowded(12, 32, 5))),
+        ("count, 4096 in a row at 40", 40, image_of(&counter(12, 1))),
+        ("count, 2 at 40", 40, image_of(&full_with_two_states())),
+    ];
+    let case = |length, image| Case {
+        call: Call::CountWords { length },
+        image,
+        state: Vec::new(),
+        message: Vec::new(),
+        buffer: vec![0; COUNT_BYTES],
+    };
+    plans.into_iter().map(|(name, length, image)| (name, case(length, image))).collect()
+}
+
 /// Nanoseconds per call over so many calls.
 fn time(engine: &impl Engine, case: &Case, calls: usize) -> f64 {
     let mut state = case.state.clone();
@@ -226,22 +247,22 @@ fn main() -> ExitCode {
     let mut images = vec![hex(PLAN_P)];
     images.extend([1_024, 8_192, plan::IMAGE_LIMIT].map(|bytes| image_of(&sized(&mut rng, bytes))));
     println!(
-        "{:<20} {:>11} {:>12} {:>13} {:>8}",
+        "{:<26} {:>11} {:>12} {:>13} {:>8}",
         "call", "image bytes", "engine ns", "reference ns", "ratio"
     );
     let sets: Vec<_> = images.iter().map(|image| rows(image)).collect();
     let by_name = sets[0]
         .iter()
         .flat_map(|(name, _)| sets.iter().flatten().filter(move |(other, _)| other == name));
-    for (name, case) in by_name.chain(&stuck_rows()) {
+    for (name, case) in by_name.chain(&stuck_rows()).chain(&count_rows()) {
         let bytes = case.image.len();
         if !agree(case) {
-            println!("{name:<20} {bytes:>11} the two sides do not agree");
+            println!("{name:<26} {bytes:>11} the two sides do not agree");
             return ExitCode::FAILURE;
         }
         let (engine, reference) = measure(case);
         println!(
-            "{name:<20} {bytes:>11} {engine:>12.1} {reference:>13.1} {:>8.2}",
+            "{name:<26} {bytes:>11} {engine:>12.1} {reference:>13.1} {:>8.2}",
             reference / engine
         );
     }

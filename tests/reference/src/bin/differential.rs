@@ -10,8 +10,8 @@ use foreign::Foreign;
 use reference::answer::{did, length, number, offset, value};
 use reference::calls::{Call, Engine, Reference};
 use reference::cases::{
-    device_case, image_case, image_of, lively_plan, message_case, module_case, plan, record_case, records_of, schedule, shrink_case,
-    shrink_schedule, stuck_case, supervisor_case, unfit_case, Applied, Case, Ground, Op, Rng, World,
+    counts_case, device_case, image_case, image_of, lively_plan, message_case, module_case, plan, record_case, records_of, schedule,
+    shrink_case, shrink_schedule, stuck_case, supervisor_case, unfit_case, Applied, Case, Ground, Op, Rng, World,
 };
 use std::hint::black_box;
 use std::process::ExitCode;
@@ -27,7 +27,7 @@ const CALLS_PER_SCHEDULE: usize = 600;
 #[derive(Default)]
 struct Tally {
     cases: usize,
-    numbers: [usize; 17],
+    numbers: [usize; 18],
     differences: usize,
 }
 
@@ -39,7 +39,7 @@ impl Tally {
 
     fn print(&self, name: &str) {
         print!("{name:<12} {:>9} cases {:>9} accepted ", self.cases, self.numbers[0]);
-        for number in 1..=16 {
+        for number in 1..=17 {
             print!(" {number}:{}", self.numbers[number]);
         }
         println!("  {} differences", self.differences);
@@ -265,6 +265,7 @@ fn main() -> ExitCode {
         calls("states", seed(8), count, states()),
         schedules(seed(7), count),
         calls("stuck", seed(9), count, |rng, ground| stuck_case(rng, ground)),
+        calls("counts", seed(10), count, |rng, ground| counts_case(rng, ground)),
     ];
     let cases: usize = tallies.iter().map(|tally| tally.cases).sum();
     let differences: usize = tallies.iter().map(|tally| tally.differences).sum();

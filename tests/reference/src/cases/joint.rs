@@ -1,4 +1,4 @@
-//! Plans for the question whether they ever get stuck: small ones at random, and some whose joint states can be counted.
+//! Plans for the questions about joint states: small ones at random, and some whose joint states or words can be counted.
 
 use super::damage::damaged;
 use super::inputs::{case, Case, Ground};
@@ -10,12 +10,45 @@ use crate::plan::{self, IMAGE_LIMIT};
 
 /// The longest answer: 4,095 events, 16 modules and 32 supervisors.
 pub const STUCK_BYTES: usize = 4_143;
+/// Enough for every text of counts: 4,096 of them and their sum, each of 20 digits and a line feed.
+pub const COUNT_BYTES: usize = 4_097 * 21;
 
 const CONTROLLABLE: u8 = 1;
 const UNCONTROLLABLE: u8 = 0;
 
 /// Whether a small plan gets stuck, with a buffer about as long as the answer.
 pub fn stuck_case(rng: &mut Rng, ground: &Ground) -> Case {
+    let image = joint_image(rng, ground);
+    let length = answer::length(crate::find_stuck(&image, &mut [0; STUCK_BYTES])) as usize;
+    let room = room(rng, length, &[1, 48, STUCK_BYTES - 1, STUCK_BYTES]);
+    Case {
+        image,
+        buffer: rng.bytes(room),
+        ..case(Call::FindStuck)
+    }
+}
+
+/// How many words of a small plan have some length, with a buffer about as long as the text.
+pub fn counts_case(rng: &mut Rng, ground: &Ground) -> Case {
+    let image = joint_image(rng, ground);
+    let length = match rng.below(20) {
+        0..=9 => rng.below(12),
+        10..=16 => rng.below(41),
+        17 => rng.pick(&[0, 39, 40, 41, 42, 64, 100]),
+        18 => rng.pick(&[1 << 32, 1 << 63, (1 << 32) + 3, u64::MAX as usize]),
+        _ => rng.word() as usize,
+    } as u64;
+    let written = answer::length(crate::count_words(&image, length, &mut [0; COUNT_BYTES])) as usize;
+    let room = room(rng, written, &[1, 2, 48, COUNT_BYTES]);
+    Case {
+        image,
+        buffer: rng.bytes(room),
+        ..case(Call::CountWords { length })
+    }
+}
+
+/// A small plan most of the time, now and then damaged.
+fn joint_image(rng: &mut Rng, ground: &Ground) -> Vec<u8> {
     let records = match rng.below(100) {
         0..=1 => ground.records.clone(),
         2..=4 => {
@@ -26,29 +59,31 @@ pub fn stuck_case(rng: &mut Rng, ground: &Ground) -> Case {
             let start = rng.below(3);
             rng.pick(&[switches(5), switches(12), switches(13), crowded(2, 10, 5), counter(12, start)])
         }
+        6 => {
+            let sizes: Vec<u8> = (0..rng.between(1, 3)).map(|_| rng.between(1, 6) as u8).collect();
+            rounds(&sizes)
+        }
         _ => {
             let shape = small(rng);
             random(rng, shape)
         }
     };
-    let image = if rng.chance(8) {
+    if rng.chance(8) {
         damaged(rng, &records)
     } else {
         image_of(&records)
-    };
-    let length = answer::length(crate::find_stuck(&image, &mut [0; STUCK_BYTES])) as usize;
-    let room = match rng.below(8) {
+    }
+}
+
+/// A buffer's length about that of an answer, or one of some others.
+fn room(rng: &mut Rng, length: usize, others: &[usize]) -> usize {
+    match rng.below(8) {
         0..=2 => length,
         3 => length.saturating_sub(1),
         4 => 0,
         5 => rng.below(length + 1),
         6 => length + rng.between(1, 20),
-        _ => rng.pick(&[1, 48, STUCK_BYTES - 1, STUCK_BYTES]),
-    };
-    Case {
-        image,
-        buffer: rng.bytes(room),
-        ..case(Call::FindStuck)
+        _ => rng.pick(others),
     }
 }
 
@@ -123,6 +158,26 @@ impl Parts {
 /// So many modules, each of which goes on by one event and off by another: 2 to that power joint states.
 pub fn switches(modules: usize) -> Records {
     crowded(modules, 0, 2)
+}
+
+/// Modules of so many states that go round, each by its own event: the joint states are as many as the product of the sizes, and the words
+/// of a length as many as the modules to its power.
+pub fn rounds(sizes: &[u8]) -> Records {
+    let moves = |(module, &states): (usize, &u8)| {
+        let states = usize::from(states);
+        (0..states).map(move |from| [module, from, module, (from + 1) % states])
+    };
+    Parts {
+        events: (0..sizes.len()).map(|module| (module, CONTROLLABLE)).collect(),
+        modules: sizes.iter().map(|&states| (states, Vec::new())).collect(),
+        module_moves: sizes.iter().enumerate().flat_map(moves).collect(),
+        supervisor_states: 1,
+        supervisors: Vec::new(),
+        supervisor_moves: Vec::new(),
+        disablings: Vec::new(),
+        steps: Vec::new(),
+    }
+    .records()
 }
 
 /// So many modules of two states, with `each` events apiece, and supervisors that know every event and follow one module each: the joint

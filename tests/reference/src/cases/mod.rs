@@ -13,7 +13,7 @@ pub use damage::damaged;
 pub use inputs::{
     buffer, device_case, image_case, message, message_case, module_case, reading, record_case, supervisor_case, unfit_case, Case, Ground,
 };
-pub use joint::{counter, crowded, full_with_two_states, stuck_case, switches, STUCK_BYTES};
+pub use joint::{counter, counts_case, crowded, full_with_two_states, rounds, stuck_case, switches, COUNT_BYTES, STUCK_BYTES};
 pub use plans::{image_of, lively_plan, orchard, plan, records_of, sized, Records};
 pub use schedule::{random_op, schedule, Applied, Op, World};
 pub use shrink::{shrink_case, shrink_schedule};
