@@ -3,7 +3,7 @@ use mathlib.Core.Path.{_≡_, refl, sym, ap, ap₂, _∙_, subst}
 use mathlib.Core.List.{List, [], _∷_, _++_, append-assoc}
 use mathlib.Core.Bool.{Bool, true, false, cond, _&&_}
 use Prim.Native.Nat.{ℕ, zero, suc, _+_, _*_, _≤_, _<_}
-use native.Mathlib.Nat.{add-zero, add-suc, suc-add, zero-add}
+use native.Mathlib.Nat.{add-zero, add-suc, zero-add}
 use native.Mathlib.Omega.{arith}
 use lib.ListN.{length, getD, drop, length-append}
 use lib.Dec.{T, eqb, ltb, lit<}
@@ -23,7 +23,7 @@ use Rattle.device_states.specs.declared.Device.{Device}
 use Rattle.words.proofs.Lists.{same-slots}
 use Rattle.bits.proofs.Below.{one-fails}
 use Rattle.fields.specs.Fields.{bytesFrom}
-use Rattle.fields.proofs.Back.{and-left, and-right, from-all}
+use Rattle.fields.proofs.Back.{and-left, and-right, from-all, from-add}
 use Rattle.own_bytes.specs.Own.{ownBytes, ownOf, isOwn, unfitOwn, OwnEncodable}
 use Rattle.own_bytes.proofs.Parts.{own-parts}
 use Rattle.device_bytes.specs.Device.{ownsBytes, deviceBytes, slotOf, stateByte, deviceAt, isSlot, isDevice, unfitDevice, OwnsEncodable, DeviceEncodable}
@@ -98,12 +98,6 @@ module _ (d : Device) (h : DeviceEncodable d) where
       (from-same (stateByte (deviceBytes d)) (λ v. getD (d .supervisors) v 0) state-back 0 32 ∙ ap (listFrom (λ v. getD (d .supervisors) v 0) 0) (sym (h .supervisors)) ∙ same-slots 0 (d .supervisors))
 
 -- ---- encoding what was decoded
-
-from-add : (b : List ℕ) (o m n : ℕ) → bytesFrom b o (m + n) ≡ bytesFrom b o m ++ bytesFrom b (o + m) n
-unfolding bytesFrom
-from-add b o zero n = ap₂ (bytesFrom b) (sym (add-zero o)) (zero-add n)
-from-add b o (suc m) n =
-    ap (bytesFrom b o) (suc-add m n) ∙ ap (λ (r : List ℕ). getD b o 0 ∷ r) (from-add b (suc o) m n ∙ ap (λ (k : ℕ). bytesFrom b (suc o) m ++ bytesFrom b k n) (suc-add o m ∙ sym (add-suc o m)))
 
 from-drop : (k : ℕ) (b : List ℕ) (o n : ℕ) → bytesFrom (drop k b) o n ≡ bytesFrom b (k + o) n
 unfolding bytesFrom

@@ -1,12 +1,14 @@
 -- Fields are read back as they were written, and written as they were read.
-use mathlib.Core.Path.{_≡_, refl, sym, ap, _∙_, subst}
+use mathlib.Core.Path.{_≡_, refl, sym, ap, ap₂, _∙_, subst}
 use mathlib.Core.List.{List, [], _∷_, _++_}
 use mathlib.Core.Bool.{Bool, true, false, not, _&&_, true≢false}
 use Prim.Native.Nat.{ℕ, zero, suc, _+_, _*_, _/_, _%_, _^_, _<_}
+use native.Mathlib.Nat.{add-zero, add-suc, add-assoc, suc-add, zero-add}
 use native.Mathlib.Numerals.{towards-suc}
 use native.Mathlib.Omega.{arith}
-use lib.ListN.{length, getD}
+use lib.ListN.{length, getD, drop}
 use lib.Dec.{T}
+use lib.Seq.{getD-drop}
 use lib.Ieee.{Float, binary64, isNan, toBits, ofBits, nanBits}
 use lib.Ieee.Bits.{ofBits-toBits, toBits-ofBits, toBits-lt, nanBits-is}
 use borrow.Author.Tests.{ltb-true, not-true}
@@ -27,6 +29,12 @@ pub from-all : (b : List ℕ) → bytesFrom b 0 (length b) ≡ b
 unfolding bytesFrom
 from-all [] = refl
 from-all (x ∷ b) = ap (λ (r : List ℕ). x ∷ r) (from-cons x b 0 (length b) ∙ from-all b)
+
+pub from-add : (b : List ℕ) (o m n : ℕ) → bytesFrom b o (m + n) ≡ bytesFrom b o m ++ bytesFrom b (o + m) n
+unfolding bytesFrom
+from-add b o zero n = ap₂ (bytesFrom b) (sym (add-zero o)) (zero-add n)
+from-add b o (suc m) n =
+    ap (bytesFrom b o) (suc-add m n) ∙ ap (λ (r : List ℕ). getD b o 0 ∷ r) (from-add b (suc o) m n ∙ ap (λ (k : ℕ). bytesFrom b (suc o) m ++ bytesFrom b k n) (suc-add o m ∙ sym (add-suc o m)))
 
 -- ---- fields written as they were read
 
@@ -89,6 +97,10 @@ flag-is false = refl
 pub half-read : (x : ℕ) (t : List ℕ) → x < 2 ^ 16 → halfAt (halfBytes x ++ t) 0 ≡ x
 unfolding halfAt halfBytes
 half-read x t h = omega arith
+
+pub quad-drop : (b : ℕ) (s : List ℕ) (o : ℕ) → quadAt (drop b s) o ≡ quadAt s (b + o)
+unfolding quadAt
+quad-drop b s o = simp (getD-drop, add-assoc)
 
 pub quad-read : (x : ℕ) (t : List ℕ) → x < 2 ^ 32 → quadAt (quadBytes x ++ t) 0 ≡ x
 unfolding quadAt quadBytes

@@ -1,14 +1,13 @@
 -- "An accepted call writes the state in place": what it got stood for a state, and the state that it leaves is put over it.
 use mathlib.Core.Path.{_≡_, refl, sym, ap, _∙_}
 use mathlib.Core.Logic.{_≢_}
-use mathlib.Core.List.{List, _++_, append-nil}
+use mathlib.Core.List.{List}
 use mathlib.Core.Bool.{Bool, true, false, cond, _&&_}
 use Prim.Native.Nat.{ℕ, _≤_}
 use native.Mathlib.Omega.{arith}
-use lib.ListN.{length, drop}
+use lib.ListN.{length}
 use lib.Dec.{eqb, ltb}
-use lib.Seq.{drop-length}
-use borrow.Author.Tests.{eqb-true, le-ltb, le-leb}
+use borrow.Author.Tests.{eqb-true, le-leb}
 use Rattle.records.specs.declared.Record.{Record}
 use Rattle.reader.specs.Walk.{recordsOf}
 use Rattle.rules.specs.LookUp.{modulesOf, supervisorsOf}
@@ -18,7 +17,6 @@ use Rattle.rules.specs.declared.Verdict.the-variants.{Accepted, Refused as Chec
 use Rattle.messages.specs.Message.{written, putAt}
 use Rattle.messages.specs.declared.Parsed.{Parsed}
 use Rattle.messages.specs.declared.Parsed.the-variants.{Whole, Misshapen}
-use Rattle.messages.proofs.Writing.{put-start}
 use Rattle.modules.specs.Numbers.{calledNumber}
 use Rattle.modules.specs.declared.Replied.{Replied}
 use Rattle.device.specs.Numbers.{turningNumber}
@@ -41,6 +39,7 @@ use Rattle.device_bytes.proofs.Parts.{device-parts}
 use Rattle.party_bytes.specs.Module.{moduleBytes, isModule, moduleAt, unfitModule, moduleOf}
 use Rattle.party_bytes.specs.Supervisor.{supervisorBytes, isSupervisor, supervisorAt, unfitSupervisor, supervisorOf}
 use Rattle.party_bytes.proofs.Parts.{module-parts, supervisor-parts}
+use Rattle.packing.proofs.InPlace.{over, put-over}
 
 -- ---- a state that does not fit is refused, whatever else
 
@@ -120,12 +119,6 @@ module _ (rs : List Record) (d : Device) (m : ℕ) (f : deviceFits rs d ≡ fals
   replied-refused (CheckRefused n o) j r = in-table n (j .numbered n o refl)
 
 -- ---- the bytes put where bytes of the same length stood
-
-pub over : (bytes s : List ℕ) → length bytes ≡ length s → written bytes s ≡ bytes
-over bytes s e = ap (λ (k : ℕ). bytes ++ drop k s) e ∙ ap (λ (r : List ℕ). bytes ++ r) (drop-length s) ∙ append-nil bytes
-
-pub put-over : (bytes s : List ℕ) → length bytes ≡ length s → putAt bytes 0 s ≡ bytes
-put-over bytes s e = put-start bytes s (le-ltb (length s) (length bytes) (omega arith)) ∙ over bytes s e
 
 module-length : (s : List ℕ) → isModule s ≡ true → length s ≡ 48
 unfolding isModule

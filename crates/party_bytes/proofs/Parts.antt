@@ -2,8 +2,7 @@
 use mathlib.Core.Path.{_≡_, refl, sym, ap, ap₂, _∙_}
 use mathlib.Core.List.{List, [], _∷_, _++_, append-assoc}
 use mathlib.Core.Bool.{Bool, true, false, not, _&&_, _||_}
-use Prim.Native.Nat.{ℕ, zero, suc, _+_, _^_, _<_}
-use native.Mathlib.Nat.{add-assoc}
+use Prim.Native.Nat.{ℕ, zero, suc, _^_, _<_}
 use native.Mathlib.Omega.{arith}
 use lib.ListN.{length, getD, drop, length-append}
 use lib.Dec.{eqb}
@@ -24,7 +23,7 @@ use Rattle.permits.specs.declared.Module.{Module}
 use Rattle.permits.specs.declared.Holder.{Holder}
 use Rattle.permits.specs.declared.Holder.the-variants.{Home, Out}
 use Rattle.fields.specs.Fields.{bytesFrom, halfBytes, halfAt, flagByte, flagOf, isFlag}
-use Rattle.fields.proofs.Back.{and-left, and-right, from-all, flag-written, half-written, quad-written, word-from, flag-read, flag-is, half-read, quad-read}
+use Rattle.fields.proofs.Back.{and-left, and-right, from-all, flag-written, half-written, quad-written, word-from, flag-read, flag-is, half-read, quad-drop, quad-read}
 use Rattle.own_bytes.specs.Own.{ownBytes, ownOf, isOwn}
 use Rattle.own_bytes.proofs.Writing.{length-own}
 use Rattle.own_bytes.proofs.Parts.{own-parts}
@@ -33,10 +32,6 @@ use Rattle.party_bytes.specs.Supervisor.{isOut, holderByte, holderOf, su
 use Rattle.party_bytes.proofs.Laws.{length-module, length-supervisor}
 
 -- ---- a module
-
-quad-drop : (b : ℕ) (s : List ℕ) (o : ℕ) → quadAt (drop b s) o ≡ quadAt s (b + o)
-unfolding quadAt
-quad-drop b s o = simp (getD-drop, add-assoc)
 
 -- its bytes from 35 and from 39 on, and the last
 module _ (x : Module) (n : length (x .own .queue) ≡ 8) where

@@ -129,7 +129,7 @@ next s i Unknown = stop 2 i
 next s i Nothing = stop 3 i
 
 -- past the end a walk stops at its own offset, so a skip must stay inside
-skips : (n o : ℕ) (bs : List ℕ) → n ≤ length bs → walkOf n o bs ≡ walkOf zero (o + n) (drop n bs)
+pub skips : (n o : ℕ) (bs : List ℕ) → n ≤ length bs → walkOf n o bs ≡ walkOf zero (o + n) (drop n bs)
 unfolding walkOf
 skips zero o bs h = ap (λ (m : ℕ). walkOf zero m bs) (sym (add-zero o))
 skips (suc n) o [] h = absurd (omega arith)
