@@ -1,3 +1,4 @@
 pub mod Arms
 pub mod Remembers
 pub mod Represents
+pub mod Passing

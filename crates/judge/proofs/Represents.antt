@@ -11,22 +11,25 @@ use lib.Dec.{eqb, leb, ltb, lit≤}
 use borrow.Author.Tests.{ltb-true, ltb-false, lt-ltb, le-ltb, leb-true, eqb-true}
 use Rattle.bits.specs.Bit.{bit, allBelow, everyEvent}
 use Rattle.bits.proofs.Laws.{bit-and, all-same}
+use Rattle.records.specs.Kinds.{kindOf}
 use Rattle.records.specs.Range.{inRange, operandInRange}
 use Rattle.records.specs.Key.{headKey, keyOf, sameKey, precedes}
 use Rattle.records.specs.declared.Record.{Record}
 use Rattle.records.specs.declared.Record.the-variants.{Head, Event, Module, ModuleMove, Supervisor, SupervisorMove, Disabling, Step, Marking, End}
 use Rattle.reader.specs.declared.Found.the-variants.{It}
 use Rattle.reader.specs.Find.{findIn, found}
+use Rattle.reader.specs.Walk.{Walk, more, stop}
 use Rattle.rules.specs.LookUp.{field1, field2, field3, fieldOf, modulesOf, supervisorsOf, eventsOf, eventIn, moduleIn, supervisorIn, eventDeclared, moduleDeclared, supervisorDeclared, moduleState, supervisorState, ownerOf, controllable, alphabetOf, stepsOf}
 use Rattle.rules.specs.Rules.{indexRuns, inOrder, namesDeclared, keepsRules, allDeclared}
-use Rattle.rules.specs.Check.{faultOf}
+use Rattle.rules.specs.Check.{faultOf, endAt, checkWalk}
 use Rattle.rules.specs.Valid.{Valid, Passes}
 use Rattle.rules.proofs.Valid.{passes, declared-below, index-is, first-head, head-kept, headed, counted}
+use Rattle.rules.specs.declared.Verdict.the-variants.{Refused}
 use Rattle.context.specs.declared.Context.{Context}
 use Rattle.context.specs.Context.{eventsAfter, contextOf, ownerAt, alphabetAt}
 use Rattle.context.proofs.Tables.{with-entry-at}
 use Rattle.judge.specs.Judge.{eventKnown, operandKnown, moduleKnown, supervisorKnown, moduleStateBy, supervisorStateBy, indexBy, orderBy, namesBy, respondBy, rulesBy, allBy, judgeBy}
-use Rattle.judge.specs.Represents.{JudgesAsRules}
+use Rattle.judge.specs.Represents.{JudgesAsRules, checkBy, ChecksAsRules}
 use Rattle.judge.proofs.Remembers.{counts-told, steps-length, event-told, module-told, supervisor-told, look}
 
 -- ---- what holds of records of which none is faulty
@@ -342,3 +345,20 @@ judges rs v r =
     ap₂ (λ (a b : Bool). cond a (cond (inRange r) (cond b (cond (rulesBy (contextOf rs) r) (cond (allBy (contextOf rs) r) 0 8) 7) 6) 5) 4) (order-same rs v r) (names-same rs v r)
     ∙ ap (λ (x : ℕ). cond (inOrder rs r) (cond (inRange r) x 5) 4)
     (where-held (namesDeclared rs r) 6 (λ h. ap₂ (λ (a b : Bool). cond a (cond b 0 8) 7) (rules-same rs v r h) (all-declared-same rs v r)))
+
+agree : (n : ℕ) (rs : List Record) (w : Walk) → Valid rs → checkBy n (contextOf rs) w ≡ checkWalk n rs w
+unfolding checkBy checkWalk contextOf Valid
+agree n rs (stop k o) v = refl
+agree n rs (more o r w) v =
+    ap (λ (j : ℕ). cond (eqb j 0) (cond (eqb (kindOf r) 0x1f) (endAt n o) (checkBy n (contextOf (r ∷ rs)) w)) (Refused j o)) (judges rs v r)
+    ∙ go (eqb (faultOf rs r) 0) refl (λ z. agree n (r ∷ rs) w (z, v))
+  where
+    go : (b : Bool) → eqb (faultOf rs r) 0 ≡ b → (faultOf rs r ≡ 0 → checkBy n (contextOf (r ∷ rs)) w ≡ checkWalk n (r ∷ rs) w)
+        → cond b (cond (eqb (kindOf r) 0x1f) (endAt n o) (checkBy n (contextOf (r ∷ rs)) w)) (Refused (faultOf rs r) o)
+        ≡ cond b (cond (eqb (kindOf r) 0x1f) (endAt n o) (checkWalk n (r ∷ rs) w)) (Refused (faultOf rs r) o)
+    go true q f = ap (cond (eqb (kindOf r) 0x1f) (endAt n o)) (f (eqb-true (faultOf rs r) 0 q))
+    go false q f = refl
+
+pub checks : ChecksAsRules
+unfolding contextOf Valid
+checks n w = agree n [] w tt

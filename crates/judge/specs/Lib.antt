@@ -1,2 +1,3 @@
 pub mod Judge
 pub mod Represents
+pub mod Past

@@ -1,7 +1,9 @@
-// Judges one record from what the check remembers and the record's own fields alone.
+// Judges one record from what the check remembers and the record's own fields alone, and passes faultless records up to the end record.
 ghost use mathlib.Core.Path.{_≡_};
+ghost use Rattle.judge.specs.Past.{pastFrom};
 ghost use Rattle.judge.specs.Judge.{eventKnown, operandKnown, moduleKnown, supervisorKnown, indexBy, orderBy, namesBy, respondBy, rulesBy, allBy, judgeBy};
 use context::Context;
+use reader::Read;
 use records::Record;
 
 fn event_known(c: Context, e: u8) -> bool
@@ -264,4 +266,56 @@ pub fn judge(c: Context, r: Record) -> u8
         return 7;
     }
     if all_declared(c, r) { 0 } else { 8 }
+}
+
+// How far whole records go that are faultless and no end record: what is remembered after them, and the next offset.
+pub struct Past {
+    pub context: Context,
+    pub next: usize,
+}
+
+// Past all whole records from an offset on that are faultless and no end record, one by one.
+pub fn pass(image: &[u8], from: usize, before: Context) -> Past
+    ensures { λ r. ⌜ r ≡ pastFrom (now (image .entry)) from before ⌝ }
+{
+    let mut c = before;
+    let mut i = from;
+    loop {
+        match reader::read_at(image, i) {
+            Read::Nothing => {
+                return Past {
+                    context: c,
+                    next: i,
+                };
+            }
+            Read::Cut => {
+                return Past {
+                    context: c,
+                    next: i,
+                };
+            }
+            Read::Unknown => {
+                return Past {
+                    context: c,
+                    next: i,
+                };
+            }
+            Read::Whole(r, next) => {
+                if judge(c, r) != 0 {
+                    return Past {
+                        context: c,
+                        next: i,
+                    };
+                }
+                if records::kind_of(r) == 0x1f {
+                    return Past {
+                        context: c,
+                        next: i,
+                    };
+                }
+                c = context::with_record(c, r);
+                i = next;
+            }
+        }
+    }
 }
