@@ -1,7 +1,7 @@
--- One step of the check by what it remembers, by what stands at an offset, and that it agrees with the check over the records before.
+-- One step of the check by what it remembers, by what stands at an offset.
 use mathlib.Core.Path.{_≡_, refl, sym, ap, _∙_, subst}
-use mathlib.Core.List.{List, [], _∷_}
-use mathlib.Core.Bool.{Bool, true, false, cond, _&&_}
+use mathlib.Core.List.{List, []}
+use mathlib.Core.Bool.{Bool, true, false, cond, not, _&&_}
 use Prim.Native.Nat.{ℕ, suc, _+_, _≤_, _<_}
 use native.Mathlib.Nat.{zero-add}
 use native.Mathlib.Omega.{arith}
@@ -23,47 +23,35 @@ use Rattle.reader.specs.declared.Read.the-variants.{Whole}
 use Rattle.reader.proofs.Reading.{next, walks-by, told-by}
 use Rattle.places.specs.Places.{nowhere, placeBy, notedAt, notedIn, placesOf}
 use Rattle.places.specs.declared.Places.{Places}
-use Rattle.rules.specs.Check.{faultOf, endAt, checkWalk, verdictOf, limit}
-use Rattle.rules.specs.Valid.{Valid}
+use Rattle.rules.specs.Check.{endAt, checkWalk, verdictOf, limit}
 use Rattle.rules.specs.declared.Verdict.the-variants.{Accepted as VerdictAccepted, Refused as VerdictRefused}
 use Rattle.context.specs.declared.Counts.{Counts}
 use Rattle.context.specs.declared.Events.{Events}
 use Rattle.context.specs.declared.Modules.{Modules}
 use Rattle.context.specs.declared.Supervisors.{Supervisors}
 use Rattle.context.specs.declared.Context.{Context}
-use Rattle.context.specs.Context.{countsAfter, eventsAfter, modulesAfter, supervisorsAfter, withRecord, start, contextOf}
+use Rattle.context.specs.Context.{countsAfter, eventsAfter, modulesAfter, supervisorsAfter, withRecord, start}
 use Rattle.judge.specs.Judge.{indexBy, orderBy, namesBy, rulesBy, allBy, judgeBy}
-use Rattle.judge.proofs.Represents.{judges}
-use Rattle.checker.specs.declared.Fields.{Fields}
+use Rattle.judge.specs.Represents.{checkBy}
+use Rattle.judge.proofs.Represents.{checks}
+use Rattle.record_tests.specs.declared.Fields.{Fields}
+use Rattle.record_tests.specs.Tests.{endKept, standsAt, fieldsAt}
 use Rattle.checker.specs.declared.Examined.{Examined}
 use Rattle.checker.specs.declared.Examined.the-variants.{Accepted, Refused}
 use Rattle.checker.specs.Examined.{examinedBy, examinedOf}
-use Rattle.checker.specs.Stretch.{Reached, headed, endKept}
-use Rattle.checker.specs.Stretch.{checkBy, Stretch, Passed, notedPast, contextBy, eventsBy, modulesBy, supervisorsBy}
-use Rattle.checker.specs.Stretch.{atEvents, atModules, atModuleMoves, atSupervisors, atDisablings, atSteps, standsAt, fieldsAt}
+use Rattle.checker.specs.Stretch.{Reached, headed}
+use Rattle.checker.specs.Stretch.{Rest, restOf, Stretch, Span, Passed, notedPast, contextBy, eventsBy, modulesBy, supervisorsBy}
+use Rattle.checker.specs.Stretch.{atEvents, atModules, atModuleMoves, atSupervisors, atDisablings, atSteps}
 use Rattle.judge.proofs.Represents.{both}
 use Rattle.checker.proofs.Stretch.{stands-there, reads-whole, reads-head, noted-past}
 
-agree : (n : ℕ) (rs : List Record) (w : Walk) → Valid rs → checkBy n (contextOf rs) w ≡ checkWalk n rs w
-unfolding checkBy checkWalk contextOf Valid
-agree n rs (stop k o) v = refl
-agree n rs (more o r w) v =
-    ap (λ (j : ℕ). cond (eqb j 0) (cond (eqb (kindOf r) 0x1f) (endAt n o) (checkBy n (contextOf (r ∷ rs)) w)) (VerdictRefused j o)) (judges rs v r)
-    ∙ go (eqb (faultOf rs r) 0) refl (λ z. agree n (r ∷ rs) w (z, v))
-  where
-    go : (b : Bool) → eqb (faultOf rs r) 0 ≡ b → (faultOf rs r ≡ 0 → checkBy n (contextOf (r ∷ rs)) w ≡ checkWalk n (r ∷ rs) w)
-        → cond b (cond (eqb (kindOf r) 0x1f) (endAt n o) (checkBy n (contextOf (r ∷ rs)) w)) (VerdictRefused (faultOf rs r) o)
-        ≡ cond b (cond (eqb (kindOf r) 0x1f) (endAt n o) (checkWalk n (r ∷ rs) w)) (VerdictRefused (faultOf rs r) o)
-    go true q f = ap (cond (eqb (kindOf r) 0x1f) (endAt n o)) (f (eqb-true (faultOf rs r) 0 q))
-    go false q f = refl
-
 -- where the check begins
 pub begins : (s : List ℕ) {c : Context} {p : Places} → c ≡ start → p ≡ nowhere → length s < suc limit → Reached s c 0 p
-unfolding verdictOf contextOf Valid
+unfolding verdictOf
 begins s {c} {p} e f h =
     record {
       checked =
-          ap (λ (d : Context). checkBy (length s) d (walkFrom s 0)) e ∙ agree (length s) [] (walkFrom s 0) tt
+          ap (λ (d : Context). checkBy (length s) d (walkFrom s 0)) e ∙ checks (length s) (walkFrom s 0)
           ∙ sym (ap (λ (b : Bool). cond b (VerdictRefused 1 0) (checkWalk (length s) [] (walkFrom s 0))) (le-ltb limit (length s) (omega arith)));
       noted = ap (λ (q : Places). notedIn q (c .last .kind) (walkFrom s 0)) f ∙ ap (λ (d : Context). notedIn nowhere (d .last .kind) (walkFrom s 0)) e;
     }
@@ -141,14 +129,37 @@ head-by s {f = f} {n} l b e h g i z =
     in
     subst (λ (x : ℕ). Reached s (headed c) x nowhere) (zero-add n) r
 
+-- the check goes on from where the records passed lead
+checks-rest : (n : ℕ) (c : Context) (w : Walk) → checkBy n (restOf c w .context) (restOf c w .walk) ≡ checkBy n c w
+unfolding checkBy restOf
+checks-rest n c (stop k o) = refl
+checks-rest n c (more o r w) = go (eqb (judgeBy c r) 0) (eqb (kindOf r) 0x1f) refl refl (checks-rest n (withRecord c r) w)
+  where
+    go : (a b : Bool) → eqb (judgeBy c r) 0 ≡ a → eqb (kindOf r) 0x1f ≡ b
+        → checkBy n (restOf (withRecord c r) w .context) (restOf (withRecord c r) w .walk) ≡ checkBy n (withRecord c r) w
+        → (let t : Rest = cond (a && not b) (restOf (withRecord c r) w) (record { context = c; walk = more o r w }) in checkBy n (t .context) (t .walk))
+        ≡ cond a (cond b (endAt n o) (checkBy n (withRecord c r) w)) (VerdictRefused (judgeBy c r) o)
+    go true true x y f = simp (x, y)
+    go true false x y f = f
+    go false b x y f = simp (x)
+
+checks-on : (n : ℕ) (c d : Context) (v w : Walk) → restOf d v ≡ restOf c w → checkBy n d v ≡ checkBy n c w
+checks-on n c d v w e = sym (checks-rest n d v) ∙ ap (λ (x : Rest). checkBy n (x .context) (x .walk)) e ∙ checks-rest n c w
+
 -- past a stretch
-pub past : (s : List ℕ) (k : ℕ) {c d : Context} {i j : ℕ} {p q : Places} → Stretch s k c i d j → q ≡ notedPast p (c .last .kind) k i j → Reached s c i p → Reached s d j q
-past s k {c} {d} {i} {j} {p} {q} h e r =
+past : (s : List ℕ) (k : ℕ) {c d : Context} {i j : ℕ} {p q : Places} → Stretch s k c i d j → q ≡ notedPast p (c .last .kind) k i j → Span s c i p d j q
+past s k {c} {d} {i} {j} {p} {q} h e =
     record {
-      checked = h .same ∙ r .checked;
-      noted =
-          ap (λ (a : Places). notedIn a (d .last .kind) (walkFrom s j)) (e ∙ noted-past p (c .last .kind) (d .last .kind) k i j (h .some)) ∙ h .notes p ∙ r .noted;
+      same = h .same;
+      notes = ap (λ (a : Places). notedIn a (d .last .kind) (walkFrom s j)) (e ∙ noted-past p (c .last .kind) (d .last .kind) k i j (h .some)) ∙ h .notes p;
     }
+
+-- and past another
+further : (s : List ℕ) {c d e : Context} {i j l : ℕ} {p q r : Places} → Span s d j q e l r → Span s c i p d j q → Span s c i p e l r
+further s y x = record { same = y .same ∙ x .same; notes = y .notes ∙ x .notes }
+
+pub over : (s : List ℕ) {c d : Context} {i j : ℕ} {p q : Places} → Span s c i p d j q → Reached s c i p → Reached s d j q
+over s {c} {d} {i} {j} h r = record { checked = checks-on (length s) c d (walkFrom s j) (walkFrom s i) (h .same) ∙ r .checked; noted = h .notes ∙ r .noted }
 
 -- ---- all stretches
 
@@ -157,33 +168,35 @@ noted-from a k i j o e f = e ∙ ap (λ (x : Places). notedPast x a k i j) f
 
 module _ (s : List ℕ) (n : Counts) (known controllable : ℕ) (owner steps : List ℕ) where
   -- from the head on
-  pub after-three : (q eq mq vq : RecordKey) (i e m v : ℕ) (vs : Supervisors) (modules : ℕ) (owner₀ states₀ states : List ℕ) {p ep mp vp : Places}
-      → Reached s (contextBy q n (eventsBy 0 0 owner₀ steps) (modulesBy 0 states₀) vs) i p
-      → Passed s 0x11 (atEvents q n 0 0 owner₀) i (atEvents eq n known controllable owner) e → ep ≡ notedPast p (q .kind) 0x11 i e
-      → Passed s 0x12 (atModules eq n 0 states₀) e (atModules mq n modules states) m → mp ≡ notedPast ep (eq .kind) 0x12 e m
+  pub after-three : (q eq mq vq : RecordKey) (i e m v : ℕ) (vs : Supervisors) (known₀ controllable₀ modules₀ modules : ℕ) (owner₀ states₀ states : List ℕ) {p ep mp vp : Places}
+      → Passed s 0x11 (atEvents q n known₀ controllable₀ owner₀) i (atEvents eq n known controllable owner) e → ep ≡ notedPast p (q .kind) 0x11 i e
+      → Passed s 0x12 (atModules eq n modules₀ states₀) e (atModules mq n modules states) m → mp ≡ notedPast ep (eq .kind) 0x12 e m
       → Passed s 0x13 (atModuleMoves mq n known owner modules states) m (atModuleMoves vq n known owner modules states) v → vp ≡ notedPast mp (mq .kind) 0x13 m v
-      → Reached s (contextBy vq n (eventsBy known controllable owner steps) (modulesBy modules states) vs) v vp
+      → Span s (contextBy q n (eventsBy known₀ controllable₀ owner₀ steps) (modulesBy modules₀ states₀) vs) i p
+      (contextBy vq n (eventsBy known controllable owner steps) (modulesBy modules states) vs) v vp
   unfolding Passed atEvents atModules atModuleMoves
-  after-three q eq mq vq i e m v vs modules owner₀ states₀ states h a x b y c z =
+  after-three q eq mq vq i e m v vs known₀ controllable₀ modules₀ modules owner₀ states₀ states a x b y c z =
       let r : Context = contextBy (keyBy 0 0 0 0) n (eventsBy known controllable owner steps) (modulesBy modules states) vs in
-      past s 0x13 (c r) z
-      (past s 0x12 (b r) y (past s 0x11 (a (contextBy (keyBy 0 0 0 0) n (eventsBy known controllable owner steps) (modulesBy 0 states₀) vs)) x h))
+      further s (past s 0x13 (c r) z)
+      (further s (past s 0x12 (b r) y) (past s 0x11 (a (contextBy (keyBy 0 0 0 0) n (eventsBy known controllable owner steps) (modulesBy modules₀ states₀) vs)) x))
 
   -- from the supervisors on
-  pub after-eight : (q vq mq dq sq tq : RecordKey) (i v m d x t modules supervisors : ℕ) (sizes states₀ alphabet₀ states alphabet counts : List ℕ) {p vp mp dp sp tp : Places}
-      → Reached s (contextBy q n (eventsBy known controllable owner steps) (modulesBy modules sizes) (supervisorsBy 0 states₀ alphabet₀)) i p
-      → Passed s 0x14 (atSupervisors q n known 0 states₀ alphabet₀) i (atSupervisors vq n known supervisors states alphabet) v → vp ≡ notedPast p (q .kind) 0x14 i v
+  pub after-eight : (q vq mq dq sq tq : RecordKey) (i v m d x t modules supervisors₀ supervisors : ℕ) (sizes states₀ alphabet₀ states alphabet counts : List ℕ) {p vp mp dp sp tp : Places}
+      → Passed s 0x14 (atSupervisors q n known supervisors₀ states₀ alphabet₀) i (atSupervisors vq n known supervisors states alphabet) v → vp ≡ notedPast p (q .kind) 0x14 i v
       → Passed s 0x15 (atSupervisors vq n known supervisors states alphabet) v (atSupervisors mq n known supervisors states alphabet) m
       → mp ≡ notedPast vp (vq .kind) 0x15 v m
       → Passed s 0x16 (atDisablings mq n known controllable supervisors states alphabet) m (atDisablings dq n known controllable supervisors states alphabet) d
       → dp ≡ notedPast mp (mq .kind) 0x16 m d
       → Passed s 0x17 (atSteps dq n known controllable owner steps) d (atSteps sq n known controllable owner counts) x → sp ≡ notedPast dp (dq .kind) 0x17 d x
       → Passed s 0x18 (atModules sq n modules sizes) x (atModules tq n modules sizes) t → tp ≡ notedPast sp (sq .kind) 0x18 x t
-      → Reached s (contextBy tq n (eventsBy known controllable owner counts) (modulesBy modules sizes) (supervisorsBy supervisors states alphabet)) t tp
+      → Span s (contextBy q n (eventsBy known controllable owner steps) (modulesBy modules sizes) (supervisorsBy supervisors₀ states₀ alphabet₀)) i p
+      (contextBy tq n (eventsBy known controllable owner counts) (modulesBy modules sizes) (supervisorsBy supervisors states alphabet)) t tp
   unfolding Passed atSupervisors atDisablings atSteps atModules
-  after-eight q vq mq dq sq tq i v m l x t modules supervisors sizes states₀ alphabet₀ states alphabet counts h a w b u c y d z e g =
+  after-eight q vq mq dq sq tq i v m l x t modules supervisors₀ supervisors sizes states₀ alphabet₀ states alphabet counts a w b u c y d z e g =
       let r : List ℕ → Context = λ k. contextBy (keyBy 0 0 0 0) n (eventsBy known controllable owner k) (modulesBy modules sizes) (supervisorsBy supervisors states alphabet) in
-      past s 0x18 (e (r counts)) g (past s 0x17 (d (r steps)) z (past s 0x16 (c (r steps)) y (past s 0x15 (b (r steps)) u (past s 0x14 (a (r steps)) w h))))
+      further s (past s 0x18 (e (r counts)) g)
+      (further s (past s 0x17 (d (r steps)) z)
+      (further s (past s 0x16 (c (r steps)) y) (further s (past s 0x15 (b (r steps)) u) (past s 0x14 (a (r steps)) w))))
 
 -- ---- the end record where the stretches stop
 

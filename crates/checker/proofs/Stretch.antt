@@ -33,9 +33,10 @@ use Rattle.context.specs.declared.Context.{Context}
 use Rattle.context.specs.Context.{withEntry, withBit, countsAfter, eventsAfter, modulesAfter, supervisorsAfter, withRecord, ownerAt, stepsAt}
 use Rattle.judge.proofs.Represents.{both}
 use Rattle.judge.specs.Judge.{indexBy, orderBy, namesBy, rulesBy, allBy, judgeBy}
-use Rattle.checker.specs.declared.Fields.{Fields}
-use Rattle.checker.specs.Stretch.{checkBy, Stretch, Passed, notedPast, atEvents, atModules, atModuleMoves, atSupervisors, atDisablings, atSteps}
-use Rattle.checker.specs.Stretch.{standsAt, fieldsAt, supervisorKept, Below, moveNamed, disablingNamed, respondFits, stepKept}
+use Rattle.record_tests.specs.declared.Fields.{Fields}
+use Rattle.record_tests.specs.Tests.{standsAt, fieldsAt, supervisorKept, moveNamed, disablingNamed, respondFits, stepKept}
+use Rattle.checker.specs.Stretch.{restOf, Stretch, Passed, notedPast, atEvents, atModules, atModuleMoves, atSupervisors, atDisablings, atSteps}
+use Rattle.checker.specs.Stretch.{Below}
 
 -- ---- what stands at an offset
 
@@ -223,7 +224,7 @@ begins-stretch s k c i r =
 module _ (s : List ℕ) (k : ℕ) {c d : Context} {i j : ℕ} where
   reaches : (m : ℕ) {r : Record} → readAt s j ≡ Whole r m → j < m → judgeBy d r ≡ 0 → kindOf r ≡ k → keyOf r .kind ≡ k → (k ≡ 0x1f → ⊥)
       → Stretch s k c i d j → Stretch s k c i (withRecord d r) m
-  unfolding checkBy notedIn
+  unfolding restOf notedIn
   reaches m {r} e l z f g u h =
       let w = walks-by s j refl e in
       let a : i ≤ j = h .further in
@@ -233,7 +234,7 @@ module _ (s : List ℕ) (k : ℕ) {c d : Context} {i j : ℕ} where
       in
       record {
         further = omega arith;
-        same = sym (ap (checkBy (length s) d) w ∙ simp (z, ne-eqb _ _ v)) ∙ h .same;
+        same = sym (ap (restOf d) w ∙ simp (z, ne-eqb _ _ v)) ∙ h .same;
         notes = λ p.
             ap (λ (x : ℕ). notedIn (notedAt p (c .last .kind) x i) x (walkFrom s m)) g
             ∙ ap (λ (q : Places). notedIn q k (walkFrom s m)) (sym (t p))

@@ -1,21 +1,26 @@
 // The check of a plan image, in one pass over its records: those of each kind in a loop of their own, and the judge where these stop.
 ghost use mathlib.Core.Path.{_≡_};
+ghost use mathlib.Core.Bool.{true};
 ghost use lib.ListN.{length, getD, replicate};
 ghost use lib.Dec.{eqb};
 ghost use Prim.Native.Nat.{_+_, _%_, _≤_, _<_};
 ghost use Rattle.rules.specs.Check.{verdictOf, endAt};
 ghost use Rattle.places.specs.Places.{nowhere};
 ghost use Rattle.checker.specs.Examined.{examinedBy, examinedOf, ExaminedAs};
-ghost use Rattle.checker.specs.Stretch.{Reached, Passed, notedPast, contextBy, eventsBy, modulesBy, supervisorsBy, headed};
+ghost use Rattle.judge.specs.Past.{pastFrom};
+ghost use Rattle.checker.specs.Stretch.{Reached, Onward, Passed, notedPast, contextBy, eventsBy, modulesBy, supervisorsBy, headed};
 ghost use Rattle.checker.specs.Stretch.{atEvents, atModules, atModuleMoves, atSupervisors, atDisablings, atSteps};
-ghost use Rattle.checker.specs.Stretch.{standsAt, fieldsAt, supervisorKept, Below, moveNamed, disablingNamed, respondFits, stepKept, endKept};
+ghost use Rattle.checker.specs.Stretch.{Below};
+ghost use Rattle.record_tests.specs.Tests.{fieldsAt};
 use context::Context;
 use context::Counts;
 use context::Events;
 use context::Modules;
 use context::Supervisors;
+use judge::Past;
 use places::Places;
 use reader::Read;
+use record_tests::Fields;
 use records::Record;
 use records::RecordKey;
 use rules::Verdict;
@@ -50,25 +55,6 @@ struct PlaceOfEvents {
     next: usize,
 }
 
-// The first fields of a record, one byte each.
-struct Fields {
-    first: u8,
-    second: u8,
-    third: u8,
-    fourth: u8,
-}
-
-// Whether a record of a kind, of n bytes, stands whole at an offset.
-fn stands(image: &[u8], at: usize, kind: u8, n: usize) -> bool
-    ensures { λ t. ⌜ t ≡ standsAt (now (image .entry)) at kind n ⌝ }
-{
-    if at < image.len() {
-        (n <= image.len() - at) & (image[at] == kind)
-    } else {
-        false
-    }
-}
-
 // The first fields of the record at an offset.
 fn fields_at(image: &[u8], at: usize) -> Fields
     requires { ⌜ at + 4 ≤ length (now image) ⌝ }
@@ -82,19 +68,6 @@ fn fields_at(image: &[u8], at: usize) -> Fields
     }
 }
 
-fn supervisor_kept(f: Fields, x: u64, n: Counts, events: u64) -> bool
-    ensures { λ t. ⌜ t ≡ supervisorKept f x n events ⌝ }
-{
-    let r = Record::Supervisor {
-        number: f.first,
-        states: f.second,
-        initial: f.third,
-        alphabet: x,
-    };
-    records::in_range(r)
-        & ((f.first < n.supervisors) & (f.third < f.second) & bits::within(x, events))
-}
-
 // The bits of a mask that are below n.
 fn below(m: u64, n: u8) -> u64
     ensures { λ r. ⌜ Below m n r ⌝ }
@@ -105,47 +78,6 @@ fn below(m: u64, n: u8) -> u64
     } else {
         m
     }
-}
-
-fn move_named(f: Fields, known: u64, states: u8, named: u64) -> bool
-    ensures { λ t. ⌜ t ≡ moveNamed f known states named ⌝ }
-{
-    bits::has(known, f.first)
-        & (f.second < states)
-        & bits::has(named, f.third)
-        & (f.fourth < states)
-}
-
-fn disabling_named(f: Fields, mask: u64, n: u8, known: u64, states: u8, named: u64) -> bool
-    ensures { λ t. ⌜ t ≡ disablingNamed f mask n known states named ⌝ }
-{
-    (f.first < n) & bits::has(known, f.first) & (f.second < states) & bits::within(mask, named)
-}
-
-fn respond_fits(x: u64, events: u8, named: u64, controllable: u64, same: bool) -> bool
-    ensures { λ t. ⌜ t ≡ respondFits x events named controllable same ⌝ }
-{
-    if x < 64 {
-        let e = (x % 256) as u8;
-        ((e < events) & bits::has(named, e)) & (!bits::has(controllable, e) & same)
-    } else {
-        false
-    }
-}
-
-fn step_kept(f: Fields, x: u64, events: u8, named: u64, controllable: u64, same: bool) -> bool
-    ensures { λ t. ⌜ t ≡ stepKept f x events named controllable same ⌝ }
-{
-    let r = Record::Step {
-        event: f.first,
-        index: f.second,
-        operation: f.third,
-        operand: x,
-    };
-    records::in_range(r)
-        & ((f.first < events) & bits::has(named, f.first))
-        & bits::has(controllable, f.first)
-        & ((f.third != 5) | respond_fits(x, events, named, controllable, same))
 }
 
 // Whether the event that a respond step names is of the same module.
@@ -164,20 +96,22 @@ fn events(
     from: usize,
     before: RecordKey,
     n: Counts,
+    known: u64,
+    controllable: u64,
     owner: &mut [u8; 64],
 ) -> PlaceOfEvents
-    ensures { λ p. ⌜ Passed (now (image .entry)) 0x11 (atEvents before n 0 0 (now (owner .entry))) from (atEvents (p .last) n (p .known) (p .controllable) (now (owner .exit))) (p .next) ⌝ }
+    ensures { λ p. ⌜ Passed (now (image .entry)) 0x11 (atEvents before n known controllable (now (owner .entry))) from (atEvents (p .last) n (p .known) (p .controllable) (now (owner .exit))) (p .next) ⌝ }
 {
-    let mut known: u64 = 0;
-    let mut controllable: u64 = 0;
+    let mut declared = known;
+    let mut commands = controllable;
     let mut last = before;
     let mut i = from;
     let size = records::size_by(0x11);
     loop {
-        if !stands(image, i, 0x11, size) {
+        if !record_tests::stands(image, i, 0x11, size) {
             return PlaceOfEvents {
-                known,
-                controllable,
+                known: declared,
+                controllable: commands,
                 last,
                 next: i,
             };
@@ -193,15 +127,15 @@ fn events(
         let kept = (f.third <= 1) & ((e < n.events) & (f.second < n.modules));
         if !(records::precedes(last, key) & (e < 64) & kept) {
             return PlaceOfEvents {
-                known,
-                controllable,
+                known: declared,
+                controllable: commands,
                 last,
                 next: i,
             };
         }
         let k = words::wide(e);
-        known = bits::put(known, e, true);
-        controllable = bits::put(controllable, e, f.third == 1);
+        declared = bits::put(declared, e, true);
+        commands = bits::put(commands, e, f.third == 1);
         owner[k] = f.second;
         last = key;
         i = i + size;
@@ -214,18 +148,19 @@ fn modules(
     from: usize,
     before: RecordKey,
     n: Counts,
+    known: u64,
     states: &mut [u8; 16],
 ) -> PlaceOfNumbers
-    ensures { λ p. ⌜ Passed (now (image .entry)) 0x12 (atModules before n 0 (now (states .entry))) from (atModules (p .last) n (p .known) (now (states .exit))) (p .next) ⌝ }
+    ensures { λ p. ⌜ Passed (now (image .entry)) 0x12 (atModules before n known (now (states .entry))) from (atModules (p .last) n (p .known) (now (states .exit))) (p .next) ⌝ }
 {
-    let mut known: u64 = 0;
+    let mut declared = known;
     let mut last = before;
     let mut i = from;
     let size = records::size_by(0x12);
     loop {
-        if !stands(image, i, 0x12, size) {
+        if !record_tests::stands(image, i, 0x12, size) {
             return PlaceOfNumbers {
-                known,
+                known: declared,
                 last,
                 next: i,
             };
@@ -241,13 +176,13 @@ fn modules(
         let kept = ((1 <= f.second) & (f.second <= 32)) & ((m < n.modules) & (f.third < f.second));
         if !(records::precedes(last, key) & (m < 16) & kept) {
             return PlaceOfNumbers {
-                known,
+                known: declared,
                 last,
                 next: i,
             };
         }
         let k = words::wide(m);
-        known = bits::put(known, m, true);
+        declared = bits::put(declared, m, true);
         states[k] = f.second;
         last = key;
         i = i + size;
@@ -271,7 +206,7 @@ fn module_moves(
     let mut i = from;
     let size = records::size_by(0x13);
     loop {
-        if !stands(image, i, 0x13, size) {
+        if !record_tests::stands(image, i, 0x13, size) {
             return Place { last, next: i };
         }
         let f = fields_at(image, i);
@@ -295,7 +230,7 @@ fn module_moves(
         };
         let numbers = below(known, n.modules);
         let names = below(events, n.events);
-        let named = move_named(f, numbers, count, names);
+        let named = record_tests::move_named(f, numbers, count, names);
         if !(records::precedes(last, key) & named & (of == m)) {
             return Place { last, next: i };
         }
@@ -311,19 +246,20 @@ fn supervisors(
     before: RecordKey,
     n: Counts,
     events: u64,
+    known: u64,
     states: &mut [u8; 32],
     alphabet: &mut [u64; 32],
 ) -> PlaceOfNumbers
-    ensures { λ p. ⌜ Passed (now (image .entry)) 0x14 (atSupervisors before n events 0 (now (states .entry)) (now (alphabet .entry))) from (atSupervisors (p .last) n events (p .known) (now (states .exit)) (now (alphabet .exit))) (p .next) ⌝ }
+    ensures { λ p. ⌜ Passed (now (image .entry)) 0x14 (atSupervisors before n events known (now (states .entry)) (now (alphabet .entry))) from (atSupervisors (p .last) n events (p .known) (now (states .exit)) (now (alphabet .exit))) (p .next) ⌝ }
 {
-    let mut known: u64 = 0;
+    let mut declared = known;
     let mut last = before;
     let mut i = from;
     let size = records::size_by(0x14);
     loop {
-        if !stands(image, i, 0x14, size) {
+        if !record_tests::stands(image, i, 0x14, size) {
             return PlaceOfNumbers {
-                known,
+                known: declared,
                 last,
                 next: i,
             };
@@ -337,16 +273,16 @@ fn supervisors(
             second: 0,
             third: 0,
         };
-        let kept = supervisor_kept(f, x, n, events);
+        let kept = record_tests::supervisor_kept(f, x, n, events);
         if !(records::precedes(last, key) & (v < 32) & kept) {
             return PlaceOfNumbers {
-                known,
+                known: declared,
                 last,
                 next: i,
             };
         }
         let k = words::wide(v);
-        known = bits::put(known, v, true);
+        declared = bits::put(declared, v, true);
         states[k] = f.second;
         alphabet[k] = x;
         last = key;
@@ -371,7 +307,7 @@ fn supervisor_moves(
     let mut i = from;
     let size = records::size_by(0x15);
     loop {
-        if !stands(image, i, 0x15, size) {
+        if !record_tests::stands(image, i, 0x15, size) {
             return Place { last, next: i };
         }
         let f = fields_at(image, i);
@@ -390,7 +326,7 @@ fn supervisor_moves(
         };
         let numbers = below(known, n.supervisors);
         let names = below(events, n.events);
-        let named = move_named(f, numbers, count, names & own);
+        let named = record_tests::move_named(f, numbers, count, names & own);
         if !(records::precedes(last, key) & named) {
             return Place { last, next: i };
         }
@@ -417,7 +353,7 @@ fn disablings(
     let mut i = from;
     let size = records::size_by(0x16);
     loop {
-        if !stands(image, i, 0x16, size) {
+        if !record_tests::stands(image, i, 0x16, size) {
             return Place { last, next: i };
         }
         let f = fields_at(image, i);
@@ -435,7 +371,7 @@ fn disablings(
             second: f.second,
             third: 0,
         };
-        let named = disabling_named(f, mask, n.supervisors, known, count, events);
+        let named = record_tests::disabling_named(f, mask, n.supervisors, known, count, events);
         let kept = bits::within(mask, controllable & own);
         if !(records::precedes(last, key) & (mask != 0) & named & kept) {
             return Place { last, next: i };
@@ -462,7 +398,7 @@ fn steps(
     let mut i = from;
     let size = records::size_by(0x17);
     loop {
-        if !stands(image, i, 0x17, size) {
+        if !record_tests::stands(image, i, 0x17, size) {
             return Place { last, next: i };
         }
         let f = fields_at(image, i);
@@ -480,7 +416,7 @@ fn steps(
             second: f.second,
             third: 0,
         };
-        let kept = step_kept(f, x, n.events, known, controllable, same);
+        let kept = record_tests::step_kept(f, x, n.events, known, controllable, same);
         if !(records::precedes(last, key) & (f.second == count) & kept) {
             return Place { last, next: i };
         }
@@ -505,7 +441,7 @@ fn markings(
     let mut i = from;
     let size = records::size_by(0x18);
     loop {
-        if !stands(image, i, 0x18, size) {
+        if !record_tests::stands(image, i, 0x18, size) {
             return Place { last, next: i };
         }
         let m = image[i + 1];
@@ -528,30 +464,6 @@ fn markings(
         last = key;
         i = i + size;
     }
-}
-
-// Whether a faultless end record stands at an offset.
-fn end_kept(
-    image: &[u8],
-    at: usize,
-    last: RecordKey,
-    n: Counts,
-    modules: u64,
-    supervisors: u64,
-    events: u64,
-) -> bool
-    ensures { λ t. ⌜ t ≡ endKept (now (image .entry)) at last n modules supervisors events ⌝ }
-{
-    let key = RecordKey {
-        kind: 0x1f,
-        first: 0,
-        second: 0,
-        third: 0,
-    };
-    (stands(image, at, 0x1f, records::size_by(0x1f)) & records::precedes(last, key))
-        & (bits::has_below(modules, n.modules)
-            & bits::has_below(supervisors, n.supervisors)
-            & bits::has_below(events, n.events))
 }
 
 // A faultless end record at an offset: nothing may follow it.
@@ -634,7 +546,7 @@ fn after_modules(
     let mut states = [0u8; 32];
     let mut alphabet = [0u64; 32];
     let mut counts = [0u8; 64];
-    let v = supervisors(image, from, before, n, known, &mut states, &mut alphabet);
+    let v = supervisors(image, from, before, n, known, 0, &mut states, &mut alphabet);
     let vq = v.last;
     let vp = noted_past(found, before.kind, 0x14, from, v.next);
     let m = supervisor_moves(image, v.next, vq, n, known, v.known, &states, &alphabet);
@@ -668,7 +580,7 @@ fn after_modules(
     let t = markings(image, s.next, sq, n, modules, sizes);
     let tq = t.last;
     let tp = noted_past(sp, sq.kind, 0x18, s.next, t.next);
-    if end_kept(image, t.next, tq, n, modules, v.known, known) {
+    if record_tests::end_kept(image, t.next, tq, n, modules, v.known, known) {
         let p = places::noted(tp, tq.kind, 0x1f, t.next);
         return end_at(image, t.next, p);
     }
@@ -708,10 +620,10 @@ fn after_head(image: &[u8], from: usize, n: Counts) -> Examined
     };
     let mut owner = [0u8; 64];
     let mut states = [0u8; 16];
-    let e = events(image, from, head, n, &mut owner);
+    let e = events(image, from, head, n, 0, 0, &mut owner);
     let eq = e.last;
     let ep = noted_past(places::nowhere(), 0x10, 0x11, from, e.next);
-    let m = modules(image, e.next, eq, n, &mut states);
+    let m = modules(image, e.next, eq, n, 0, &mut states);
     let mq = m.last;
     let mp = noted_past(ep, eq.kind, 0x12, e.next, m.next);
     let v = module_moves(image, m.next, mq, n, e.known, &owner, m.known, &states);
@@ -739,7 +651,7 @@ pub fn examine(image: &[u8]) -> Examined
         return Examined::Refused(1, 0);
     }
     let size = records::size_by(0x10);
-    if stands(image, 0, 0x10, size) {
+    if record_tests::stands(image, 0, 0x10, size) {
         let f = fields_at(image, 0);
         let r = Record::Head {
             modules: f.first,
@@ -766,4 +678,196 @@ pub fn check(image: &[u8]) -> Verdict
         Examined::Accepted(_) => Verdict::Accepted,
         Examined::Refused(n, o) => Verdict::Refused(n, o),
     }
+}
+
+// ---- how far the check goes without an answer, from any offset and with any context
+
+// From the events to the module moves. A record has come before, as one has before every stretch.
+fn past_modules(image: &[u8], from: usize, c: Context) -> Past
+    requires { ⌜ c .begun ≡ true ⌝ }
+    ensures { λ r. ⌜ Onward (now (image .entry)) c from (r .context) (r .next) ⌝ }
+{
+    let before = c.last;
+    let n = c.counts;
+    let ev = c.events;
+    let ms = c.modules;
+    let mut owner = ev.owner;
+    let mut states = ms.states;
+    let e = events(
+        image,
+        from,
+        before,
+        n,
+        ev.known,
+        ev.controllable,
+        &mut owner,
+    );
+    let eq = e.last;
+    let m = modules(image, e.next, eq, n, ms.known, &mut states);
+    let mq = m.last;
+    let v = module_moves(image, m.next, mq, n, e.known, &owner, m.known, &states);
+    let last = v.last;
+    let steps = ev.steps;
+    let supervisors = c.supervisors;
+    let d = Context {
+        begun: true,
+        last,
+        counts: n,
+        events: Events {
+            known: e.known,
+            controllable: e.controllable,
+            owner,
+            steps,
+        },
+        modules: Modules {
+            known: m.known,
+            states,
+        },
+        supervisors,
+    };
+    Past {
+        context: d,
+        next: v.next,
+    }
+}
+
+// From the supervisors to the markings.
+fn past_supervisors(image: &[u8], from: usize, c: Context) -> Past
+    requires { ⌜ c .begun ≡ true ⌝ }
+    ensures { λ r. ⌜ Onward (now (image .entry)) c from (r .context) (r .next) ⌝ }
+{
+    let before = c.last;
+    let n = c.counts;
+    let ev = c.events;
+    let ms = c.modules;
+    let vs = c.supervisors;
+    let owner = ev.owner;
+    let sizes = ms.states;
+    let mut states = vs.states;
+    let mut alphabet = vs.alphabet;
+    let mut counts = ev.steps;
+    let known = ev.known;
+    let all = ev.controllable;
+    let v = supervisors(
+        image,
+        from,
+        before,
+        n,
+        known,
+        vs.known,
+        &mut states,
+        &mut alphabet,
+    );
+    let vq = v.last;
+    let m = supervisor_moves(image, v.next, vq, n, known, v.known, &states, &alphabet);
+    let mq = m.last;
+    let d = disablings(
+        image,
+        m.next,
+        mq,
+        n,
+        known,
+        all,
+        v.known,
+        &states,
+        &alphabet,
+    );
+    let dq = d.last;
+    let s = steps(image, d.next, dq, n, known, all, &owner, &mut counts);
+    let sq = s.last;
+    let t = markings(image, s.next, sq, n, ms.known, &sizes);
+    let last = t.last;
+    let x = Context {
+        begun: true,
+        last,
+        counts: n,
+        events: Events {
+            known,
+            controllable: all,
+            owner,
+            steps: counts,
+        },
+        modules: ms,
+        supervisors: Supervisors {
+            known: v.known,
+            states,
+            alphabet,
+        },
+    };
+    Past {
+        context: x,
+        next: t.next,
+    }
+}
+
+// Past one record at most, which may be the first.
+fn past_first(image: &[u8], from: usize, c: Context) -> Past
+    ensures { λ r. ⌜ pastFrom (now (image .entry)) (r .next) (r .context) ≡ pastFrom (now (image .entry)) from c ⌝ }
+{
+    let Read::Whole(r, next) = reader::read_at(image, from) else {
+        return Past {
+            context: c,
+            next: from,
+        };
+    };
+    if judge::judge(c, r) != 0 {
+        return Past {
+            context: c,
+            next: from,
+        };
+    }
+    if records::kind_of(r) == 0x1f {
+        return Past {
+            context: c,
+            next: from,
+        };
+    }
+    Past {
+        context: context::with_record(c, r),
+        next,
+    }
+}
+
+// From the supervisors on: by stretches, and then record by record where they stop at a whole record.
+fn past_late(image: &[u8], from: usize, c: Context) -> Past
+    requires { ⌜ c .begun ≡ true ⌝ }
+    ensures { λ r. ⌜ r ≡ pastFrom (now (image .entry)) from c ⌝ }
+{
+    let v = past_supervisors(image, from, c);
+    match reader::read_at(image, v.next) {
+        Read::Nothing => v,
+        Read::Cut => v,
+        Read::Unknown => v,
+        Read::Whole(_, _) => {
+            let d = v.context;
+            judge::pass(image, v.next, d)
+        }
+    }
+}
+
+// From any record on. A piece of a large plan is mostly moves, so the stretches before the supervisors are left out where they have nothing to pass.
+fn past_stretches(image: &[u8], from: usize, c: Context) -> Past
+    ensures { λ r. ⌜ r ≡ pastFrom (now (image .entry)) from c ⌝ }
+{
+    if !c.begun {
+        return judge::pass(image, from, c);
+    }
+    if 0x14 <= words::byte_at(image, from) {
+        return past_late(image, from, c);
+    }
+    let m = past_modules(image, from, c);
+    let d = m.context;
+    past_late(image, m.next, d)
+}
+
+// Past all whole records from an offset on that are faultless and no end record.
+pub fn pass(image: &[u8], from: usize, c: Context) -> Past
+    ensures { λ r. ⌜ r ≡ pastFrom (now (image .entry)) from c ⌝ }
+{
+    if c.begun {
+        return past_stretches(image, from, c);
+    }
+    let f = past_first(image, from, c);
+    let d = f.context;
+    past_stretches(image, f.next, d)
 }

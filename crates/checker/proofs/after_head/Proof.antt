@@ -1,5 +1,5 @@
 use borrow.Author.Needs.{needs}
-use Rattle.checker.proofs.Loop.{after-three, noted-from}
+use Rattle.checker.proofs.Loop.{over, after-three, noted-from}
 use Rattle.checker.proofs.after_head.Statement.{statement}
 use Rattle.checker.proofs.after_head.Tie as tie
 
@@ -30,9 +30,10 @@ after-modules-requires c κs =
     let m = v .before .before .before .before .before in
     let e = m .before .before .before .before in
     let a = e .before .before .before in
-    after-three _ _ _ _ _ _ _ _ _ _ _ _ _ _ _ _ _ _ _ (a .before .before .before .pre) (a .events .ensures)
-    (noted-from _ _ _ _ _ (e .noted-past .ensures) (e .before .nowhere .ensures))
-    (m .before .before .modules .ensures) (m .noted-past2 .ensures) (v .before .before .module-moves .ensures) (v .noted-past3 .ensures)
+    over _
+    (after-three _ _ _ _ _ _ _ _ _ _ _ _ _ _ _ _ _ _ _ _ _ _ (a .events .ensures) (noted-from _ _ _ _ _ (e .noted-past .ensures) (e .before .nowhere .ensures))
+    (m .before .before .modules .ensures) (m .noted-past2 .ensures) (v .before .before .module-moves .ensures) (v .noted-past3 .ensures))
+    (a .before .before .before .pre)
 
 returns : tie.Need-returns
 returns c = search needs

@@ -1,5 +1,5 @@
 use borrow.Author.Needs.{needs}
-use Rattle.checker.proofs.Loop.{after-eight, end-inside, end-by}
+use Rattle.checker.proofs.Loop.{over, after-eight, end-inside, end-by}
 use Rattle.checker.proofs.after_modules.Statement.{statement}
 use Rattle.checker.proofs.after_modules.Tie as tie
 
@@ -51,9 +51,11 @@ returns c =
     let m = d .before .before .before .before .before in
     let v = m .before .before .before .before .before in
     end-by _ _ _ _ _ _ _ (e .end-kept .ensures) (c .before .before .if1 .taken)
-    (after-eight _ _ _ _ _ _ _ _ _ _ _ _ _ _ _ _ _ _ _ _ _ _ _ _ _ _ (v .before .before .before .before .before .before .pre) (v .before .before .supervisors .ensures) (v .noted-past .ensures)
+    (over _
+    (after-eight _ _ _ _ _ _ _ _ _ _ _ _ _ _ _ _ _ _ _ _ _ _ _ _ _ _ _ (v .before .before .supervisors .ensures) (v .noted-past .ensures)
     (m .before .before .supervisor-moves .ensures) (m .noted-past2 .ensures) (d .before .before .disablings .ensures) (d .noted-past3 .ensures)
     (a .before .before .steps .ensures) (a .noted-past4 .ensures) (t .before .before .markings .ensures) (t .noted-past5 .ensures))
+    (v .before .before .before .before .before .before .pre))
     (c .before .noted .ensures) (c .end-at .ensures)
 
 judged-requires : tie.Need-judged-requires
@@ -63,9 +65,11 @@ judged-requires c κs =
     let d = a .before .before .before .before in
     let m = d .before .before .before .before .before in
     let v = m .before .before .before .before .before in
-    after-eight _ _ _ _ _ _ _ _ _ _ _ _ _ _ _ _ _ _ _ _ _ _ _ _ _ _ (v .before .before .before .before .before .before .pre) (v .before .before .supervisors .ensures) (v .noted-past .ensures)
+    over _
+    (after-eight _ _ _ _ _ _ _ _ _ _ _ _ _ _ _ _ _ _ _ _ _ _ _ _ _ _ _ (v .before .before .supervisors .ensures) (v .noted-past .ensures)
     (m .before .before .supervisor-moves .ensures) (m .noted-past2 .ensures) (d .before .before .disablings .ensures) (d .noted-past3 .ensures)
-    (a .before .before .steps .ensures) (a .noted-past4 .ensures) (t .before .before .markings .ensures) (t .noted-past5 .ensures)
+    (a .before .before .steps .ensures) (a .noted-past4 .ensures) (t .before .before .markings .ensures) (t .noted-past5 .ensures))
+    (v .before .before .before .before .before .before .pre)
 
 returns-2 : tie.Need-returns-2
 returns-2 c = search needs

@@ -8,10 +8,10 @@ use Rattle.checker.proofs.events.Statement.{statement}
 use Rattle.checker.proofs.events.Tie as tie
 
 abbrev Inv-loop : tie.InvT-loop
-Inv-loop image from n owner₀ known₀ controllable₀ last₀ i₀ size owner known controllable last i = Passed image 0x11 (atEvents last₀ n 0 0 owner₀) from (atEvents last n known controllable owner) i
+Inv-loop image from n known controllable owner₀ declared₀ commands₀ last₀ i₀ size owner declared commands last i = Passed image 0x11 (atEvents last₀ n known controllable owner₀) from (atEvents last n declared commands owner) i
 
 abbrev μ-loop : tie.MeasureT-loop
-μ-loop image from n owner₀ known₀ controllable₀ last₀ i₀ size owner known controllable last i = length image - i
+μ-loop image from n known controllable owner₀ declared₀ commands₀ last₀ i₀ size owner declared commands last i = length image - i
 
 size-by-requires : tie.Need-size-by-requires Inv-loop μ-loop
 size-by-requires c κs = search needs
@@ -53,6 +53,7 @@ loop-less : tie.Need-loop-less Inv-loop μ-loop
 loop-less c = search further-by
 
 loop-again : tie.Need-loop-again Inv-loop μ-loop
+unfolding Passed atEvents
 loop-again c = search event-step
 
 pub events-spec : {M : Type 1} → statement M

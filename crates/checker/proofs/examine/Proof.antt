@@ -6,7 +6,7 @@ use denote.Ref.{now}
 use lib.ListN.{length}
 use Rattle.records.specs.Kinds.{bodyLen}
 use Rattle.rules.specs.Check.{limit}
-use Rattle.checker.specs.Stretch.{standsAt}
+use Rattle.record_tests.specs.Tests.{standsAt}
 use Rattle.checker.proofs.Stretch.{stands-there}
 use Rattle.checker.proofs.Loop.{begins, too-long, head-by}
 use Rattle.checker.proofs.Examining.{examined-as}

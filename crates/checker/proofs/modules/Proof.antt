@@ -8,10 +8,10 @@ use Rattle.checker.proofs.modules.Statement.{statement}
 use Rattle.checker.proofs.modules.Tie as tie
 
 abbrev Inv-loop : tie.InvT-loop
-Inv-loop image from n states₀ known₀ last₀ i₀ size states known last i = Passed image 0x12 (atModules last₀ n 0 states₀) from (atModules last n known states) i
+Inv-loop image from n known states₀ declared₀ last₀ i₀ size states declared last i = Passed image 0x12 (atModules last₀ n known states₀) from (atModules last n declared states) i
 
 abbrev μ-loop : tie.MeasureT-loop
-μ-loop image from n states₀ known₀ last₀ i₀ size states known last i = length image - i
+μ-loop image from n known states₀ declared₀ last₀ i₀ size states declared last i = length image - i
 
 size-by-requires : tie.Need-size-by-requires Inv-loop μ-loop
 size-by-requires c κs = search needs

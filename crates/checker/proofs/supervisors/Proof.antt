@@ -8,10 +8,10 @@ use Rattle.checker.proofs.supervisors.Statement.{statement}
 use Rattle.checker.proofs.supervisors.Tie as tie
 
 abbrev Inv-loop : tie.InvT-loop
-Inv-loop image from n events states₀ alphabet₀ known₀ last₀ i₀ size states alphabet known last i = Passed image 0x14 (atSupervisors last₀ n events 0 states₀ alphabet₀) from (atSupervisors last n events known states alphabet) i
+Inv-loop image from n events known states₀ alphabet₀ declared₀ last₀ i₀ size states alphabet declared last i = Passed image 0x14 (atSupervisors last₀ n events known states₀ alphabet₀) from (atSupervisors last n events declared states alphabet) i
 
 abbrev μ-loop : tie.MeasureT-loop
-μ-loop image from n events states₀ alphabet₀ known₀ last₀ i₀ size states alphabet known last i = length image - i
+μ-loop image from n events known states₀ alphabet₀ declared₀ last₀ i₀ size states alphabet declared last i = length image - i
 
 size-by-requires : tie.Need-size-by-requires Inv-loop μ-loop
 size-by-requires c κs = search needs

@@ -1,6 +1,6 @@
 use borrow.Author.Needs.{needs}
-use Rattle.checker.proofs.end_kept.Statement.{statement}
-use Rattle.checker.proofs.end_kept.Tie as tie
+use Rattle.record_tests.proofs.end_kept.Statement.{statement}
+use Rattle.record_tests.proofs.end_kept.Tie as tie
 
 size-by-requires : tie.Need-size-by-requires
 size-by-requires c κs = search needs

@@ -1,8 +1,8 @@
 use borrow.Author.Tests.{lt-ltb, le-ltb}
 use borrow.Author.Needs.{needs}
-use Rattle.checker.specs.Stretch.{standsAt}
-use Rattle.checker.proofs.stands.Statement.{statement}
-use Rattle.checker.proofs.stands.Tie as tie
+use Rattle.record_tests.specs.Tests.{standsAt}
+use Rattle.record_tests.proofs.stands.Statement.{statement}
+use Rattle.record_tests.proofs.stands.Tie as tie
 
 sub-result : tie.Need-sub-result
 sub-result c = search needs

@@ -2,8 +2,8 @@ use native.Mathlib.Nat.{mod-eq-of-lt}
 use native.Mathlib.Omega.{arith}
 use borrow.Author.Tests.{lt-ltb, le-ltb}
 use borrow.Author.Needs.{needs}
-use Rattle.checker.proofs.respond_fits.Statement.{statement}
-use Rattle.checker.proofs.respond_fits.Tie as tie
+use Rattle.record_tests.proofs.respond_fits.Statement.{statement}
+use Rattle.record_tests.proofs.respond_fits.Tie as tie
 
 cast-e : tie.Need-cast-e
 cast-e c = search needs
