@@ -1,0 +1,3 @@
+pub mod Cut
+pub mod Bytes
+pub mod Taking
