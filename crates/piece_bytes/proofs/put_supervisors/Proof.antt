@@ -1,0 +1,34 @@
+use Rattle.words.proofs.Laws.{mapped}
+use Rattle.piece_bytes.proofs.Writing.{supervisors-put, length-supervisors}
+use borrow.Author.Needs.{needs}
+use Rattle.piece_bytes.proofs.put_supervisors.Statement.{statement}
+use Rattle.piece_bytes.proofs.put_supervisors.Tie as tie
+
+put-word-requires : tie.Need-put-word-requires
+put-word-requires c κs = search needs
+
+slice-aggregate-put-bytes : tie.Need-slice-aggregate-put-bytes
+slice-aggregate-put-bytes c = search needs
+
+put-bytes-requires : tie.Need-put-bytes-requires
+put-bytes-requires c κs = search needs
+
+put-words-requires : tie.Need-put-words-requires
+put-words-requires c κs = search needs
+
+same-length : tie.Need-same-length
+same-length c = search needs
+
+returns : tie.Need-returns
+returns c = (search (supervisors-put, mapped), search (length-supervisors, mapped))
+
+pub put-supervisors-spec : {M : Type 1} → statement M
+put-supervisors-spec =
+    tie.close
+    (tie.spec
+    put-word-requires
+    slice-aggregate-put-bytes
+    put-bytes-requires
+    put-words-requires
+    same-length
+    returns)

@@ -1,0 +1,4 @@
+pub mod Lists
+pub mod Contexts
+pub mod Encodable
+pub mod OverBytes
