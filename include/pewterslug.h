@@ -35,6 +35,7 @@ uint32_t pewterslug_version(void);
 #define PEWTERSLUG_OWN_BYTES 35
 #define PEWTERSLUG_MODULE_BYTES 48
 #define PEWTERSLUG_SUPERVISOR_BYTES 6
+#define PEWTERSLUG_CHECK_BYTES 495
 #define PEWTERSLUG_RECORD_BYTES 12   /* the longest record */
 #define PEWTERSLUG_MESSAGE_BYTES 11  /* the longest message */
 #define PEWTERSLUG_RELEASE_BYTES 4
@@ -243,10 +244,30 @@ static inline double pewterslug_word_litres(uint64_t word)
  *    4      its holder, 0 while the permit is home
  *    5      the module last served
  * One device, 592 bytes: sixteen own parts of 35 bytes, then the states of 32 supervisors. Slots that the plan lacks are 0.
+ * A check in pieces, 495 bytes:
+ *    0        its stage: 0 while records are read, 1 after a faultless end record, 2 after a refusal
+ *    1        the refusal's number, else 0
+ *    2..5     its offset, else 0
+ *    6..9     bytes taken; past 49,152 it stays 49,153, and all else is as at the start
+ *   10        how many bytes are held of a record that has begun
+ *   11..22    these bytes, the places past them 0
+ *   23        1 once a faultless record has come, else 0
+ *   24..27    kind and key of the last one
+ *   28..30    the head's modules, supervisors, events
+ *   31..38    events declared, bit e for event e
+ *   39..46    controllable ones
+ *   47..110   the module of each event
+ *  111..174   steps of each event
+ *  175..182   modules declared, bit m for module m
+ *  183..198   states of each module
+ *  199..206   supervisors declared, bit v for supervisor v
+ *  207..238   states of each supervisor
+ *  239..494   alphabet of each supervisor, 8 bytes each
  *
  * Bytes of another length, a flag other than 0 and 1, a holder of a permit at home and f64 bits of a NaN stand for no state: the call
  * that gets them is refused with 9, unless the image is refused or, on many devices, the call is on a module or supervisor that the plan
- * lacks, which is 11 (10 of a misshapen message). On one device 9 comes before 11.
+ * lacks, which is 11 (10 of a misshapen message). On one device 9 comes before 11. Of a check in pieces, which is given no image, a stage
+ * above 2, a number or an offset without a refusal and a refusal's number other than 2 to 8 stand for no state too.
  *
  * The functions below read these bytes and judge nothing: give them bytes that a call has written. */
 
@@ -302,6 +323,21 @@ static inline uint8_t pewterslug_device_supervisor_state(const uint8_t *device, 
 
 /* Checks a plan image. */
 uint64_t pewterslug_check(const uint8_t *image, size_t image_length);
+
+/* The same for an image that comes in pieces, cut anywhere and each handed over once and in order: check_start, check_piece with each piece,
+ * and check_answer after the last. What is kept between the calls is the state alone.
+ *
+ * Writes the state before the first piece, PEWTERSLUG_CHECK_BYTES, from the start of the bytes lent. Where they are fewer it is 15. The other
+ * two calls are given these bytes and no more. */
+uint64_t pewterslug_check_start(uint8_t *state, size_t state_length);
+
+/* Takes the next piece, of any length, also of 0. Only bytes that stand for no state are refused, with 9; what is wrong with the image is
+ * check_answer's to tell. */
+uint64_t pewterslug_check_piece(uint8_t *state, size_t state_length, const uint8_t *piece, size_t piece_length);
+
+/* The answer of pewterslug_check for all pieces taken so far, one behind the other. Bytes that stand for no state are 9. It changes nothing,
+ * and more pieces may follow. */
+uint64_t pewterslug_check_answer(const uint8_t *state, size_t state_length);
 
 /* Reads the record at an offset of an image, by shape alone: the value is its kind and the length that of the whole record, so that the
  * next one stands that much further on. Its fields are the image's bytes. An unknown kind is 2 and a cut body 3, at the offset; from the

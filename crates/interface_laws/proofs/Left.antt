@@ -2,6 +2,7 @@
 use mathlib.Core.Path.{_≡_, refl, sym, ap, _∙_, subst}
 use mathlib.Core.Logic.{_≢_}
 use mathlib.Core.List.{List}
+use mathlib.Core.Option.{Option, none, some}
 use mathlib.Core.Bool.{Bool, true, false, cond}
 use Prim.Native.Nat.{ℕ, zero, suc}
 use lib.ListN.{replicate}
@@ -17,6 +18,12 @@ use Rattle.permits.specs.declared.Module.{Module}
 use Rattle.permits.specs.declared.Supervisor.{Supervisor}
 use Rattle.refusals.proofs.Refusals.{refusals}
 use Rattle.own_bytes.specs.Own.{unfitOwn, OwnEncodable}
+use Rattle.pieces.specs.Pieces.{pieceTaken}
+use Rattle.pieces.specs.declared.CheckState.{CheckState}
+use Rattle.piece_bytes.specs.State.{isState, stateAt, stateBytes, StateEncodable}
+use Rattle.piece_bytes.proofs.Parts.{parts as state-parts}
+use Rattle.piece_laws.proofs.Encodable.{stays-encodable}
+use Rattle.piece_interface.specs.Calls.{checkPieceBytes}
 use Rattle.party_bytes.specs.Module.{isModule, moduleBytes, moduleOf, ModuleEncodable}
 use Rattle.party_bytes.specs.Supervisor.{holderByte, isSupervisor, supervisorBytes, supervisorOf, SupervisorEncodable}
 use Rattle.device_bytes.specs.Device.{isDevice, deviceBytes, deviceOf, OwnsEncodable, DeviceEncodable}
@@ -26,7 +33,7 @@ use Rattle.packing.specs.Flow.{flowOf}
 use Rattle.device_interface.specs.Calls as DeviceCalls
 use Rattle.module_interface.specs.Calls as ModuleCalls
 use Rattle.supervisor_interface.specs.Calls as SupervisorCalls
-use Rattle.interface_laws.specs.Left.{ReadAs, AllLeft}
+use Rattle.interface_laws.specs.Left.{ReadAs, checkOf, pieceOn, AllLeft}
 use Rattle.interface_laws.proofs.ByteLists.{bytes-zeros}
 use Rattle.interface_laws.proofs.OwnParts.{choose, empty-encodable}
 use Rattle.interface_laws.proofs.Exact.{exact}
@@ -96,6 +103,18 @@ device-left : (n : ℕ) (s : List ℕ) (d : Device) → Bytes s → DeviceEncoda
     → ReadAs deviceOf (DeviceCalls.deviceAfter n d s) d
 device-left n s d g h r u = left deviceOf deviceBytes n _ s d g (exact .device-bytes d h) (exact .device-again d h) (device-kept s d (device-parts .size d h) r) u
 
+-- of a check in pieces
+written-as : (k : CheckState) → StateEncodable k → ReadAs checkOf (stateBytes k) (some k)
+written-as k h = record { bytes = state-parts .bytes k h; state = simp (state-parts .stands k h) (ap (λ (x : CheckState). some x) (state-parts .back k h)) }
+
+piece-left : (s p : List ℕ) → Bytes s → Bytes p → ReadAs checkOf (checkPieceBytes s p .state) (pieceOn p (checkOf s))
+unfolding checkPieceBytes
+piece-left s p g f = go (isState s) refl
+  where
+    go : (t : Bool) → isState s ≡ t → ReadAs checkOf (checkPieceBytes s p .state) (pieceOn p (checkOf s))
+    go true e = simp e (written-as (pieceTaken (stateAt s) p) (stays-encodable .piece (stateAt s) p (state-parts .encodable s g e) f))
+    go false e = simp e (record { bytes = g; state = simp e })
+
 pub all-left : AllLeft
 all-left =
     record {
@@ -126,4 +145,5 @@ all-left =
       deviceTick = λ image s m f x g. unfold DeviceCalls.tickBytes in
           device-left _ s _ g (all-encodable .deviceTick image (deviceOf s) m (flowOf f x) (device-of s g))
           (λ h. replied-refused (recordsOf image) (deviceOf s) m (device-unfit image s h) (verdictOf image) (checked image) _) (refusals .device .tick image (deviceOf s) m (flowOf f x) .state);
+      checkPiece = piece-left;
     }

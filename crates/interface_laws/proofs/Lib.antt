@@ -15,3 +15,4 @@ pub mod Left
 pub mod Runs
 pub mod Compared
 pub mod DemandOverBytes
+pub mod Pieces

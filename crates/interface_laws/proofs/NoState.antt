@@ -30,6 +30,7 @@ use Rattle.party_bytes.specs.Module.{isModule, moduleAt, unfitModule, moduleOf}
 use Rattle.party_bytes.specs.Supervisor.{isSupervisor, supervisorAt, unfitSupervisor, supervisorOf}
 use Rattle.party_bytes.proofs.Parts.{module-parts, supervisor-parts}
 use Rattle.packing.specs.Answer.{calledAnswer, turningAnswer, steppedAnswer, servedAnswer}
+use Rattle.piece_interface.specs.Calls.{checkPieceBytes, checkAnswerBytes}
 use Rattle.packing.specs.Flow.{flowOf}
 use Rattle.device_interface.specs.Calls as DeviceCalls
 use Rattle.module_interface.specs.Calls as ModuleCalls
@@ -90,6 +91,8 @@ module _ (v : Verdict) (rs : List Record) (n : ℕ) (e : v ≡ Accepted) (h : lt
 pub no-state : NoState
 no-state =
     record {
+      checkPiece = λ s p h. unfold checkPieceBytes in simp h;
+      checkAnswer = λ s h. unfold checkAnswerBytes in simp h;
       deviceTurn = λ image s m h. unfold DeviceCalls.turnBytes turningAnswer in
           ap (λ (d : Device). turningAnswer (turnCall image d m .answer)) (device-is s (h .1)) ∙ ap turningAnswer (turn-nine _ (recordsOf image) m (h .0));
       deviceRespond = λ image s m n h. unfold DeviceCalls.respondBytes calledAnswer in

@@ -2,12 +2,12 @@
 use mathlib.Core.Path.{_≡_, refl, sym, ap, _∙_}
 use mathlib.Core.Logic.{inl, inr}
 use mathlib.Core.List.{List}
-use mathlib.Core.Bool.{Bool, true, false, cond}
+use mathlib.Core.Bool.{Bool, true, false, cond, _&&_}
 use Prim.Native.Nat.{ℕ, _%_, _≤_, _<_}
 use native.Mathlib.Omega.{arith}
-use lib.ListN.{length}
-use lib.Dec.{ltb, lit<}
-use borrow.Author.Tests.{ne-eqb}
+use lib.ListN.{length, getD}
+use lib.Dec.{eqb, leb, ltb, lit<}
+use borrow.Author.Tests.{ne-eqb, eqb-false, leb-true, le-ltb}
 use Rattle.records.specs.Kinds.{kindOf, sizeOf}
 use Rattle.reader.specs.Read.{readAt, readNumber}
 use Rattle.reader.specs.declared.Read.{Read}
@@ -39,8 +39,17 @@ use Rattle.permits.specs.declared.Stepped.{Stepped}
 use Rattle.permits.specs.declared.Stepped.the-variants.{Turned as Turns, Bids, Waits, Refused as StepRefused}
 use Rattle.permits.specs.declared.Served.{Served}
 use Rattle.permits.specs.declared.Served.the-variants.{Sends, Waits as ServedWaits, Refused as ServeRefused}
+use Rattle.pieces.specs.Pieces.{starting, verdictBy}
+use Rattle.pieces.specs.declared.Stage.{Stage}
+use Rattle.pieces.specs.declared.Stage.the-variants.{Open, Ended, Faulty}
+use Rattle.fields.specs.Fields.{isFlag}
+use Rattle.fields.proofs.Back.{and-left, and-right}
+use Rattle.words.specs.Word.{quadAt}
+use Rattle.piece_bytes.specs.State.{stageOf, isStage, isState, stateAt, stateBytes}
+use Rattle.piece_interface.specs.Calls.{checkStartBytes, checkPieceBytes, checkAnswerBytes}
 use Rattle.refusals.specs.Numbers.{verdictNumber, writtenNumber}
-use Rattle.refusals.specs.Refusals.{InTable, CheckAnswer, WriteAnswer, CallAnswer, TurnAnswer, StepAnswer, ServeAnswer, BlockingAnswer, OfStuck, CountingAnswer, OfCounts}
+use Rattle.refusals.specs.Refusals.{InTable, OfCheck, CheckAnswer, WriteAnswer, CallAnswer, TurnAnswer, StepAnswer, ServeAnswer, BlockingAnswer, OfStuck, CountingAnswer, OfCounts}
+use Rattle.refusals.proofs.Cases.{done}
 use Rattle.refusals.proofs.Refusals.{refusals}
 use Rattle.device_bytes.specs.Device.{deviceBytes, deviceOf}
 use Rattle.party_bytes.specs.Module.{moduleBytes, moduleOf}
@@ -158,6 +167,47 @@ start-number size (Refused n o) bytes l h =
     let no : n ≡ 0 → ⊥ = λ e. (let low : 1 ≤ n = t .0 in omega arith) in
     number n o t ∙ sym (ap (λ (q : Bool). cond q (cond (ltb (length l) size) 15 0) n) (ne-eqb n 0 no))
 
+-- ---- the check in pieces
+
+pub stage-of-check : (x n o : ℕ) → isStage x n o ≡ true → OfCheck (stageOf x n o)
+unfolding isStage stageOf
+stage-of-check x n o h = go (eqb x 0) (eqb x 1) refl refl
+  where
+    go : (a b : Bool) → eqb x 0 ≡ a → eqb x 1 ≡ b → OfCheck (cond a Open (cond b Ended (Faulty n o)))
+    go true b e f = tt
+    go false true e f = tt
+    go false false e f =
+        let z : x ≡ 0 → ⊥ = eqb-false x 0 e in
+        let u : x ≡ 1 → ⊥ = eqb-false x 1 f in
+        let two : 2 ≤ x = omega arith in
+        let all : (eqb x 2 && (leb 2 n && leb n 8)) ≡ true = sym (ap (λ (t : Bool). cond t (eqb n 0 && eqb o 0) (eqb x 2 && (leb 2 n && leb n 8))) (le-ltb x 2 two)) ∙ h in
+        let w : (leb 2 n && leb n 8) ≡ true = and-right (eqb x 2) (leb 2 n && leb n 8) all in
+        (leb-true 2 n (and-left (leb 2 n) (leb n 8) w), leb-true n 8 (and-right (leb 2 n) (leb n 8) w))
+
+-- of bytes that stand for a state
+pub of-check : (s : List ℕ) → isState s ≡ true → OfCheck (stateAt s .stage)
+unfolding isState stateAt
+of-check s h =
+    let st : Bool = isStage (getD s 0 0) (getD s 1 0) (quadAt s 2) in
+    let f : Bool = isFlag (getD s 23 0) in
+    stage-of-check (getD s 0 0) (getD s 1 0) (quadAt s 2) (and-left st f (and-right (eqb (length s) 495) (st && f) h))
+
+piece-number : (s p : List ℕ) → numberOf (checkPieceBytes s p) ≡ cond (isState s) 0 9
+unfolding checkPieceBytes
+piece-number s p = go (isState s) refl
+  where
+    go : (t : Bool) → isState s ≡ t → numberOf (checkPieceBytes s p) ≡ cond (isState s) 0 9
+    go true e = simp e (accepted 0 0 0)
+    go false e = simp e (small 9 0 (lit< tt))
+
+answer-number : (s : List ℕ) → checkAnswerBytes s % 256 ≡ cond (isState s) (verdictNumber (verdictBy (stateAt s))) 9
+unfolding checkAnswerBytes
+answer-number s = go (isState s) refl
+  where
+    go : (t : Bool) → isState s ≡ t → checkAnswerBytes s % 256 ≡ cond (isState s) (verdictNumber (verdictBy (stateAt s))) 9
+    go true e = simp e (verdict-number (verdictBy (stateAt s)) (refusals .checker .pieces (stateAt s) (of-check s e)))
+    go false e = simp e (small 9 0 (lit< tt))
+
 -- ---- the analyses of a plan
 
 of-stuck : (n o : ℕ) → OfStuck n → packed n 0 0 o % 256 ≡ n
@@ -184,6 +234,9 @@ pub same-numbers : SameNumbers
 same-numbers =
     record {
       check = λ image. verdict-number (verdictOf image) (refusals .checker .check image);
+      checkStart = λ l. unfold checkStartBytes in start-number 495 Done (stateBytes starting) l done;
+      checkPiece = piece-number;
+      checkAnswer = answer-number;
       readRecord = λ s at. read-number s at (readAt s at);
       writeRecord = λ k a b c d w l. record-number (recordBy k a b c d w) l;
       readMessage = λ g. parsed-number (parse g);

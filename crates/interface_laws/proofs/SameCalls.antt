@@ -39,14 +39,21 @@ use Rattle.party_bytes.specs.Supervisor.{isOut, holderByte, supervisorBytes, Su
 use Rattle.party_bytes.proofs.Parts.{module-parts, supervisor-parts}
 use Rattle.device_bytes.specs.Device.{deviceBytes, devicePut, deviceOf, DeviceEncodable}
 use Rattle.device_bytes.proofs.Parts.{device-parts}
-use Rattle.packing.specs.Answer.{Answer, done, calledAnswer, turningAnswer, steppedAnswer, servedAnswer, lentAfter, startAnswer}
+use Rattle.pieces.specs.Pieces.{starting, pieceTaken, verdictBy}
+use Rattle.pieces.specs.declared.CheckState.{CheckState}
+use Rattle.piece_bytes.specs.State.{stateBytes, StateEncodable}
+use Rattle.piece_bytes.proofs.Parts.{parts as state-parts}
+use Rattle.piece_laws.proofs.Encodable.{stays-encodable}
+use Rattle.piece_interface.specs.Calls.{checkStartBytes, checkPieceBytes, checkAnswerBytes}
+use Rattle.packing.specs.Answer.{Answer, done, verdictAnswer, calledAnswer, turningAnswer, steppedAnswer, servedAnswer, lentAfter, startAnswer}
 use Rattle.packing.specs.Flow.{flowOf}
+use Rattle.packing.proofs.InPlace.{over, put-over}
 use Rattle.device_interface.specs.Calls as DeviceCalls
 use Rattle.module_interface.specs.Calls as ModuleCalls
 use Rattle.supervisor_interface.specs.Calls as SupervisorCalls
-use Rattle.interface_laws.specs.SameCalls.{moduleAnswer, stepAnswer, supervisorAnswer, serveAnswer, deviceAnswer, deviceTurnAnswer, startedAnswer, SameCalls}
+use Rattle.interface_laws.specs.SameCalls.{moduleAnswer, stepAnswer, supervisorAnswer, serveAnswer, deviceAnswer, deviceTurnAnswer, takenAnswer, startedAnswer, SameCalls}
 use Rattle.interface_laws.proofs.Exact.{exact}
-use Rattle.interface_laws.proofs.InPlace.{over, put-over, put-device}
+use Rattle.interface_laws.proofs.InPlace.{put-device}
 use Rattle.interface_laws.proofs.OwnParts.{choose, start-encodable}
 use Rattle.interface_laws.proofs.Parties.{judged}
 use Rattle.interface_laws.proofs.Encodable.{all-encodable}
@@ -180,6 +187,17 @@ supervisor-zeros image v =
     Zeros : SupervisorCalled → Type 0
     Zeros c = startAnswer 6 (c .answer) (supervisorBytes (c .state)) (replicate 6 0) .buffer ≡ supervisorBytes (c .state)
 
+-- ---- the check in pieces
+
+module _ (k : CheckState) where
+  piece-taken : (p : List ℕ) → StateEncodable k → checkPieceBytes (stateBytes k) p ≡ takenAnswer (pieceTaken k p)
+  unfolding checkPieceBytes
+  piece-taken p h = simp (state-parts .stands k h) (ap (λ (x : CheckState). takenAnswer (pieceTaken x p)) (state-parts .back k h))
+
+  answer-given : StateEncodable k → checkAnswerBytes (stateBytes k) ≡ verdictAnswer (verdictBy k)
+  unfolding checkAnswerBytes
+  answer-given h = simp (state-parts .stands k h) (ap (λ (x : CheckState). verdictAnswer (verdictBy x)) (state-parts .back k h))
+
 pub same-calls : SameCalls
 same-calls =
     record {
@@ -205,4 +223,8 @@ same-calls =
           started 592 (startCall image .answer) (deviceBytes (startCall image .device)) l h (device-parts .size (startCall image .device) (all-encodable .deviceStart image));
       moduleZeros = module-zeros;
       supervisorZeros = supervisor-zeros;
+      checkStart = λ l h. unfold checkStartBytes in
+          started 495 Done (stateBytes starting) l h (state-parts .size starting (stays-encodable .start));
+      checkPiece = piece-taken;
+      checkAnswer = answer-given;
     }

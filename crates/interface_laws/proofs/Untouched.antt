@@ -27,6 +27,9 @@ use Rattle.device_bytes.specs.Device.{deviceBytes}
 use Rattle.party_bytes.specs.Module.{moduleBytes, moduleOf}
 use Rattle.party_bytes.specs.Supervisor.{supervisorBytes, supervisorOf}
 use Rattle.packing.specs.Answer.{Answer, packed, lentAfter, startAnswer}
+use Rattle.pieces.specs.Pieces.{starting, pieceTaken}
+use Rattle.piece_bytes.specs.State.{isState, stateAt, stateBytes}
+use Rattle.piece_interface.specs.Calls.{checkStartBytes, checkPieceBytes}
 use Rattle.plan_interface.specs.Records.{recordBy, writtenAnswer, writeBy}
 use Rattle.plan_interface.specs.Messages.{messageBy, writeParsed}
 use Rattle.device_interface.specs.Calls as Device
@@ -79,9 +82,19 @@ lent-same n after s h = ap (λ (t : Bool). cond t after s) (ne-eqb n 0 h)
 on-state : (n number : ℕ) (after s : List ℕ) → number % 256 ≡ n → Untouched (record { number = number; state = lentAfter n after s; buffer = [] }) s []
 on-state n number after s e = record { state = λ h. lent-same n after s (λ z. h (e ∙ z)); buffer = λ h. refl }
 
+piece-untouched : (s p : List ℕ) → Untouched (checkPieceBytes s p) s []
+unfolding checkPieceBytes
+piece-untouched s p = go (isState s) refl
+  where
+    go : (t : Bool) → isState s ≡ t → Untouched (checkPieceBytes s p) s []
+    go true e = simp e (taken (record { number = packed 0 0 0 0; state = stateBytes (pieceTaken (stateAt s) p); buffer = [] }) s [] (accepted 0 0 0))
+    go false e = simp e (record { state = λ n. refl; buffer = λ n. refl })
+
 pub all-untouched : AllUntouched
 all-untouched =
     record {
+      checkStart = λ l. unfold checkStartBytes in start-untouched 495 Done (stateBytes starting) l;
+      checkPiece = piece-untouched;
       writeRecord = λ k a b c d w l. record-untouched (recordBy k a b c d w) l;
       writeMessage = λ k a b e w l. message-untouched (messageBy k a b e w) l;
       deviceStart = λ image l. unfold Device.startBytes in start-untouched 592 (startCall image .answer) (deviceBytes (startCall image .device)) l;

@@ -1,6 +1,6 @@
 -- The state that a call leaves can be encoded if the state that it got can, and so can every starting state. Thus what one call leaves is what the
 -- next one reads (`module-again`, `supervisor-again` and `device-again` of specs/Exact.antt). Of every image, whether accepted or not; a message
--- is a list of bytes.
+-- is a list of bytes. Of a check in pieces it is `StaysEncodable` of crate piece_laws.
 use Prim.Native.Nat.{ℕ}
 use mathlib.Core.List.{List}
 use Rattle.roundtrip.specs.Fits.{Bytes}

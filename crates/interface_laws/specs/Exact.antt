@@ -1,5 +1,5 @@
 -- What is read from bytes that stand for a state has no NaN and numbers within the code's types. With `stands`, `back` and `written` of the crates
--- below, encoding and decoding are inverse to each other.
+-- below, encoding and decoding are inverse to each other. Of a check in pieces all of this is `StateParts` of crate piece_bytes.
 use mathlib.Core.Path.{_≡_}
 use mathlib.Core.List.{List}
 use mathlib.Core.Bool.{true}

@@ -32,6 +32,9 @@ use Rattle.packing.specs.Answer.{Answer, refused}
 use Rattle.packing.specs.Flow.{flowOf}
 use Rattle.plan_interface.specs.Records.{checkAnswer, readAnswer, recordBy, writeBytes}
 use Rattle.plan_interface.specs.Messages.{readMessageAnswer, messageBy, writeMessageBytes}
+use Rattle.pieces.specs.Pieces.{verdictBy}
+use Rattle.piece_bytes.specs.State.{isState, stateAt}
+use Rattle.piece_interface.specs.Calls.{checkStartBytes, checkPieceBytes, checkAnswerBytes}
 use Rattle.blocking.specs.Blocking.{Told}
 use Rattle.blocking.specs.Numbers.{blockingNumber}
 use Rattle.blocking.specs.declared.Blocking.{Blocking}
@@ -54,6 +57,8 @@ pub record Untouched (a : Answer) (before lent : List ℕ) : Type 0 where
   pub buffer : numberOf a ≢ 0 → a .buffer ≡ lent
 
 pub record AllUntouched : Type 0 where
+  pub checkStart : (l : List ℕ) → Untouched (checkStartBytes l) [] l
+  pub checkPiece : (s p : List ℕ) → Untouched (checkPieceBytes s p) s []
   pub writeRecord : (k a b c d w : ℕ) (l : List ℕ) → Untouched (writeBytes k a b c d w l) [] l
   pub writeMessage : (k a b e w : ℕ) (l : List ℕ) → Untouched (writeMessageBytes k a b e w l) [] l
   pub deviceStart : (image l : List ℕ) → Untouched (Device.startBytes image l) [] l
@@ -72,7 +77,7 @@ pub record AllUntouched : Type 0 where
   pub countWords : (image : List ℕ) (m : ℕ) (l : List ℕ) (r : ℕ) (after : List ℕ) → CountedBytes image m l r after → Untouched (record { number = r; state = []; buffer = after }) [] l
 
 -- ".. stand for no state: the call that gets them is refused with 9", on an image that is accepted, of one device always, of a module or a
--- supervisor if it is the plan's
+-- supervisor if it is the plan's; of a check in pieces always
 abbrev pub Nine : Answer → Type 0
 Nine a = a .number ≡ refused 9 0
 
@@ -86,6 +91,8 @@ abbrev pub NoSupervisor : List ℕ → List ℕ → ℕ → Type 0
 NoSupervisor image s v = (verdictOf image ≡ Accepted) × (ltb v (supervisorsOf (recordsOf image)) ≡ true) × (isSupervisor s ≡ false)
 
 pub record NoState : Type 0 where
+  pub checkPiece : (s p : List ℕ) → isState s ≡ false → Nine (checkPieceBytes s p)
+  pub checkAnswer : (s : List ℕ) → isState s ≡ false → checkAnswerBytes s ≡ refused 9 0
   pub deviceTurn : (image s : List ℕ) (m : ℕ) → NoDevice image s → Nine (Device.turnBytes image s m)
   pub deviceRespond : (image s : List ℕ) (m e : ℕ) → NoDevice image s → Nine (Device.respondBytes image s m e)
   pub deviceTick : (image s : List ℕ) (m f : ℕ) (x : Float) → NoDevice image s → Nine (Device.tickBytes image s m f x)
@@ -109,9 +116,12 @@ abbrev pub messageNumber : Parsed → List ℕ → ℕ
 messageNumber (Whole g) l = cond (short (messageBytes g) l) 15 0
 messageNumber Misshapen l = parsedNumber Misshapen
 
--- the number of an answer is the number of the call that it is made of
+-- the number of an answer is the number of the call that it is made of; a piece that is taken has 0
 pub record SameNumbers : Type 0 where
   pub check : (image : List ℕ) → checkAnswer image % 256 ≡ verdictNumber (verdictOf image)
+  pub checkStart : (l : List ℕ) → numberOf (checkStartBytes l) ≡ startNumber 495 0 l
+  pub checkPiece : (s p : List ℕ) → numberOf (checkPieceBytes s p) ≡ cond (isState s) 0 9
+  pub checkAnswer : (s : List ℕ) → checkAnswerBytes s % 256 ≡ cond (isState s) (verdictNumber (verdictBy (stateAt s))) 9
   pub readRecord : (s : List ℕ) (at : ℕ) → readAnswer s at % 256 ≡ readNumber (readAt s at)
   pub writeRecord : (k a b c d w : ℕ) (l : List ℕ) → numberOf (writeBytes k a b c d w l) ≡ recordNumber (recordBy k a b c d w) l
   pub readMessage : (g : List ℕ) → readMessageAnswer g % 256 ≡ parsedNumber (parse g)

@@ -4,15 +4,21 @@
 use Prim.Native.Nat.{ℕ}
 use mathlib.Core.Path.{_≡_}
 use mathlib.Core.List.{List}
+use mathlib.Core.Option.{Option, none, some}
+use mathlib.Core.Bool.{cond}
 use lib.Ieee.{Float}
 use Rattle.roundtrip.specs.Fits.{Bytes}
 use Rattle.device.specs.Device.{turnCall, respondCall, tickCall}
 use Rattle.permits.specs.Module as M
 use Rattle.permits.specs.Supervisor as S
+use Rattle.pieces.specs.Pieces.{pieceTaken}
+use Rattle.pieces.specs.declared.CheckState.{CheckState}
+use Rattle.piece_bytes.specs.State.{isState, stateAt}
 use Rattle.party_bytes.specs.Module.{moduleOf}
 use Rattle.party_bytes.specs.Supervisor.{supervisorOf}
 use Rattle.device_bytes.specs.Device.{deviceOf}
 use Rattle.packing.specs.Flow.{flowOf}
+use Rattle.piece_interface.specs.Calls.{checkPieceBytes}
 use Rattle.device_interface.specs.Calls as DeviceCalls
 use Rattle.module_interface.specs.Calls as ModuleCalls
 use Rattle.supervisor_interface.specs.Calls as SupervisorCalls
@@ -21,6 +27,14 @@ use Rattle.supervisor_interface.specs.Calls as SupervisorCalls
 pub record ReadAs {A : Type 0} (of : List ℕ → A) (s : List ℕ) (x : A) : Type 0 where
   pub bytes : Bytes s
   pub state : of s ≡ x
+
+-- the state of a check in pieces, if the bytes stand for one, and that after a piece
+abbrev pub checkOf : List ℕ → Option CheckState
+checkOf s = cond (isState s) (some (stateAt s)) none
+
+abbrev pub pieceOn : List ℕ → Option CheckState → Option CheckState
+pieceOn p none = none
+pieceOn p (some k) = some (pieceTaken k p)
 
 pub record AllLeft : Type 0 where
   pub moduleStep : (image s : List ℕ) (m : ℕ) (b : List ℕ) → Bytes s
@@ -41,3 +55,4 @@ pub record AllLeft : Type 0 where
       → ReadAs deviceOf (DeviceCalls.respondBytes image s m e .state) (respondCall image (deviceOf s) m e .device)
   pub deviceTick : (image s : List ℕ) (m f : ℕ) (x : Float) → Bytes s
       → ReadAs deviceOf (DeviceCalls.tickBytes image s m f x .state) (tickCall image (deviceOf s) m (flowOf f x) .device)
+  pub checkPiece : (s p : List ℕ) → Bytes s → Bytes p → ReadAs checkOf (checkPieceBytes s p .state) (pieceOn p (checkOf s))

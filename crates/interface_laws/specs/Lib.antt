@@ -6,3 +6,4 @@ pub mod Left
 pub mod Run
 pub mod Compared
 pub mod DemandOverBytes
+pub mod Pieces

@@ -1,6 +1,6 @@
 -- A call over bytes is the call on the state that they are. Given the bytes of a state that can be encoded, it gives the number of the call's
 -- answer, the bytes of the state that the call leaves and its buffer, for every image and every argument, refused or not. A message is a list of
--- bytes.
+-- bytes. The calls of a check in pieces, which are given no image, stand last.
 use Prim.Native.Nat.{ℕ, _≤_}
 use mathlib.Core.Path.{_≡_}
 use mathlib.Core.List.{List, [], _++_}
@@ -19,11 +19,15 @@ use Rattle.permits.specs.declared.Module.{Module}
 use Rattle.permits.specs.declared.Supervisor.{Supervisor}
 use Rattle.permits.specs.declared.ModuleCalled.{ModuleCalled}
 use Rattle.permits.specs.declared.SupervisorCalled.{SupervisorCalled}
+use Rattle.pieces.specs.Pieces.{starting, pieceTaken, verdictBy}
+use Rattle.pieces.specs.declared.CheckState.{CheckState}
+use Rattle.piece_bytes.specs.State.{stateBytes, StateEncodable}
 use Rattle.party_bytes.specs.Module.{moduleBytes, ModuleEncodable}
 use Rattle.party_bytes.specs.Supervisor.{supervisorBytes, SupervisorEncodable}
 use Rattle.device_bytes.specs.Device.{deviceBytes, DeviceEncodable}
-use Rattle.packing.specs.Answer.{Answer, refused, done, calledAnswer, turningAnswer, steppedAnswer, servedAnswer}
+use Rattle.packing.specs.Answer.{Answer, refused, done, verdictAnswer, calledAnswer, turningAnswer, steppedAnswer, servedAnswer}
 use Rattle.packing.specs.Flow.{flowOf}
+use Rattle.piece_interface.specs.Calls.{checkStartBytes, checkPieceBytes, checkAnswerBytes}
 use Rattle.device_interface.specs.Calls as DeviceCalls
 use Rattle.module_interface.specs.Calls as ModuleCalls
 use Rattle.supervisor_interface.specs.Calls as SupervisorCalls
@@ -46,6 +50,10 @@ deviceAnswer c = record { number = calledAnswer (c .answer); state = deviceBytes
 
 abbrev pub deviceTurnAnswer : DeviceTurned → Answer
 deviceTurnAnswer c = record { number = turningAnswer (c .answer); state = deviceBytes (c .device); buffer = [] }
+
+-- a piece taken, after which the check has the state k
+abbrev pub takenAnswer : CheckState → Answer
+takenAnswer k = record { number = done 0 0 0; state = stateBytes k; buffer = [] }
 
 -- a start, whose state has so many bytes: they are the first ones of the buffer, and the rest stays; a refused start leaves the buffer
 abbrev pub startedAnswer : ℕ → Called → List ℕ → List ℕ → Answer
@@ -83,3 +91,7 @@ pub record SameCalls : Type 0 where
   pub moduleZeros : (image : List ℕ) (m : ℕ) → ModuleCalls.startBytes image m (replicate 48 0) .buffer ≡ moduleBytes (M.moduleStart image m .state)
   pub supervisorZeros : (image : List ℕ) (v : ℕ)
       → SupervisorCalls.startBytes image v (replicate 6 0) .buffer ≡ supervisorBytes (S.supervisorStart image v .state)
+  -- the check in pieces
+  pub checkStart : (l : List ℕ) → 495 ≤ length l → checkStartBytes l ≡ startedAnswer 495 Done (stateBytes starting) l
+  pub checkPiece : (k : CheckState) (p : List ℕ) → StateEncodable k → checkPieceBytes (stateBytes k) p ≡ takenAnswer (pieceTaken k p)
+  pub checkAnswer : (k : CheckState) → StateEncodable k → checkAnswerBytes (stateBytes k) ≡ verdictAnswer (verdictBy k)

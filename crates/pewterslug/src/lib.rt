@@ -6,6 +6,7 @@ ghost use Rattle.analysis_interface.specs.Analysis.{FoundBytes};
 ghost use Rattle.analysis_interface.specs.Counts.{CountedBytes};
 ghost use Rattle.plan_interface.specs.Records.{checkAnswer, readAnswer, writeBytes};
 ghost use Rattle.plan_interface.specs.Messages.{readMessageAnswer, writeMessageBytes};
+ghost use Rattle.piece_interface.specs.Calls.{checkStartBytes, checkPieceBytes, checkAnswerBytes};
 ghost use Rattle.device_interface.specs.Calls as Device;
 ghost use Rattle.module_interface.specs.Calls as Module;
 ghost use Rattle.supervisor_interface.specs.Calls as Supervisor;
@@ -29,6 +30,27 @@ pub extern "C" fn pewterslug_check(image: &[u8]) -> u64
     ensures { λ r. ⌜ r ≡ checkAnswer (now (image .entry)) ⌝ }
 {
     plan_interface::check(image)
+}
+
+#[no_mangle]
+pub extern "C" fn pewterslug_check_start(state: &mut [u8]) -> u64
+    ensures { λ r. ⌜ Answered (checkStartBytes (now (state .entry))) r [] (now (state .exit)) ⌝ }
+{
+    piece_interface::check_start(state)
+}
+
+#[no_mangle]
+pub extern "C" fn pewterslug_check_piece(state: &mut [u8], piece: &[u8]) -> u64
+    ensures { λ r. ⌜ Answered (checkPieceBytes (now (state .entry)) (now (piece .entry))) r (now (state .exit)) [] ⌝ }
+{
+    piece_interface::check_piece(state, piece)
+}
+
+#[no_mangle]
+pub extern "C" fn pewterslug_check_answer(state: &[u8]) -> u64
+    ensures { λ r. ⌜ r ≡ checkAnswerBytes (now (state .entry)) ⌝ }
+{
+    piece_interface::check_answer(state)
 }
 
 #[no_mangle]

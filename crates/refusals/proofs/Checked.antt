@@ -15,8 +15,12 @@ use Rattle.rules.specs.Rules.{inOrder, namesDeclared, keepsRules, allDeclared}
 use Rattle.rules.specs.Check.{faultOf, endAt, checkWalk, limit, verdictOf}
 use Rattle.rules.specs.declared.Verdict.{Verdict}
 use Rattle.rules.specs.declared.Verdict.the-variants.{Accepted, Refused}
+use Rattle.pieces.specs.Pieces.{stageVerdict, verdictBy}
+use Rattle.pieces.specs.declared.Stage.{Stage}
+use Rattle.pieces.specs.declared.Stage.the-variants.{Open, Ended, Faulty}
+use Rattle.pieces.specs.declared.CheckState.{CheckState}
 use Rattle.refusals.specs.Numbers.{verdictNumber, verdictOffset}
-use Rattle.refusals.specs.Refusals.{IsRefusal, InTable, Placed, CheckAnswer, Checker}
+use Rattle.refusals.specs.Refusals.{IsRefusal, InTable, OfCheck, Placed, CheckAnswer, Checker}
 use Rattle.refusals.proofs.Cases.{either, never, in-table, at-zero, accepts, refuses}
 
 -- a walk whose last number is 2 or 3
@@ -84,15 +88,33 @@ numbered (Refused n o) j =
       small = j .1;
     }
 
+too-long : Numbered (Refused 1 0)
+too-long = record { answer = refused 1 0 (in-table 1 refl refl) (at-zero 1); accepted-by = λ e. absurd (omega arith); small = omega arith }
+
 verdict : (image : List ℕ) → Numbered (verdictOf image)
 unfolding verdictOf
-verdict image =
-    either Numbered (ltb limit (length image))
-    (record { answer = refused 1 0 (in-table 1 refl refl) (at-zero 1); accepted-by = λ e. absurd (omega arith); small = omega arith })
-    (numbered _ (judged (length image) [] (walkFrom image 0) (stops zero 0 image)))
+verdict image = either Numbered (ltb limit (length image)) too-long (numbered _ (judged (length image) [] (walkFrom image 0) (stops zero 0 image)))
+
+-- of the check in pieces
+stage : (st : Stage) (o : ℕ) → OfCheck st → Judged (stageVerdict st o)
+unfolding stageVerdict
+stage Open o j = (omega arith, omega arith)
+stage Ended o j = tt
+stage (Faulty n at) o j = j
+
+piece : (k : CheckState) → OfCheck (k .stage) → Numbered (verdictBy k)
+unfolding verdictBy
+piece k j = either Numbered (ltb limit (k .taken)) too-long (numbered _ (stage (k .stage) _ j))
 
 pub checked : (image : List ℕ) → CheckAnswer (verdictOf image)
 checked image = verdict image .answer
 
 pub checker : Checker
-checker = record { check = checked; accepted = λ s. verdict s .accepted-by; numbers = λ s. verdict s .small }
+checker =
+    record {
+      check = checked;
+      accepted = λ s. verdict s .accepted-by;
+      numbers = λ s. verdict s .small;
+      pieces = λ k j. piece k j .answer;
+      piece-numbers = λ k j. piece k j .small;
+    }

@@ -12,6 +12,10 @@ use Rattle.records.specs.declared.Record.{Record}
 use Rattle.rules.specs.Check.{verdictOf, IsPlan}
 use Rattle.rules.specs.declared.Verdict.{Verdict}
 use Rattle.rules.specs.declared.Verdict.the-variants.{Refused}
+use Rattle.pieces.specs.Pieces.{verdictBy}
+use Rattle.pieces.specs.declared.Stage.{Stage}
+use Rattle.pieces.specs.declared.Stage.the-variants.{Open, Ended, Faulty}
+use Rattle.pieces.specs.declared.CheckState.{CheckState}
 use Rattle.writer.specs.Write.{answerOf, bufferBy}
 use Rattle.writer.specs.declared.Written.{Written}
 use Rattle.writer.specs.declared.Written.the-variants.{Length, Refused as WriteRefused}
@@ -73,6 +77,13 @@ OfStuck n = ((1 ≤ n) × (n ≤ 8)) ⊎ ((n ≡ 15) ⊎ (n ≡ 16))
 -- a number of the question how many words lead to each joint state: one of `OfStuck`, or 17
 abbrev pub OfCounts : ℕ → Type 0
 OfCounts n = OfStuck n ⊎ (n ≡ 17)
+
+-- the stage of a check in pieces whose refusal, if it has one, has a number of the check, as it has after any pieces (`StaysEncodable` of crate
+-- piece_laws) and of all bytes that stand for a state (`AnyAnswer` of crate interface_laws)
+abbrev pub OfCheck : Stage → Type 0
+OfCheck Open = Unit {0}
+OfCheck Ended = Unit {0}
+OfCheck (Faulty n o) = (2 ≤ n) × (n ≤ 8)
 
 -- the number n stands with the byte offset o: "0 for 1 and for 9 and above"
 pub record Placed (n o : ℕ) : Type 0 where
@@ -224,6 +235,9 @@ pub record Checker : Type 0 where
   pub accepted : (image : List ℕ) → verdictNumber (verdictOf image) ≡ 0 → IsPlan image
   -- 9 and above are a call's own
   pub numbers : (image : List ℕ) → verdictNumber (verdictOf image) ≤ 8
+  -- document 02, 2.3: the answer of a check in pieces. A piece is never refused, and nothing is written into it
+  pub pieces : (k : CheckState) → OfCheck (k .stage) → CheckAnswer (verdictBy k)
+  pub piece-numbers : (k : CheckState) → OfCheck (k .stage) → verdictNumber (verdictBy k) ≤ 8
 
 pub record Writers : Type 0 where
   pub write : (r : Record) (b : List ℕ) → Write r b (answerOf r b)
