@@ -29,13 +29,15 @@ prove() { # PROGRAM
   ) || { tail -n 40 "$log" >&2; return 1; }
 }
 
+# The kit's loader and C library, looked for once.
+tools=
+
 # Starts a built program in the folder that the script is in. It runs by the kit's loader, since it needs the C library of the kit, which can be
 # newer than the system's, and by the kit's emulator where the machine is no x86-64.
 start() { # PROGRAM [ARGUMENTS]
-  local kit tools emulator program=$repo/target/bin/$1
+  local emulator program=$repo/target/bin/$1
   shift
-  kit=$(dirname "$(dirname "$(rt doc)")")
-  tools=$kit/on/$(uname -m)/toolchain
+  [ -n "$tools" ] || tools=$(dirname "$(dirname "$(rt doc)")")/on/$(uname -m)/toolchain
   emulator=$tools/bin/qemu-x86_64
   [ -x "$emulator" ] || emulator=
   ${emulator:+"$emulator"} "$tools/lib/ld-linux-x86-64.so.2" --library-path "$tools/lib" "$program" "$@"
