@@ -16,7 +16,10 @@
 #include "chance.h"
 #include "plan.h"
 
-enum { PAGE = 4096, ROOM = 13 * PAGE, CALLS = 19, PLANS = 3, NUMBERS = 18, FIND_STUCK = 17, COUNT_WORDS = 18, MARKING = 0x18 };
+enum { PAGE = 4096, ROOM = 13 * PAGE, PLANS = 3, NUMBERS = 18, MARKING = 0x18 };
+
+/* The calls by number; those before are of a device, a module and a supervisor, records and messages. */
+enum { FIND_STUCK = 17, COUNT_WORDS, CHECK_START, CHECK_PIECE, CHECK_ANSWER, CALLS };
 
 /* A lent slice: `bytes` of them end at the guard page; `before` is what the room held when the call was made. */
 struct slice {
@@ -354,6 +357,76 @@ static uint64_t joint_call(uint32_t call)
     return pewterslug_count_words(image.start, image.length, length, buffer.start, buffer.length);
 }
 
+/* Sets how many bytes a state of the check in pieces has taken: few, or about as many as there may be. */
+static void set_taken(void)
+{
+    uint32_t taken = chance_one_in(&chance, 3) ? PEWTERSLUG_IMAGE_LIMIT - 300 + chance_below(&chance, 400) : chance_below(&chance, 20000);
+    const uint8_t bytes[] = {(uint8_t)(taken >> 24), (uint8_t)(taken >> 16), (uint8_t)(taken >> 8), (uint8_t)taken};
+    memcpy(state.start + 6, bytes, sizeof bytes);
+}
+
+/* Bytes of a state of the check in pieces: what a part of the plan left, often with some of them changed; or random ones, mostly with flags
+ * that a state may have, or of any length. */
+static void choose_check_state(const struct plan *plan)
+{
+    if (chance_one_in(&chance, 16)) {
+        slice_random(&state, chance_one_in(&chance, 2) ? 494 + chance_below(&chance, 3) : chance_below(&chance, 700));
+        return;
+    }
+    slice_random(&state, PEWTERSLUG_CHECK_BYTES);
+    if (chance_one_in(&chance, 2)) {
+        pewterslug_check_start(state.start, state.length);
+        pewterslug_check_piece(state.start, state.length, plan->image, chance_below(&chance, (uint32_t)plan->length + 1));
+        for (uint32_t changes = chance_below(&chance, 4); changes > 0; changes--)
+            state.start[chance_below(&chance, PEWTERSLUG_CHECK_BYTES)] = any_byte();
+    } else if (!chance_one_in(&chance, 8)) {
+        memset(state.start, 0, 6);
+        state.start[0] = (uint8_t)chance_below(&chance, 3);
+        state.start[1] = state.start[0] == 2 ? (uint8_t)(2 + chance_below(&chance, 7)) : 0;
+        state.start[23] &= 1;
+        set_taken();
+    }
+    if (chance_one_in(&chance, 8))
+        set_taken();
+}
+
+/* A piece: random bytes, or some of the plan from the byte on that the state says, or from any. */
+static void choose_piece(const struct plan *plan)
+{
+    uint32_t from = state.length == PEWTERSLUG_CHECK_BYTES ? pewterslug_quad_at(state.start + 6) : 0, length = chance_below(&chance, 600);
+    if (from > plan->length || chance_one_in(&chance, 3))
+        from = chance_below(&chance, (uint32_t)plan->length + 1);
+    slice_random(&image, length);
+    if (!chance_one_in(&chance, 3))
+        memcpy(image.start, plan->image + from, length < plan->length - from ? length : plan->length - from);
+}
+
+/* A call of the check in pieces; the piece is lent in place of the image. */
+static uint64_t check_call(uint32_t call, const struct plan *plan)
+{
+    choose_check_state(plan);
+    choose_piece(plan);
+    if (chance_one_in(&chance, 2))
+        slice_random(&buffer, 480 + chance_below(&chance, 32));
+    slice_keep(&image), slice_keep(&state), slice_keep(&buffer);
+    if (call == CHECK_START)
+        return pewterslug_check_start(buffer.start, buffer.length);
+    if (call == CHECK_PIECE)
+        return pewterslug_check_piece(state.start, state.length, image.start, image.length);
+    return pewterslug_check_answer(state.start, state.length);
+}
+
+/* Whether the bytes before a call stood for a state of the check in pieces, as the header says. */
+static int stood(void)
+{
+    const uint8_t *bytes = state.before + (state.start - state.room);
+    if (state.length != PEWTERSLUG_CHECK_BYTES || bytes[0] > 2 || bytes[23] > 1)
+        return 0;
+    if (bytes[0] == 2)
+        return bytes[1] >= 2 && bytes[1] <= 8;
+    return bytes[1] == 0 && pewterslug_quad_at(bytes + 2) == 0;
+}
+
 static int changed(const struct slice *slice, const uint8_t *from)
 {
     return memcmp(from, slice->before + (from - slice->room), (size_t)(slice->room + ROOM - from)) != 0
@@ -373,6 +446,18 @@ static int broken(uint64_t answer, int writes)
     return changed(&state, pewterslug_number(answer) == 0 ? state.room + ROOM : state.start);
 }
 
+/* What a call of the check in pieces may not answer, and that asking leaves the state alone. */
+static int check_broken(uint32_t call, uint64_t answer)
+{
+    if (call == CHECK_START)
+        return answer != (buffer.length < PEWTERSLUG_CHECK_BYTES ? 15 : (uint64_t)PEWTERSLUG_CHECK_BYTES << 32);
+    if (call == CHECK_PIECE)
+        return answer != (stood() ? 0 : 9);
+    if (call == CHECK_ANSWER && (changed(&state, state.start) || (answer == 9) == stood()))
+        return 1;
+    return call == CHECK_ANSWER && (pewterslug_number(answer) > 9 || (pewterslug_number(answer) == 0 && answer != 0));
+}
+
 /* How long the buffer of a call may be, so that it is often long enough and often not. */
 static uint32_t most_bytes(uint32_t call)
 {
@@ -381,23 +466,24 @@ static uint32_t most_bytes(uint32_t call)
     return call == FIND_STUCK || call == COUNT_WORDS ? 20 : 140;
 }
 
-static uint64_t one_call(int *writes)
+static uint64_t one_call(uint32_t call)
 {
-    uint32_t call = chance_below(&chance, CALLS);
-    const struct plan *plan = call >= FIND_STUCK && !chance_one_in(&chance, 32) ? choose_small() : choose_image();
+    int joint = call == FIND_STUCK || call == COUNT_WORDS;
+    const struct plan *plan = joint && !chance_one_in(&chance, 32) ? choose_small() : choose_image();
     choose_message(plan);
     slice_random(&buffer, chance_below(&chance, most_bytes(call)));
     slice_keep(&image);
     slice_keep(&message);
     slice_keep(&buffer);
-    *writes = call != 13 && call != 15;
     if (call < 4)
         return device_call(call, plan);
     if (call < 9)
         return module_call(call - 4, plan);
     if (call < 12)
         return supervisor_call(call - 9, plan);
-    return call >= FIND_STUCK ? joint_call(call) : other_call(call - 12);
+    if (call < FIND_STUCK)
+        return other_call(call - 12);
+    return joint ? joint_call(call) : check_call(call, plan);
 }
 
 int main(int count, char **words)
@@ -409,9 +495,9 @@ int main(int count, char **words)
     chance_start(&chance, seed, 0);
     slice_make(&image), slice_make(&state), slice_make(&buffer), slice_make(&message);
     for (uint64_t call = 0; call < calls; call++) {
-        int writes;
-        uint64_t answer = one_call(&writes);
-        if (broken(answer, writes)) {
+        uint32_t which = chance_below(&chance, CALLS);
+        uint64_t answer = one_call(which);
+        if (broken(answer, which != 13 && which != 15) || check_broken(which, answer)) {
             printf("fuzz: seed %llu, call %llu: lent memory or the answer is not as promised\n", (unsigned long long)seed, (unsigned long long)call);
             return 1;
         }

@@ -1,6 +1,6 @@
 /* The C interface from C, and from C++: the version; the two-valve plan (docs/two-valve.hex) on one device, then on many with the bytes of
- * each message, then refusals, whether a plan gets stuck and how many words it has; and what the header itself has, its names, texts and
- * what it reads from state bytes. tests/interface.sh compares what this prints with tests/interface.expected. */
+ * each message, then refusals, whether a plan gets stuck and how many words it has, and its check in pieces; and what the header itself has,
+ * its names, texts and what it reads from state bytes. tests/interface.sh compares what this prints with tests/interface.expected. */
 #include "pewterslug.h"
 
 #include <inttypes.h>
@@ -471,6 +471,67 @@ static void count_words(void)
     say("count_words of 4096 joint states", pewterslug_count_words(image, build_many(image, 12), 12, buffer, sizeof buffer));
 }
 
+/* Bytes that stand for no state of the check in pieces, since at this stage a byte is as it may not be: 9, and they are left as they are. */
+static void no_check_state(const char *what, uint8_t stage, size_t place, uint8_t byte)
+{
+    uint8_t state[PEWTERSLUG_CHECK_BYTES], before[PEWTERSLUG_CHECK_BYTES];
+
+    pewterslug_check_start(state, sizeof state);
+    state[0] = stage;
+    state[place] = byte;
+    memcpy(before, state, sizeof state);
+    say(what, pewterslug_check_piece(state, sizeof state, plan, sizeof plan));
+    left(state, before, sizeof state);
+    say("  its answer", pewterslug_check_answer(state, sizeof state));
+}
+
+static void check_pieces(void)
+{
+    static uint8_t zeros[PEWTERSLUG_IMAGE_LIMIT];
+    uint8_t state[PEWTERSLUG_CHECK_BYTES + 5], before[sizeof state];
+    const size_t length = PEWTERSLUG_CHECK_BYTES;
+
+    memset(state, 0xAA, sizeof state);
+    memcpy(before, state, sizeof state);
+    say("check_start into 494 bytes", pewterslug_check_start(state, length - 1));
+    left(state, before, sizeof state);
+    say("check_start into 500 bytes", pewterslug_check_start(state, sizeof state));
+    left(state + length, before + length, sizeof state - length);
+    memcpy(state, before, sizeof state);
+    say("check_start into 495 bytes", pewterslug_check_start(state, length));
+    left(state + length, before + length, sizeof state - length);
+    say("no bytes", pewterslug_check_answer(state, length));
+    say("30 bytes of P", pewterslug_check_piece(state, length, plan, 30));
+    say("30 bytes", pewterslug_check_answer(state, length));
+    show("stage, number, offset and taken", state, 10);
+    show("held and cut", state + 10, 13);
+    show("last record and counts", state + 23, 8);
+    say("30 more", pewterslug_check_piece(state, length, plan + 30, 30));
+    say("60 bytes", pewterslug_check_answer(state, length));
+    say("the last 22", pewterslug_check_piece(state, length, plan + 60, sizeof plan - 60));
+    say("P", pewterslug_check_answer(state, length));
+    memcpy(before, state, sizeof state);
+    say("an empty piece", pewterslug_check_piece(state, length, plan, 0));
+    left(state, before, sizeof state);
+    say("494 bytes of state", pewterslug_check_piece(state, length - 1, plan, 1));
+    left(state, before, sizeof state);
+    say("496", pewterslug_check_piece(state, length + 1, plan, 1));
+    left(state, before, sizeof state);
+    say("  its answer", pewterslug_check_answer(state, length + 1));
+    say("a byte after P", pewterslug_check_piece(state, length, plan, 1));
+    say("83 bytes", pewterslug_check_answer(state, length));
+    say("zeros up to 49152", pewterslug_check_piece(state, length, zeros, PEWTERSLUG_IMAGE_LIMIT - sizeof plan - 1));
+    say("49152 bytes", pewterslug_check_answer(state, length));
+    say("one more", pewterslug_check_piece(state, length, zeros, 1));
+    say("49153 bytes", pewterslug_check_answer(state, length));
+    no_check_state("stage 3", 3, 0, 3);
+    no_check_state("begun 2", 0, 23, 2);
+    no_check_state("a refusal's number while records are read", 0, 1, 2);
+    no_check_state("a refusal's offset after the end", 1, 5, 1);
+    no_check_state("refused with 1", 2, 1, 1);
+    no_check_state("refused with 9", 2, 1, 9);
+}
+
 static void texts(void)
 {
     unsigned alike = 0, empty = 0, known = 0;
@@ -504,9 +565,10 @@ static void codes(void)
            PEWTERSLUG_STRAY, PEWTERSLUG_NONE, PEWTERSLUG_BIDS, PEWTERSLUG_SENDS, PEWTERSLUG_WAITS, PEWTERSLUG_FREE, PEWTERSLUG_STUCK);
     printf("limits: image %d, modules %d, supervisors %d, events %d, queue %d, outputs %d\n", PEWTERSLUG_IMAGE_LIMIT,
            PEWTERSLUG_MODULE_LIMIT, PEWTERSLUG_SUPERVISOR_LIMIT, PEWTERSLUG_EVENT_LIMIT, PEWTERSLUG_QUEUE_LIMIT, PEWTERSLUG_OUTPUT_LIMIT);
-    printf("bytes: device %d, own %d, module %d, supervisor %d, record %d, message %d, release %d, step %d, stuck %d, count %d\n",
+    printf("bytes: device %d, own %d, module %d, supervisor %d, record %d, message %d, release %d, step %d, stuck %d, count %d, check %d\n",
            PEWTERSLUG_DEVICE_BYTES, PEWTERSLUG_OWN_BYTES, PEWTERSLUG_MODULE_BYTES, PEWTERSLUG_SUPERVISOR_BYTES, PEWTERSLUG_RECORD_BYTES,
-           PEWTERSLUG_MESSAGE_BYTES, PEWTERSLUG_RELEASE_BYTES, PEWTERSLUG_STEP_BYTES, PEWTERSLUG_STUCK_BYTES, PEWTERSLUG_COUNT_BYTES);
+           PEWTERSLUG_MESSAGE_BYTES, PEWTERSLUG_RELEASE_BYTES, PEWTERSLUG_STEP_BYTES, PEWTERSLUG_STUCK_BYTES, PEWTERSLUG_COUNT_BYTES,
+           PEWTERSLUG_CHECK_BYTES);
 }
 
 /* Bytes that no call wrote: all 0, all FF, and each byte another, so that a field read from a wrong place shows. */
@@ -591,6 +653,7 @@ int main(void)
     numbers();
     find_stuck();
     count_words();
+    check_pieces();
     texts();
     answers();
     codes();

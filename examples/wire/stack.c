@@ -22,13 +22,13 @@ enum { STACK_BYTES = 1 << 22, UPPER_BYTES = 1 << 18, PAINT = 0xA5, PLANS = 3, UN
 enum which {
     VERSION, CHECK, READ_RECORD, WRITE_RECORD, DEVICE_START, DEVICE_TURN, DEVICE_RESPOND, DEVICE_TICK, MODULE_START, MODULE_STEP,
     MODULE_DELIVER, MODULE_RESPOND, MODULE_TICK, SUPERVISOR_START, SUPERVISOR_STEP, SUPERVISOR_DELIVER, READ_MESSAGE, WRITE_MESSAGE,
-    FIND_STUCK, COUNT_WORDS, CALLS
+    CHECK_START, CHECK_PIECE, CHECK_ANSWER, FIND_STUCK, COUNT_WORDS, CALLS
 };
 
 static const char *const names[CALLS] = {
     "version", "check", "read_record", "write_record", "device_start", "device_turn", "device_respond", "device_tick", "module_start",
     "module_step", "module_deliver", "module_respond", "module_tick", "supervisor_start", "supervisor_step", "supervisor_deliver", "read_message",
-    "write_message", "find_stuck", "count_words",
+    "write_message", "check_start", "check_piece", "check_answer", "find_stuck", "count_words",
 };
 
 static const struct {
@@ -56,6 +56,7 @@ struct fleet {
     uint8_t device[PEWTERSLUG_DEVICE_BYTES];
     uint8_t modules[PEWTERSLUG_MODULE_LIMIT][PEWTERSLUG_MODULE_BYTES];
     uint8_t supervisors[PEWTERSLUG_SUPERVISOR_LIMIT][PEWTERSLUG_SUPERVISOR_BYTES];
+    uint8_t check[PEWTERSLUG_CHECK_BYTES];
     uint8_t buffer[PEWTERSLUG_STEP_BYTES];
     uint8_t text[PEWTERSLUG_COUNT_BYTES]; /* longer than any other answer */
     struct {
@@ -125,6 +126,9 @@ static uint64_t perform_other(const struct call *call)
     case READ_RECORD: return pewterslug_read_record(plan->image, plan->length, call->offset);
     case WRITE_RECORD: return pewterslug_write_record(call->kind, 1, 1, 1, 1, 1, call->bytes, call->length);
     case READ_MESSAGE: return pewterslug_read_message(call->bytes, call->length);
+    case CHECK_START: return pewterslug_check_start(call->state, call->state_length);
+    case CHECK_PIECE: return pewterslug_check_piece(call->state, call->state_length, plan->image + call->offset, call->length);
+    case CHECK_ANSWER: return pewterslug_check_answer(call->state, call->state_length);
     case FIND_STUCK: return pewterslug_find_stuck(plan->image, plan->length, call->bytes, call->length);
     case COUNT_WORDS: return pewterslug_count_words(plan->image, plan->length, call->words, call->bytes, call->length);
     default: return pewterslug_write_message(call->kind, 0, 0, 0, 1, call->bytes, call->length);
@@ -311,9 +315,29 @@ static void records_and_messages(struct fleet *fleet)
     }
 }
 
+/* The plan's check in pieces of several sizes, the answer after each; of the smallest ones the plan's first bytes and its last. */
+static void check_in_pieces(struct fleet *fleet)
+{
+    static const size_t sizes[] = {1, 13, 512, PEWTERSLUG_IMAGE_LIMIT};
+    struct call call = {.state = fleet->check, .state_length = sizeof fleet->check};
+    for (unsigned i = 0; i < sizeof sizes / sizeof *sizes; i++) {
+        call.which = CHECK_START;
+        measured(fleet, call);
+        for (call.offset = 0; call.offset < fleet->plan.length; call.offset += call.length) {
+            size_t left = fleet->plan.length - call.offset;
+            call.length = call.offset == 500 * sizes[i] && left > 100 ? left - 100 : left < sizes[i] ? left : sizes[i];
+            call.which = CHECK_PIECE;
+            measured(fleet, call);
+            call.which = CHECK_ANSWER;
+            measured(fleet, call);
+        }
+    }
+}
+
 static void measure(struct fleet *fleet, unsigned rounds)
 {
     start(fleet);
+    check_in_pieces(fleet);
     records_and_messages(fleet);
     for (unsigned round = 0; round < rounds; round++) {
         unsigned module = chance_below(&fleet->chance, fleet->plan.modules);

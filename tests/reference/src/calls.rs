@@ -4,6 +4,11 @@
 #[derive(Clone, Copy, Debug)]
 pub enum Call {
     Check,
+    /// The state is written into the buffer.
+    CheckStart,
+    /// The image is the piece.
+    CheckPiece,
+    CheckAnswer,
     FindStuck,
     CountWords {
         length: u64,
@@ -79,6 +84,9 @@ impl Engine for Reference {
     fn call(&self, call: Call, image: &[u8], state: &mut [u8], message: &[u8], buffer: &mut [u8]) -> u64 {
         match call {
             Call::Check => crate::check(image),
+            Call::CheckStart => crate::check_start(buffer),
+            Call::CheckPiece => crate::check_piece(state, image),
+            Call::CheckAnswer => crate::check_answer(state),
             Call::FindStuck => crate::find_stuck(image, buffer),
             Call::CountWords { length } => crate::count_words(image, length, buffer),
             Call::ReadRecord { offset } => crate::read_record(image, offset),

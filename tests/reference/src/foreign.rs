@@ -6,6 +6,9 @@ use reference::calls::{Call, Engine};
 #[link(name = "pewterslug", kind = "static")]
 extern "C" {
     fn pewterslug_check(image: *const u8, image_length: usize) -> u64;
+    fn pewterslug_check_start(state: *mut u8, state_length: usize) -> u64;
+    fn pewterslug_check_piece(state: *mut u8, state_length: usize, piece: *const u8, piece_length: usize) -> u64;
+    fn pewterslug_check_answer(state: *const u8, state_length: usize) -> u64;
     fn pewterslug_find_stuck(image: *const u8, image_length: usize, buffer: *mut u8, buffer_length: usize) -> u64;
     fn pewterslug_count_words(image: *const u8, image_length: usize, length: u64, buffer: *mut u8, buffer_length: usize) -> u64;
     fn pewterslug_read_record(image: *const u8, image_length: usize, offset: usize) -> u64;
@@ -98,6 +101,9 @@ impl Engine for Foreign {
         unsafe {
             match call {
                 Call::Check => pewterslug_check(i, il),
+                Call::CheckStart => pewterslug_check_start(b, bl),
+                Call::CheckPiece => pewterslug_check_piece(s, sl, i, il),
+                Call::CheckAnswer => pewterslug_check_answer(s, sl),
                 Call::FindStuck => pewterslug_find_stuck(i, il, b, bl),
                 Call::CountWords { length } => pewterslug_count_words(i, il, length, b, bl),
                 Call::ReadRecord { offset } => pewterslug_read_record(i, il, offset),

@@ -13,6 +13,7 @@ mod device;
 mod joint;
 pub mod message;
 mod module;
+pub mod pieces;
 pub mod plan;
 mod procedure;
 pub mod state;
@@ -26,6 +27,21 @@ use procedure::Reading;
 /// Checks a plan image.
 pub fn check(image: &[u8]) -> u64 {
     pack(plan::check(image).map(|_| Answer::done()))
+}
+
+/// Writes the starting state of the check in pieces.
+pub fn check_start(state: &mut [u8]) -> u64 {
+    pack(pieces::start(state))
+}
+
+/// Takes the next piece of a plan image.
+pub fn check_piece(state: &mut [u8], piece: &[u8]) -> u64 {
+    pack(pieces::piece(state, piece))
+}
+
+/// The check's answer for the bytes handed over so far.
+pub fn check_answer(state: &[u8]) -> u64 {
+    pack(pieces::answer(state))
 }
 
 /// Whether the plan ever gets stuck: writes a word that leads to a stuck joint state, and that state.

@@ -109,24 +109,24 @@ fn target_in_range(bits: u64) -> bool {
     (0.125..=131_072.0).contains(&litres) && whole_eighths(litres)
 }
 
-fn counts_in_range(modules: u8, supervisors: u8, events: u8) -> bool {
+pub(crate) fn counts_in_range(modules: u8, supervisors: u8, events: u8) -> bool {
     matches!(modules, 1..=16) && supervisors <= 32 && matches!(events, 1..=64)
 }
 
-fn class_in_range(class: u8) -> bool {
+pub(crate) fn class_in_range(class: u8) -> bool {
     class <= 1
 }
 
-fn module_states_in_range(states: u8) -> bool {
+pub(crate) fn module_states_in_range(states: u8) -> bool {
     matches!(states, 1..=32)
 }
 
-fn supervisor_states_in_range(states: u8) -> bool {
+pub(crate) fn supervisor_states_in_range(states: u8) -> bool {
     matches!(states, 1..=64)
 }
 
 /// Whether the index is in range, the operation known and its operand in range; a respond operand is never out of range.
-fn step_in_range(index: u8, operation: u8, operand: u64) -> bool {
+pub(crate) fn step_in_range(index: u8, operation: u8, operand: u64) -> bool {
     index <= 63
         && match operation {
             OUTPUT_ON | OUTPUT_OFF => operand <= 31,
@@ -306,10 +306,10 @@ struct Check<'a> {
     spans: [(usize, usize); 16],
 }
 
-type Verdict = core::result::Result<(), u8>;
+pub(crate) type Verdict = core::result::Result<(), u8>;
 
 /// Good, or the number given.
-fn demand(good: bool, number: u8) -> Verdict {
+pub(crate) fn demand(good: bool, number: u8) -> Verdict {
     if good {
         Ok(())
     } else {

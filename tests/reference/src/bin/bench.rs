@@ -1,7 +1,8 @@
 //! The same calls through the proved engine and the reference, in one process, turn and turn about: `bench`.
 //!
 //! A row is one call on one plan: nanoseconds per call of either side, and how many times as long the reference takes. Both sides get a
-//! fresh copy of the state for each call. The figures are medians of several rounds.
+//! fresh copy of the state for each call. A row of the check in pieces is all its calls on one plan: the start, each piece and the answer.
+//! The figures are medians of several rounds.
 
 #[path = "../foreign.rs"]
 mod foreign;
@@ -13,6 +14,7 @@ use reference::cases::{
     counter, crowded, fit_module, full_with_two_states, hex, image_of, rounds, sized, switches, Case, Rng, COUNT_BYTES, PLAN_P, STUCK_BYTES,
 };
 use reference::message::Message;
+use reference::pieces::CHECK_BYTES;
 use reference::plan::{self, Plan};
 use reference::state::{DEVICE_BYTES, MODULE_BYTES, SUPERVISOR_BYTES};
 use std::hint::black_box;
@@ -196,8 +198,64 @@ fn count_rows() -> Vec<(&'static str, Case)> {
     plans.into_iter().map(|(name, length, image)| (name, case(length, image))).collect()
 }
 
+/// What a row times: one call, or an image handed over in pieces of a size.
+enum Work {
+    Call(Case),
+    Pieces { image: Vec<u8>, size: usize },
+}
+
+impl Work {
+    fn image(&self) -> &[u8] {
+        match self {
+            Work::Call(case) => &case.image,
+            Work::Pieces { image, .. } => image,
+        }
+    }
+}
+
+/// The check of a plan in pieces of several sizes, and of one that is refused at its first byte.
+fn piece_rows(image: &[u8]) -> Vec<(&'static str, Work)> {
+    let faulty = [&[0x20], &image[1..]].concat();
+    let work = |image: &[u8], size| Work::Pieces {
+        image: image.to_vec(),
+        size,
+    };
+    vec![
+        ("check in one piece", work(image, image.len())),
+        ("check in 4096", work(image, 4096)),
+        ("check in 512", work(image, 512)),
+        ("check in 16", work(image, 16)),
+        ("check byte by byte", work(image, 1)),
+        ("check faulty first", work(&faulty, 512)),
+    ]
+}
+
+/// The check of an image in pieces, from the start to the answer.
+fn in_pieces(engine: &impl Engine, image: &[u8], size: usize, state: &mut [u8; CHECK_BYTES]) -> u64 {
+    black_box(engine.call(black_box(Call::CheckStart), &[], &mut [], &[], black_box(state)));
+    for piece in image.chunks(size) {
+        black_box(engine.call(black_box(Call::CheckPiece), black_box(piece), black_box(state), &[], &mut []));
+    }
+    engine.call(black_box(Call::CheckAnswer), &[], black_box(state), &[], &mut [])
+}
+
+/// Nanoseconds for a row's work, over so many times.
+fn time(engine: &impl Engine, work: &Work, times: usize) -> f64 {
+    match work {
+        Work::Call(case) => time_calls(engine, case, times),
+        Work::Pieces { image, size } => {
+            let mut state = [0; CHECK_BYTES];
+            let begin = Instant::now();
+            for _ in 0..times {
+                black_box(in_pieces(engine, black_box(image), *size, &mut state));
+            }
+            begin.elapsed().as_nanos() as f64 / times as f64
+        }
+    }
+}
+
 /// Nanoseconds per call over so many calls.
-fn time(engine: &impl Engine, case: &Case, calls: usize) -> f64 {
+fn time_calls(engine: &impl Engine, case: &Case, calls: usize) -> f64 {
     let mut state = case.state.clone();
     let mut buffer = case.buffer.clone();
     let begin = Instant::now();
@@ -221,25 +279,37 @@ fn median(mut times: Vec<f64>) -> f64 {
 }
 
 /// Both sides' medians; the rounds alternate.
-fn measure(case: &Case) -> (f64, f64) {
-    let slower = |calls| time(&Reference, case, calls).max(time(&Foreign, case, calls)).max(1.0);
+fn measure(work: &Work) -> (f64, f64) {
+    let slower = |times| time(&Reference, work, times).max(time(&Foreign, work, times)).max(1.0);
     let slow = slower(1) > 1e6;
-    let calls = if slow { 1 } else { (ROUND_NANOSECONDS / slower(20)) as usize + 1 };
+    let times = if slow { 1 } else { (ROUND_NANOSECONDS / slower(20)) as usize + 1 };
     let (mut engine, mut reference) = (Vec::new(), Vec::new());
     for _ in 0..if slow { SLOW_ROUNDS } else { ROUNDS } {
-        engine.push(time(&Foreign, case, calls));
-        reference.push(time(&Reference, case, calls));
+        engine.push(time(&Foreign, work, times));
+        reference.push(time(&Reference, work, times));
     }
     (median(engine), median(reference))
 }
 
-/// Whether both sides accept a case with the same answer: else there is nothing to compare.
-fn agree(case: &Case) -> bool {
-    let answer = |engine: &dyn Engine| {
-        let (mut state, mut buffer) = (case.state.clone(), case.buffer.clone());
-        engine.call(case.call, &case.image, &mut state, &case.message, &mut buffer)
+/// The answer that a row's work comes to.
+fn answer(engine: &impl Engine, work: &Work) -> u64 {
+    match work {
+        Work::Call(case) => {
+            let (mut state, mut buffer) = (case.state.clone(), case.buffer.clone());
+            engine.call(case.call, &case.image, &mut state, &case.message, &mut buffer)
+        }
+        Work::Pieces { image, size } => in_pieces(engine, image, *size, &mut [0; CHECK_BYTES]),
+    }
+}
+
+/// Whether both sides give the same answer, to a call one that accepts it, to pieces that of the check: else there is nothing to compare.
+fn agree(work: &Work) -> bool {
+    let (ours, theirs) = (answer(&Foreign, work), answer(&Reference, work));
+    let due = match work {
+        Work::Call(_) => number(theirs) == 0,
+        Work::Pieces { image, .. } => theirs == reference::check(image),
     };
-    number(answer(&Reference)) == 0 && answer(&Reference) == answer(&Foreign)
+    due && ours == theirs
 }
 
 fn main() -> ExitCode {
@@ -254,13 +324,16 @@ fn main() -> ExitCode {
     let by_name = sets[0]
         .iter()
         .flat_map(|(name, _)| sets.iter().flatten().filter(move |(other, _)| other == name));
-    for (name, case) in by_name.chain(&stuck_rows()).chain(&count_rows()) {
-        let bytes = case.image.len();
-        if !agree(case) {
+    let questions = [stuck_rows(), count_rows()].concat();
+    let calls = by_name.chain(&questions).map(|(name, case)| (*name, Work::Call(case.clone())));
+    let pieces = piece_rows(images.last().expect("a plan"));
+    for (name, work) in calls.chain(pieces) {
+        let bytes = work.image().len();
+        if !agree(&work) {
             println!("{name:<26} {bytes:>11} the two sides do not agree");
             return ExitCode::FAILURE;
         }
-        let (engine, reference) = measure(case);
+        let (engine, reference) = measure(&work);
         println!(
             "{name:<26} {bytes:>11} {engine:>12.1} {reference:>13.1} {:>8.2}",
             reference / engine

@@ -1,7 +1,8 @@
 //! Compares the proved engine with the reference, call by call, on seeded inputs: `differential SEED COUNT`.
 //!
-//! Each group draws COUNT cases. Equal must be the answer and every lent byte, with guards around what may be written and the slices
-//! that are only read. The first difference of a group is made small and printed; the exit code is 1 if there was any.
+//! Each group draws COUNT cases, some groups several for each. Equal must be the answer and every lent byte, with guards around what may
+//! be written and the slices that are only read. The first difference of a group is made small and printed; the exit code is 1 if there was
+//! any.
 
 #[path = "../foreign.rs"]
 mod foreign;
@@ -10,9 +11,11 @@ use foreign::Foreign;
 use reference::answer::{did, length, number, offset, value};
 use reference::calls::{Call, Engine, Reference};
 use reference::cases::{
-    counts_case, device_case, image_case, image_of, lively_plan, message_case, module_case, plan, record_case, records_of, schedule,
-    shrink_case, shrink_schedule, stuck_case, supervisor_case, unfit_case, Applied, Case, Ground, Op, Rng, World,
+    counts_case, device_case, forged, image_case, image_of, lively_plan, message_case, module_case, pieces, plan, record_case, records_of,
+    schedule, shrink_case, shrink_pieces, shrink_schedule, single_bytes, some_cuts, stuck_case, supervisor_case, unfit_case, Applied, Case,
+    Ground, Op, Rng, World,
 };
+use reference::pieces::CHECK_BYTES;
 use std::hint::black_box;
 use std::process::ExitCode;
 
@@ -20,6 +23,10 @@ const GUARD: usize = 16;
 const GUARD_BYTE: u8 = 0xA5;
 /// Cases drawn on one plan.
 const CASES_PER_PLAN: usize = 50;
+/// So many forged states for each case of another group: they are quick, and most of what they may hold is rare.
+const FORGED: usize = 4;
+/// With so few cuts of an image the check is asked after each piece.
+const FEW_CUTS: usize = 9;
 /// Calls of one schedule.
 const CALLS_PER_SCHEDULE: usize = 600;
 
@@ -115,6 +122,102 @@ fn calls(name: &str, seed: u64, count: usize, mut draw: impl FnMut(&mut Rng, &mu
 fn states() -> impl FnMut(&mut Rng, &mut Ground) -> Case {
     let mut turns = 0..;
     move |rng, ground| unfit_case(rng, ground, turns.next().unwrap_or(0))
+}
+
+/// Draws states of the check in pieces that no call has left.
+fn forged_states() -> impl FnMut(&mut Rng, &mut Ground) -> Case {
+    let mut draw = forged();
+    move |rng, ground| draw(rng, ground)
+}
+
+/// A check in pieces that is under way: the state between guards.
+struct UnderWay<E> {
+    engine: E,
+    state: Vec<u8>,
+}
+
+impl<E: Engine> UnderWay<E> {
+    /// From a start, whose answer is the second.
+    fn start(engine: E) -> (Self, u64) {
+        let mut state = guarded(&[0xAA; CHECK_BYTES]);
+        let answer = engine.call(Call::CheckStart, &[], &mut [], &[], &mut state[GUARD..GUARD + CHECK_BYTES]);
+        (UnderWay { engine, state }, answer)
+    }
+
+    /// Takes a piece. The answers are those to the piece and after it.
+    fn take(&mut self, piece: &[u8]) -> [u64; 2] {
+        let state = &mut self.state[GUARD..GUARD + CHECK_BYTES];
+        [Call::CheckPiece, Call::CheckAnswer].map(|call| self.engine.call(call, piece, state, &[], &mut []))
+    }
+}
+
+/// The first piece of an image after which the two sides differ, or one from the check of the bytes so far, and how. The check is asked at
+/// the end, and after each piece if the pieces are few.
+fn pieces_difference(image: &[u8], cuts: &[usize]) -> Option<String> {
+    let ((mut ours, started), (mut theirs, start)) = (UnderWay::start(Foreign), UnderWay::start(Reference));
+    if started != start || ours.state != theirs.state {
+        return Some(format!("start: engine {}, reference {}", in_words(started), in_words(start)));
+    }
+    let mut taken = 0;
+    for piece in pieces(image, cuts) {
+        let given = ours.take(piece);
+        let due = theirs.take(piece);
+        taken += piece.len();
+        let same = given == due && ours.state == theirs.state;
+        let whole = taken == image.len() || cuts.len() < FEW_CUTS;
+        let checked = if whole { reference::check(&image[..taken]) } else { due[1] };
+        if !same || checked != due[1] {
+            let states = if ours.state == theirs.state { "" } else { "; states differ" };
+            let [given, due, checked] = [given[1], due[1], checked].map(in_words);
+            return Some(format!(
+                "after {taken} bytes: engine {given}, reference {due}, check {checked}{states}"
+            ));
+        }
+    }
+    let whole = Foreign.call(Call::Check, image, &mut [], &[], &mut []);
+    let (answer, checked) = (reference::check(image), in_words(whole));
+    (whole != answer).then(|| format!("the engine's check of the whole: {checked}"))
+}
+
+/// Cuts every image of the group `images` at a few places, and byte by byte.
+fn cut_images(seed: u64, cut_seed: u64, count: usize) -> Tally {
+    let mut rng = Rng::new(cut_seed);
+    let mut tally = Tally::default();
+    for_images(seed, count, |image| {
+        for cuts in [some_cuts(&mut rng, image.len()), single_bytes(&mut rng, image.len())] {
+            tally.count(reference::check(image));
+            if pieces_difference(image, &cuts).is_some() {
+                tally.differences += 1;
+                if tally.differences == 1 {
+                    print_pieces(image.to_vec(), cuts);
+                }
+            }
+        }
+    });
+    tally.print("pieces");
+    tally
+}
+
+/// The images of the group `images`.
+fn for_images(seed: u64, count: usize, mut each: impl FnMut(&[u8])) {
+    let mut rng = Rng::new(seed);
+    let mut left = count;
+    while left > 0 {
+        let records = plan(&mut rng);
+        let image = image_of(&records);
+        let ground = Ground::new(&records, &image);
+        for _ in 0..CASES_PER_PLAN.min(left) {
+            each(&image_case(&mut rng, &ground).image);
+            left -= 1;
+        }
+    }
+}
+
+fn print_pieces(image: Vec<u8>, cuts: Vec<usize>) {
+    let (image, cuts) = shrink_pieces(image, cuts, |image, cuts| pieces_difference(image, cuts).is_some());
+    println!("difference in pieces, cut at {cuts:?}");
+    println!("  image     {}", hex_records(&image));
+    println!("  {}", pieces_difference(&image, &cuts).unwrap_or_default());
 }
 
 fn print_case(name: &str, case: &Case) {
@@ -266,6 +369,8 @@ fn main() -> ExitCode {
         schedules(seed(7), count),
         calls("stuck", seed(9), count, |rng, ground| stuck_case(rng, ground)),
         calls("counts", seed(10), count, |rng, ground| counts_case(rng, ground)),
+        cut_images(seed(1), seed(11), count),
+        calls("forged", seed(12), FORGED * count, forged_states()),
     ];
     let cases: usize = tallies.iter().map(|tally| tally.cases).sum();
     let differences: usize = tallies.iter().map(|tally| tally.differences).sum();

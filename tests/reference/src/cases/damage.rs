@@ -4,7 +4,7 @@ use super::plans::{image_of, plan, Records};
 use super::Rng;
 use crate::plan::{self, IMAGE_LIMIT};
 
-const KINDS: [u8; 10] = [
+pub(super) const KINDS: [u8; 10] = [
     plan::HEAD,
     plan::EVENT,
     plan::MODULE,
@@ -18,7 +18,7 @@ const KINDS: [u8; 10] = [
 ];
 
 /// Limits of fields, and what lies just beyond.
-const LIMITS: [u8; 18] = [0, 1, 2, 3, 4, 5, 6, 15, 16, 17, 31, 32, 33, 63, 64, 65, 254, 255];
+pub(super) const LIMITS: [u8; 18] = [0, 1, 2, 3, 4, 5, 6, 15, 16, 17, 31, 32, 33, 63, 64, 65, 254, 255];
 
 /// An image made from a plan's records by one or more damages.
 pub fn damaged(rng: &mut Rng, records: &Records) -> Vec<u8> {

@@ -88,7 +88,7 @@ pub fn buffer(rng: &mut Rng) -> Vec<u8> {
 }
 
 /// A buffer for a starting state: about as long as that, with random content.
-fn start_buffer(rng: &mut Rng, length: usize) -> Vec<u8> {
+pub(super) fn start_buffer(rng: &mut Rng, length: usize) -> Vec<u8> {
     let length = match rng.below(4) {
         0 => rng.below(length),
         1 => length - 1,

@@ -167,6 +167,28 @@ pub fn shrink_case(mut case: Case, mut differs: impl FnMut(&Case) -> bool) -> Ca
     }
 }
 
+/// Drops records and cuts that are not needed. Where records go, the cuts stay, or come after each byte if that is what shows the difference.
+pub fn shrink_pieces(mut image: Vec<u8>, mut cuts: Vec<usize>, mut differs: impl FnMut(&[u8], &[usize]) -> bool) -> (Vec<u8>, Vec<usize>) {
+    loop {
+        let before = cuts.clone();
+        let mut choose = |image: &[u8]| {
+            let kept = before.iter().map(|&cut| cut.min(image.len())).collect();
+            let single = if image.len() <= 4_000 {
+                (1..image.len()).collect()
+            } else {
+                Vec::new()
+            };
+            [kept, single].into_iter().find(|cuts| differs(image, cuts))
+        };
+        let mut smaller = shrink_image(&mut image, |image| choose(image).is_some());
+        cuts = choose(&image).unwrap_or(before);
+        smaller |= drop_parts(&mut cuts, |cuts| differs(&image, cuts));
+        if !smaller {
+            return (image, cuts);
+        }
+    }
+}
+
 /// Drops calls and records that are not needed, then whole events, supervisors and modules from both.
 pub fn shrink_schedule(mut image: Vec<u8>, mut ops: Vec<Op>, mut differs: impl FnMut(&[u8], &[Op]) -> bool) -> (Vec<u8>, Vec<Op>) {
     loop {
