@@ -1,11 +1,11 @@
 #!/usr/bin/env bash
-# docs/REFERENCE.md says what is so: its plans and images get the answers that stand beside them, its blocks of calls are what the programs print, the
-# definitions and files that it names are there, it has every name of the header and no other, with its value, and every kind, message, number and field
-# of a state has its row, with the functions of the header that read it.
+# docs/REFERENCE.md says what is so: its plans and images get the answers that stand beside them, whole and in pieces, its blocks of calls are what the
+# programs print, the definitions and files that it names are there, it has every name of the header and no other, with its value, and every kind,
+# message, number and field of a state has its row, with the functions of the header that read it.
 set -eu
 cd "$(dirname "$0")/.."
 mkdir -p target
-rt check listing simulate stuck word_counts device_vectors many_vectors > target/reference-page.log 2>&1 || { tail -n 40 target/reference-page.log; exit 1; }
+rt check listing simulate stuck word_counts check_plan device_vectors many_vectors > target/reference-page.log 2>&1 || { tail -n 40 target/reference-page.log; exit 1; }
 kit=$(dirname "$(dirname "$(rt doc)")")
 loader=$(find "$kit" -name ld-linux-x86-64.so.2 | head -n 1)
 room=$(mktemp -d)
@@ -28,7 +28,7 @@ def run(program, given, image=b""):
     with open(os.path.join(room, "plan.bin"), "wb") as plan:
         plan.write(image)
     command = [loader, "--library-path", os.path.dirname(loader), os.path.join(here, "target/bin", program)]
-    return subprocess.run(command, input=given.encode(), stdout=subprocess.PIPE, cwd=room, check=True).stdout.decode()
+    return subprocess.run(command, input=given, stdout=subprocess.PIPE, cwd=room, check=True).stdout.decode()
 
 
 # The fenced blocks, by the word behind the fence: (word, its arguments, lines).
@@ -63,8 +63,11 @@ def image_of(digits):
 
 
 def answer(image):
-    line = run("listing", "", image).splitlines()[0]
+    line = run("listing", b"", image).splitlines()[0]
     refused = re.fullmatch(r"plan refused (\d+ at \d+)", line)
+    in_pieces = run("check_plan", image)
+    if in_pieces != (line if refused else "accepted") + "\n":
+        complain("listing prints `%s` of an image of %d bytes, and check_plan `%s`" % (line, len(image), in_pieces.rstrip("\n")))
     return refused.group(1) if refused else "accepted"
 
 
@@ -126,10 +129,12 @@ for word, arguments, lines in blocks:
         continue
     program, name = arguments
     script, expected = script_of(lines)
-    if program in ("listing", "simulate", "stuck", "word_counts"):
-        printed = run(program, "".join(line + "\n" for line in script), parts[name]).splitlines()
+    if program == "check_plan":  # its input is the plan
+        printed = run(program, parts[name]).splitlines()
+    elif program in ("listing", "simulate", "stuck", "word_counts"):
+        printed = run(program, "".join(line + "\n" for line in script).encode(), parts[name]).splitlines()
     else:  # these two are given the plan in a line, which `device_vectors` answers
-        printed = run(program, "".join(line + "\n" for line in ["plan " + parts[name].hex().upper()] + script)).splitlines()
+        printed = run(program, "".join(line + "\n" for line in ["plan " + parts[name].hex().upper()] + script).encode()).splitlines()
         printed = printed[1:] if program == "device_vectors" else printed
     counts["blocks of calls"] += 1
     for place in range(max(len(printed), len(expected))):
