@@ -93,6 +93,13 @@ fn word_in(s: &[u8], o: usize) -> u64
     quad_in(s, o) * 0x100000000 + quad_in(s, o + 4)
 }
 
+// The number that eight bytes are.
+pub fn word_of(bytes: [u8; 8]) -> u64
+    ensures { λ r. ⌜ r ≡ wordAt bytes 0 ⌝ }
+{
+    word_in(&bytes, 0)
+}
+
 // The number that the eight bytes at an index are; bytes past the end count as 0.
 pub fn word_at(s: &[u8], o: usize) -> u64
     ensures { λ r. ⌜ r ≡ wordAt (now (s .entry)) o ⌝ }
