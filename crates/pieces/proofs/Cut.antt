@@ -38,10 +38,10 @@ use Rattle.pieces.specs.Pieces.{between, starting, faultyAt, recordTaken
 
 -- ---- a record is told by the bytes of its body
 
-Alike : ℕ → List ℕ → List ℕ → Type 0
+unfoldable pub Alike : ℕ → List ℕ → List ℕ → Type 0
 Alike n x y = (j : ℕ) → j < n → getD x j 0 ≡ getD y j 0
 
-same-record : (k : ℕ) (x y : List ℕ) → (bodyLen k ≡ noLen → ⊥) → Alike (bodyLen k) x y → recordOf k x ≡ recordOf k y
+pub same-record : (k : ℕ) (x y : List ℕ) → (bodyLen k ≡ noLen → ⊥) → Alike (bodyLen k) x y → recordOf k x ≡ recordOf k y
 unfolding recordOf bodyLen wordAt Alike
 same-record k x y u =
     kinds (λ k. Alike (bodyLen k) x y → recordOf k x ≡ recordOf k y) k u

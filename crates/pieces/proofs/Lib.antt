@@ -1,3 +1,4 @@
 pub mod Cut
 pub mod Bytes
 pub mod Taking
+pub mod Gathering

@@ -33,7 +33,7 @@ use Rattle.pieces.specs.Taking.{holding, Holds, PastBegun, Clear, Taking
 use Rattle.pieces.proofs.Bytes.{on-byte}
 use Rattle.pieces.proofs.Cut.{record-at-once, byte-counts, too-many}
 
-neither : (a b : Bool) → (a || b) ≡ false → (a ≡ false) × (b ≡ false)
+pub neither : (a b : Bool) → (a || b) ≡ false → (a ≡ false) × (b ≡ false)
 neither false false e = (refl, refl)
 neither false true e = absurd (false≢true (sym e))
 neither true b e = absurd (false≢true (sym e))

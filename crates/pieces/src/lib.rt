@@ -1,9 +1,11 @@
-// The check of a plan image in pieces: specs/Pieces.antt. What is kept between them is one struct by value, some 500 bytes.
+// The check of a plan image in pieces: specs/Pieces.antt. What is kept between them is one struct by value, some 500 bytes; crate taking does the same in
+// lent bytes.
 ghost use mathlib.Core.Path.{_≡_};
 ghost use mathlib.Core.Bool.{true};
 ghost use Prim.Native.Nat.{_≤_, _<_, _+_, _-_};
 ghost use lib.ListN.{length, set};
 ghost use lib.Dec.{leb};
+ghost use Rattle.rules.specs.Check.{limit};
 ghost use Rattle.pieces.specs.Pieces.{starting, overlong, between, recordTaken, byteOpen, byteTaken, pieceTaken, verdictBy};
 ghost use Rattle.pieces.specs.Taking.{holding, Holds, PastBegun, Clear, Taking};
 ghost use Rattle.pieces.specs.declared.Stage.the-variants.{Open};
@@ -193,7 +195,7 @@ fn records_on(c: Context, taken: u32, piece: &[u8], from: usize) -> Went
     requires { ⌜ (from ≤ length (now piece)) × (taken + (length (now piece) - from) ≤ 49152) ⌝ }
     ensures { λ r. ⌜ Taking (now (piece .entry)) (between c Open taken) from (r .state) (r .next) ⌝ }
 {
-    let p = checker::pass(piece, from, c);
+    let p = judge::pass(piece, from, c);
     let d = p.context;
     let none = [0u8; 12];
     let f = fill(none, 0, piece, p.next);
@@ -326,8 +328,8 @@ fn onward(k: CheckState, piece: &[u8], from: usize) -> Went
 }
 
 // Whether so many bytes more are within the limit.
-fn has_room(taken: u32, n: usize) -> bool
-    ensures { λ b. ⌜ b ≡ leb (taken + n) 49152 ⌝ }
+pub fn has_room(taken: u32, n: usize) -> bool
+    ensures { λ b. ⌜ b ≡ leb (taken + n) limit ⌝ }
 {
     if LIMIT < taken {
         return false;
