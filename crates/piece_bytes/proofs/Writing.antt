@@ -1,68 +1,26 @@
 -- The bytes of a state put, from what the code is told.
-use mathlib.Core.Path.{_≡_, refl, sym, ap, ap₂, _∙_}
+use mathlib.Core.Path.{_≡_, refl, sym, ap, _∙_}
 use mathlib.Core.List.{List, [], _∷_, _++_, append-assoc}
-use Prim.Native.Nat.{ℕ, suc, _+_, _*_, _≤_, _<_}
+use Prim.Native.Nat.{ℕ, _≤_, _<_}
 use native.Mathlib.Omega.{arith}
-use lib.ListN.{length, getD, drop, length-append}
-use lib.Seq.{sets, drop-cons, drop-length}
-use Rattle.words.specs.Word.{putAt, quadBytes, wordBytes}
-use Rattle.words.proofs.Laws.{length-quad, length-word, put-sets, put-not, put-room}
-use Rattle.context.specs.declared.Events.{Events}
-use Rattle.context.specs.declared.Modules.{Modules}
-use Rattle.context.specs.declared.Supervisors.{Supervisors}
+use lib.ListN.{length, length-append}
+use lib.Seq.{sets}
+use Rattle.words.specs.Word.{putAt, quadBytes}
+use Rattle.words.proofs.Laws.{length-quad, put-sets, put-not}
 use Rattle.context.specs.declared.Context.{Context}
-use Rattle.fields.specs.Fields.{flagByte}
 use Rattle.fields.proofs.Writing.{join, next}
+use Rattle.context_bytes.specs.Encoding.{contextBytes}
+use Rattle.context_bytes.proofs.Writing.{context-size}
 use Rattle.pieces.specs.declared.Stage.{Stage}
 use Rattle.pieces.specs.declared.Stage.the-variants.{Open, Ended, Faulty}
 use Rattle.pieces.specs.declared.CheckState.{CheckState}
-use Rattle.piece_bytes.specs.State.{stageByte, stageNumber, stageOffset, stageBytes, keyBytes, countsBytes, eventsBytes, modulesBytes}
-use Rattle.piece_bytes.specs.State.{wordsBytes, supervisorsBytes, contextBytes, stateBytes}
-
--- the eight bytes from 23 on, with a flag's byte
-abbrev pub headBytes : ℕ → Context → List ℕ
-headBytes f c =
-    f ∷ c .last .kind ∷ c .last .first ∷ c .last .second ∷ c .last .third ∷ c .counts .modules ∷ c .counts .supervisors ∷ c .counts .events ∷ []
+use Rattle.piece_bytes.specs.State.{stageByte, stageNumber, stageOffset, stageBytes, stateBytes}
 
 -- ---- how many bytes
 
 pub length-stage : (st : Stage) → length (stageBytes st) ≡ 6
 unfolding stageBytes quadBytes
 length-stage st = refl
-
-pub length-words : (l : List ℕ) → length (wordsBytes l) ≡ length l * 8
-unfolding wordsBytes
-length-words [] = refl
-length-words (x ∷ l) = omega (arith, length-append (wordBytes x) (wordsBytes l), length-word x, length-words l)
-
-pub length-events : (ev : Events) → length (ev .owner) ≡ 64 → length (ev .steps) ≡ 64 → length (eventsBytes ev) ≡ 144
-unfolding eventsBytes
-length-events ev n m =
-    let a : List ℕ = wordBytes (ev .known) in
-    let b : List ℕ = wordBytes (ev .controllable) in
-    let ab : length (a ++ b) ≡ 16 = omega (arith, length-append a b, length-word (ev .known), length-word (ev .controllable)) in
-    omega (arith, n, m, length-append (a ++ b) (ev .owner), length-append (a ++ b ++ ev .owner) (ev .steps))
-
-pub length-modules : (ms : Modules) → length (ms .states) ≡ 16 → length (modulesBytes ms) ≡ 24
-unfolding modulesBytes
-length-modules ms n = omega (arith, n, length-word (ms .known), length-append (wordBytes (ms .known)) (ms .states))
-
-pub length-supervisors : (vs : Supervisors) → length (vs .states) ≡ 32 → length (vs .alphabet) ≡ 32 → length (supervisorsBytes vs) ≡ 296
-unfolding supervisorsBytes
-length-supervisors vs n m =
-    let a : List ℕ = wordBytes (vs .known) in
-    let b : List ℕ = vs .states in
-    omega (arith, n, m, length-word (vs .known), length-words (vs .alphabet), length-append a b, length-append (a ++ b) (wordsBytes (vs .alphabet)))
-
-module _ (c : Context) (ev : length (eventsBytes (c .events)) ≡ 144) (ms : length (modulesBytes (c .modules)) ≡ 24) where
-  length-context : length (supervisorsBytes (c .supervisors)) ≡ 296 → length (contextBytes c) ≡ 472
-  unfolding contextBytes keyBytes countsBytes
-  length-context vs =
-      let a : List ℕ = headBytes (flagByte (c .begun)) c ++ eventsBytes (c .events) in
-      let b : List ℕ = a ++ modulesBytes (c .modules) in
-      let la : length a ≡ 152 = omega (arith, ev, length-append (headBytes (flagByte (c .begun)) c) (eventsBytes (c .events))) in
-      let lb : length b ≡ 176 = omega (arith, ms, la, length-append a (modulesBytes (c .modules))) in
-      omega (arith, lb, vs, length-append b (supervisorsBytes (c .supervisors)))
 
 module _ (k : CheckState) (n : length (k .cut) ≡ 12) where
   length-whole : length (contextBytes (k .context)) ≡ 472 → length (stateBytes k) ≡ 495
@@ -73,32 +31,6 @@ module _ (k : CheckState) (n : length (k .cut) ≡ 12) where
       let la : length a ≡ 10 = omega (arith, length-stage (k .stage), length-quad (k .taken), length-append (stageBytes (k .stage)) (quadBytes (k .taken))) in
       let lb : length b ≡ 23 = omega (arith, la, n, length-append a (k .held ∷ k .cut)) in
       omega (arith, lb, c, length-append b (contextBytes (k .context)))
-
--- ---- the first i words of a list stand there
-
-module _ (o : ℕ) (q l : List ℕ) where
-  abbrev pub Put : List ℕ → ℕ → Type 0
-  Put s i = sets s (o + i * 8) (wordsBytes (drop i q)) ≡ sets l o (wordsBytes q)
-
-  pub put-begin : Put l 0
-  put-begin = let z : o + 0 * 8 ≡ o = omega arith in ap (λ (k : ℕ). sets l k (wordsBytes q)) z
-
-  pub put-on : (s : List ℕ) (i : ℕ) {x : ℕ} {t : List ℕ} → i < length q → o + i * 8 + 8 ≤ length s → x ≡ getD q i 0
-      → t ≡ putAt (wordBytes x) (o + i * 8) s → Put s i → Put t (i + 1)
-  unfolding wordsBytes
-  put-on s i {x} {t} h room e w v =
-      let m : suc i ≡ i + 1 = omega arith in
-      let at : o + (i + 1) * 8 ≡ o + i * 8 + length (wordBytes x) = omega (arith, length-word x) in
-      let rest : List ℕ = wordsBytes (drop (i + 1) q) in
-      let is : wordsBytes (drop i q) ≡ wordBytes x ++ rest =
-      ap wordsBytes (drop-cons q i 0 h) ∙ ap₂ (λ (y k : ℕ). wordBytes y ++ wordsBytes (drop k q)) (sym e) m in
-      ap (λ (z : List ℕ). sets z (o + (i + 1) * 8) rest) (w ∙ put-room s (o + i * 8) x room)
-      ∙ join s (wordBytes x) rest (o + i * 8) (o + (i + 1) * 8) at ∙ ap (sets s (o + i * 8)) (sym is) ∙ v
-
-  pub put-end : (s : List ℕ) (i : ℕ) → length q ≡ i → Put s i → s ≡ sets l o (wordsBytes q)
-  unfolding wordsBytes
-  put-end s i e v =
-      sym (ap (λ (r : List ℕ). sets s (o + i * 8) (wordsBytes r)) (ap (λ (k : ℕ). drop k q) (sym e) ∙ drop-length q)) ∙ v
 
 -- ---- the parts, one behind the other
 
@@ -120,86 +52,19 @@ module _ (l : List ℕ) (room : 495 ≤ length l) where
         let first : s1 ≡ sets l 0 a = h ∙ put-sets a 0 l (omega arith) in
         next l 0 a (quadBytes o) 2 first refl (omega arith) k ∙ ap (λ (x : Stage). sets l 0 (stageBytes x)) (sym e)
 
-  pub events-put : (ev : Events) {s1 s2 s3 s4 : List ℕ} → length (ev .owner) ≡ 64 → length (ev .steps) ≡ 64
-      → s1 ≡ putAt (wordBytes (ev .known)) 31 l → s2 ≡ putAt (wordBytes (ev .controllable)) 39 s1 → s3 ≡ putAt (ev .owner) 47 s2
-      → s4 ≡ putAt (ev .steps) 111 s3 → s4 ≡ sets l 31 (eventsBytes ev)
-  unfolding eventsBytes
-  events-put ev {s1} {s2} {s3} n m e f g h =
-      let a : List ℕ = wordBytes (ev .known) in
-      let b : List ℕ = wordBytes (ev .controllable) in
-      let c : List ℕ = ev .owner in
-      let d : List ℕ = ev .steps in
-      let la : length a ≡ 8 = length-word (ev .known) in
-      let lab : length (a ++ b) ≡ 16 = omega (arith, la, length-append a b, length-word (ev .controllable)) in
-      let labc : length (a ++ b ++ c) ≡ 80 = omega (arith, lab, length-append (a ++ b) c) in
-      let all : length (a ++ b ++ c ++ d) ≡ 144 = length-events ev n m in
-      let p1 : s1 ≡ sets l 31 a = e ∙ put-sets a 31 l (omega arith) in
-      let p2 : s2 ≡ sets l 31 (a ++ b) = next l 31 a b 39 p1 (omega arith) (omega arith) f in
-      let p3 : s3 ≡ sets l 31 (a ++ b ++ c) = next l 31 (a ++ b) c 47 p2 (omega arith) (omega arith) g in
-      next l 31 (a ++ b ++ c) d 111 p3 (omega arith) (omega arith) h
-
-  pub modules-put : (ms : Modules) {s1 s2 : List ℕ} → length (ms .states) ≡ 16 → s1 ≡ putAt (wordBytes (ms .known)) 175 l
-      → s2 ≡ putAt (ms .states) 183 s1 → s2 ≡ sets l 175 (modulesBytes ms)
-  unfolding modulesBytes
-  modules-put ms {s1} n e f =
-      let a : List ℕ = wordBytes (ms .known) in
-      let la : length a ≡ 8 = length-word (ms .known) in
-      let all : length (a ++ ms .states) ≡ 24 = length-modules ms n in
-      let p1 : s1 ≡ sets l 175 a = e ∙ put-sets a 175 l (omega arith) in
-      next l 175 a (ms .states) 183 p1 (omega arith) (omega arith) f
-
-  pub supervisors-put : (vs : Supervisors) {s1 s2 s3 : List ℕ} → length (vs .states) ≡ 32 → s1 ≡ putAt (wordBytes (vs .known)) 199 l
-      → s2 ≡ putAt (vs .states) 207 s1 → s3 ≡ sets s2 239 (wordsBytes (vs .alphabet)) → s3 ≡ sets l 199 (supervisorsBytes vs)
-  unfolding supervisorsBytes
-  supervisors-put vs {s1} {s2} n e f g =
-      let a : List ℕ = wordBytes (vs .known) in
-      let b : List ℕ = vs .states in
-      let c : List ℕ = wordsBytes (vs .alphabet) in
-      let la : length a ≡ 8 = length-word (vs .known) in
-      let lab : length (a ++ b) ≡ 40 = omega (arith, la, length-append a b) in
-      let p1 : s1 ≡ sets l 199 a = e ∙ put-sets a 199 l (omega arith) in
-      let p2 : s2 ≡ sets l 199 (a ++ b) = next l 199 a b 207 p1 (omega arith) (omega arith) f in
-      g ∙ ap (λ (x : List ℕ). sets x 239 c) p2 ∙ join l (a ++ b) c 199 239 (omega arith)
-
-  pub context-put : (c : Context) {f : ℕ} {s1 s2 s3 s4 : List ℕ} → f ≡ flagByte (c .begun) → s1 ≡ putAt (headBytes f c) 23 l
-      → (s2 ≡ sets s1 31 (eventsBytes (c .events))) × (length (eventsBytes (c .events)) ≡ 144)
-      → (s3 ≡ sets s2 175 (modulesBytes (c .modules))) × (length (modulesBytes (c .modules)) ≡ 24)
-      → (s4 ≡ sets s3 199 (supervisorsBytes (c .supervisors))) × (length (supervisorsBytes (c .supervisors)) ≡ 296)
-      → (s4 ≡ sets l 23 (contextBytes c)) × (length (contextBytes c) ≡ 472)
-  unfolding contextBytes keyBytes countsBytes
-  context-put c {f} {s1} {s2} {s3} z e g h k =
-      let a : List ℕ = headBytes (flagByte (c .begun)) c in
-      let b : List ℕ = eventsBytes (c .events) in
-      let d : List ℕ = modulesBytes (c .modules) in
-      let v : List ℕ = supervisorsBytes (c .supervisors) in
-      let lab : length (a ++ b) ≡ 152 = omega (arith, length-append a b, g .1) in
-      let labd : length (a ++ b ++ d) ≡ 176 = omega (arith, lab, length-append (a ++ b) d, h .1) in
-      let p1 : s1 ≡ sets l 23 a = e ∙ ap (λ (y : ℕ). putAt (headBytes y c) 23 l) z ∙ put-sets a 23 l (omega arith) in
-      let p2 : s2 ≡ sets l 23 (a ++ b) = g .0 ∙ ap (λ (x : List ℕ). sets x 31 b) p1 ∙ join l a b 23 31 refl in
-      let p3 : s3 ≡ sets l 23 (a ++ b ++ d) = h .0 ∙ ap (λ (x : List ℕ). sets x 175 d) p2 ∙ join l (a ++ b) d 23 175 (omega arith) in
-      (k .0 ∙ ap (λ (x : List ℕ). sets x 199 v) p3 ∙ join l (a ++ b ++ d) v 23 199 (omega arith), length-context c (g .1) (h .1) (k .1))
-
-  pub state-put : (k : CheckState) {s1 s2 s3 s4 s5 : List ℕ} → length (k .cut) ≡ 12 → s1 ≡ sets l 0 (stageBytes (k .stage))
-      → s2 ≡ putAt (quadBytes (k .taken)) 6 s1 → s3 ≡ putAt (k .held ∷ []) 10 s2 → s4 ≡ putAt (k .cut) 11 s3
-      → (s5 ≡ sets s4 23 (contextBytes (k .context))) × (length (contextBytes (k .context)) ≡ 472) → s5 ≡ putAt (stateBytes k) 0 l
-  unfolding stateBytes
-  state-put k {s1} {s2} {s3} {s4} n e f g h w =
-      let a : List ℕ = stageBytes (k .stage) in
-      let b : List ℕ = quadBytes (k .taken) in
-      let t : List ℕ = k .held ∷ [] in
-      let u : List ℕ = k .held ∷ k .cut in
-      let c : List ℕ = contextBytes (k .context) in
-      let la : length a ≡ 6 = length-stage (k .stage) in
-      let lab : length (a ++ b) ≡ 10 = omega (arith, la, length-append a b, length-quad (k .taken)) in
+  pub front-put : (st : Stage) (taken held : ℕ) (cut : List ℕ) {s1 s2 s3 s4 : List ℕ} → length cut ≡ 12 → s1 ≡ sets l 0 (stageBytes st) → s2 ≡ putAt (quadBytes taken) 6 s1
+      → s3 ≡ putAt (held ∷ []) 10 s2 → s4 ≡ putAt cut 11 s3 → s4 ≡ sets l 0 (stageBytes st ++ quadBytes taken ++ (held ∷ cut))
+  front-put st taken held cut {s1} {s2} {s3} {s4} n e f g h =
+      let a : List ℕ = stageBytes st in
+      let b : List ℕ = quadBytes taken in
+      let t : List ℕ = held ∷ [] in
+      let la : length a ≡ 6 = length-stage st in
+      let lab : length (a ++ b) ≡ 10 = omega (arith, la, length-append a b, length-quad taken) in
       let labt : length (a ++ b ++ t) ≡ 11 = omega (arith, lab, length-append (a ++ b) t) in
-      let cut : length (a ++ b ++ t ++ k .cut) ≡ 23 = omega (arith, labt, n, length-append (a ++ b ++ t) (k .cut)) in
-      let join-cut : a ++ b ++ t ++ k .cut ≡ a ++ b ++ u = append-assoc (a ++ b) t (k .cut) in
-      let labu : length (a ++ b ++ u) ≡ 23 = sym (ap length join-cut) ∙ cut in
-      let all : length (a ++ b ++ u ++ c) ≡ 495 = length-whole k n (w .1) in
+      let all : length (a ++ b ++ t ++ cut) ≡ 23 = omega (arith, labt, n, length-append (a ++ b ++ t) cut) in
       let p2 : s2 ≡ sets l 0 (a ++ b) = next l 0 a b 6 e (omega arith) (omega arith) f in
       let p3 : s3 ≡ sets l 0 (a ++ b ++ t) = next l 0 (a ++ b) t 10 p2 (omega arith) (omega arith) g in
-      let p4 : s4 ≡ sets l 0 (a ++ b ++ u) = next l 0 (a ++ b ++ t) (k .cut) 11 p3 (omega arith) (omega arith) h ∙ ap (sets l 0) join-cut in
-      w .0 ∙ ap (λ (x : List ℕ). sets x 23 c) p4 ∙ join l (a ++ b ++ u) c 0 23 (omega arith) ∙ sym (put-sets (a ++ b ++ u ++ c) 0 l (omega arith))
+      next l 0 (a ++ b ++ t) cut 11 p3 (omega arith) (omega arith) h ∙ ap (sets l 0) (append-assoc (a ++ b) t cut)
 
 -- ---- the whole, and no room for it
 
@@ -207,10 +72,24 @@ module _ (k : CheckState) (cut : length (k .cut) ≡ 12) (owners : length (k .co
     (modules : length (k .context .modules .states) ≡ 16) (states : length (k .context .supervisors .states) ≡ 32)
     (alphabets : length (k .context .supervisors .alphabet) ≡ 32) where
   pub length-state : length (stateBytes k) ≡ 495
-  length-state =
-      let c : Context = k .context in
-      let vs : length (supervisorsBytes (c .supervisors)) ≡ 296 = length-supervisors (c .supervisors) states alphabets in
-      length-whole k cut (length-context c (length-events (c .events) owners steps) (length-modules (c .modules) modules) vs)
+  length-state = length-whole k cut (context-size (k .context) owners steps modules states alphabets)
 
   pub state-narrow : (l : List ℕ) → length l < 495 → l ≡ putAt (stateBytes k) 0 l
   state-narrow l h = sym (put-not (stateBytes k) 0 l (omega (arith, h, length-state)))
+
+module _ (l : List ℕ) (room : 495 ≤ length l) where
+  pub rest-put : (c : Context) {s : List ℕ} → s ≡ putAt (contextBytes c) 23 l → length (contextBytes c) ≡ 472 → s ≡ sets l 23 (contextBytes c)
+  rest-put c e n = e ∙ put-sets (contextBytes c) 23 l (omega (arith, n))
+
+  module _ (k : CheckState) where
+    abbrev front : List ℕ
+    front = stageBytes (k .stage) ++ quadBytes (k .taken) ++ (k .held ∷ k .cut)
+
+    pub state-put : {s1 s2 : List ℕ} → (s1 ≡ sets l 0 front) × (length (k .cut) ≡ 12)
+        → (s2 ≡ sets s1 23 (contextBytes (k .context))) × (length (contextBytes (k .context)) ≡ 472) → s2 ≡ putAt (stateBytes k) 0 l
+    unfolding stateBytes
+    state-put {s1} e w =
+        let c : List ℕ = contextBytes (k .context) in
+        let all : length (front ++ c) ≡ 495 = length-whole k (e .1) (w .1) in
+        let m : length front ≡ 23 = omega (arith, all, w .1, length-append front c) in
+        w .0 ∙ ap (λ (x : List ℕ). sets x 23 c) (e .0) ∙ join l front c 0 23 (omega arith) ∙ sym (put-sets (front ++ c) 0 l (omega arith))

@@ -1,20 +1,15 @@
-// The state of a check in pieces as bytes: specs/State.antt. It is read and put for each piece: the length is tested once, and parts of constant length
-// are copied, which the compiler does in blocks.
+// The state of a check in pieces as bytes: specs/State.antt. What it remembers of the records is put and read by context_bytes.
 ghost use mathlib.Core.Path.{_≡_};
-ghost use Prim.Native.Nat.{_+_, _≤_};
+ghost use mathlib.Core.List.{_∷_, _++_};
+ghost use Prim.Native.Nat.{_≤_};
 ghost use lib.ListN.{length};
 ghost use lib.Seq.{sets};
-ghost use Rattle.words.specs.Word.{putAt};
-ghost use Rattle.piece_bytes.specs.State.{isStage, isState, stageOf, eventsAt, modulesAt, wordsFrom, supervisorsAt, contextAt, stateAt};
-ghost use Rattle.piece_bytes.specs.State.{stageBytes, eventsBytes, modulesBytes, wordsBytes, supervisorsBytes, contextBytes, stateBytes};
+ghost use Rattle.words.specs.Word.{putAt, quadBytes};
+ghost use Rattle.context_bytes.specs.Encoding.{contextBytes};
+ghost use Rattle.piece_bytes.specs.State.{isStage, isState, stageOf, stateAt, stageBytes, stateBytes};
 use context::Context;
-use context::Counts;
-use context::Events;
-use context::Modules;
-use context::Supervisors;
 use pieces::CheckState;
 use pieces::Stage;
-use records::RecordKey;
 
 // ---- read
 
@@ -51,91 +46,6 @@ fn stage_of(x: u8, n: u8, o: u32) -> Stage
     Stage::Faulty(n, o)
 }
 
-fn words_32(s: &[u8], o: usize) -> [u64; 32]
-    requires { ⌜ o + 256 ≤ length (now s) ⌝ }
-    ensures { λ r. ⌜ r ≡ wordsFrom (now (s .entry)) o 32 ⌝ }
-{
-    let mut next = [0u64; 32];
-    let mut i: usize = 0;
-    while i < 32 {
-        next[i] = words::word_at(s, o + i * 8);
-        i += 1;
-    }
-    next
-}
-
-fn events_in(s: &[u8]) -> Events
-    requires { ⌜ 495 ≤ length (now s) ⌝ }
-    ensures { λ r. ⌜ r ≡ eventsAt (now (s .entry)) ⌝ }
-{
-    let known = words::word_at(s, 31);
-    let controllable = words::word_at(s, 39);
-    let mut owner = [0u8; 64];
-    let mut steps = [0u8; 64];
-    words::put_bytes(&mut owner, 0, &s[47..111]);
-    words::put_bytes(&mut steps, 0, &s[111..175]);
-    Events {
-        known,
-        controllable,
-        owner,
-        steps,
-    }
-}
-
-fn modules_in(s: &[u8]) -> Modules
-    requires { ⌜ 495 ≤ length (now s) ⌝ }
-    ensures { λ r. ⌜ r ≡ modulesAt (now (s .entry)) ⌝ }
-{
-    let known = words::word_at(s, 175);
-    let mut states = [0u8; 16];
-    words::put_bytes(&mut states, 0, &s[183..199]);
-    Modules { known, states }
-}
-
-fn supervisors_in(s: &[u8]) -> Supervisors
-    requires { ⌜ 495 ≤ length (now s) ⌝ }
-    ensures { λ r. ⌜ r ≡ supervisorsAt (now (s .entry)) ⌝ }
-{
-    let known = words::word_at(s, 199);
-    let mut states = [0u8; 32];
-    words::put_bytes(&mut states, 0, &s[207..239]);
-    let alphabet = words_32(s, 239);
-    Supervisors {
-        known,
-        states,
-        alphabet,
-    }
-}
-
-fn context_in(s: &[u8]) -> Context
-    requires { ⌜ 495 ≤ length (now s) ⌝ }
-    ensures { λ r. ⌜ r ≡ contextAt (now (s .entry)) ⌝ }
-{
-    let flag = s[23];
-    let last = RecordKey {
-        kind: s[24],
-        first: s[25],
-        second: s[26],
-        third: s[27],
-    };
-    let counts = Counts {
-        modules: s[28],
-        supervisors: s[29],
-        events: s[30],
-    };
-    let events = events_in(s);
-    let modules = modules_in(s);
-    let supervisors = supervisors_in(s);
-    Context {
-        begun: flag == 1,
-        last,
-        counts,
-        events,
-        modules,
-        supervisors,
-    }
-}
-
 fn state_in(s: &[u8]) -> CheckState
     requires { ⌜ 495 ≤ length (now s) ⌝ }
     ensures { λ r. ⌜ r ≡ stateAt (now (s .entry)) ⌝ }
@@ -145,7 +55,7 @@ fn state_in(s: &[u8]) -> CheckState
     let held = s[10];
     let mut cut = [0u8; 12];
     words::put_bytes(&mut cut, 0, &s[11..23]);
-    let context = context_in(s);
+    let context = context_bytes::context_at(s);
     CheckState {
         context,
         cut,
@@ -192,73 +102,23 @@ fn put_stage(s: &mut [u8], st: Stage)
     }
 }
 
-fn put_words(s: &mut [u8], o: usize, a: [u64; 32])
-    requires { ⌜ o + 256 ≤ length (now s) ⌝ }
-    ensures { λ _. ⌜ (now (s .exit) ≡ sets (now (s .entry)) o (wordsBytes a)) × (length (wordsBytes a) ≡ 256) ⌝ }
-{
-    let mut i: usize = 0;
-    while i < 32 {
-        words::put_word(&mut *s, o + i * 8, a[i]);
-        i += 1;
-    }
-}
-
-fn put_events(s: &mut [u8], ev: Events)
+// The bytes before those of what is remembered.
+fn put_front(s: &mut [u8], st: Stage, taken: u32, held: u8, cut: [u8; 12])
     requires { ⌜ 495 ≤ length (now s) ⌝ }
-    ensures { λ _. ⌜ (now (s .exit) ≡ sets (now (s .entry)) 31 (eventsBytes ev)) × (length (eventsBytes ev) ≡ 144) ⌝ }
+    ensures { λ _. ⌜ (now (s .exit) ≡ sets (now (s .entry)) 0 (stageBytes st ++ quadBytes taken ++ (held ∷ cut))) × (length cut ≡ 12) ⌝ }
 {
-    let owner = ev.owner;
-    let steps = ev.steps;
-    words::put_word(&mut *s, 31, ev.known);
-    words::put_word(&mut *s, 39, ev.controllable);
-    words::put_bytes(&mut *s, 47, &owner);
-    words::put_bytes(&mut *s, 111, &steps);
+    put_stage(&mut *s, st);
+    words::put_quad(&mut *s, 6, taken);
+    words::put_bytes(&mut *s, 10, &[held]);
+    words::put_bytes(&mut *s, 11, &cut);
 }
 
-fn put_modules(s: &mut [u8], ms: Modules)
-    requires { ⌜ 495 ≤ length (now s) ⌝ }
-    ensures { λ _. ⌜ (now (s .exit) ≡ sets (now (s .entry)) 175 (modulesBytes ms)) × (length (modulesBytes ms) ≡ 24) ⌝ }
-{
-    let states = ms.states;
-    words::put_word(&mut *s, 175, ms.known);
-    words::put_bytes(&mut *s, 183, &states);
-}
-
-fn put_supervisors(s: &mut [u8], vs: Supervisors)
-    requires { ⌜ 495 ≤ length (now s) ⌝ }
-    ensures { λ _. ⌜ (now (s .exit) ≡ sets (now (s .entry)) 199 (supervisorsBytes vs)) × (length (supervisorsBytes vs) ≡ 296) ⌝ }
-{
-    let states = vs.states;
-    let alphabet = vs.alphabet;
-    words::put_word(&mut *s, 199, vs.known);
-    words::put_bytes(&mut *s, 207, &states);
-    put_words(&mut *s, 239, alphabet);
-}
-
-fn put_context(s: &mut [u8], c: Context)
+// The bytes of what is remembered.
+fn put_rest(s: &mut [u8], c: Context)
     requires { ⌜ 495 ≤ length (now s) ⌝ }
     ensures { λ _. ⌜ (now (s .exit) ≡ sets (now (s .entry)) 23 (contextBytes c)) × (length (contextBytes c) ≡ 472) ⌝ }
 {
-    let p = c.last;
-    let n = c.counts;
-    let events = c.events;
-    let modules = c.modules;
-    let supervisors = c.supervisors;
-    let flag = fields::flag_of(c.begun);
-    let head = [
-        flag,
-        p.kind,
-        p.first,
-        p.second,
-        p.third,
-        n.modules,
-        n.supervisors,
-        n.events,
-    ];
-    words::put_bytes(&mut *s, 23, &head);
-    put_events(&mut *s, events);
-    put_modules(&mut *s, modules);
-    put_supervisors(&mut *s, supervisors);
+    context_bytes::put_context(s, c);
 }
 
 // Puts the bytes of a state at the start, if there is room for all; else the slice stays.
@@ -269,10 +129,7 @@ pub fn put_state(s: &mut [u8], k: CheckState)
         let st = k.stage;
         let cut = k.cut;
         let c = k.context;
-        put_stage(&mut *s, st);
-        words::put_quad(&mut *s, 6, k.taken);
-        words::put_bytes(&mut *s, 10, &[k.held]);
-        words::put_bytes(&mut *s, 11, &cut);
-        put_context(&mut *s, c);
+        put_front(&mut *s, st, k.taken, k.held, cut);
+        put_rest(&mut *s, c);
     }
 }

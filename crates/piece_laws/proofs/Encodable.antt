@@ -22,10 +22,11 @@ use Rattle.pieces.specs.declared.Stage.the-variants.{Open, Ended, Faulty}
 use Rattle.pieces.specs.declared.CheckState.{CheckState}
 use Rattle.pieces.specs.Pieces.{between, faultyAt, recordTaken, longer, byteOpen, byteBy, byteTaken, pieceTaken}
 use Rattle.pieces.proofs.Cut.{short}
-use Rattle.piece_bytes.specs.State.{StageEncodable, ContextEncodable, StateEncodable}
+use Rattle.context_bytes.specs.Encoding.{ContextEncodable}
+use Rattle.piece_bytes.specs.State.{StageEncodable, StateEncodable}
 use Rattle.piece_laws.specs.Laws.{StaysEncodable}
-use Rattle.piece_laws.proofs.Lists.{choose, every-zero, every-set}
-use Rattle.piece_laws.proofs.Contexts.{start-encodable, record-encodable}
+use Rattle.context_bytes.proofs.Lists.{choose, every-zero, every-set}
+use Rattle.context_bytes.proofs.Contexts.{start-encodable, record-encodable}
 
 between-encodable : (c : Context) (st : Stage) (t : ℕ) → ContextEncodable c → StageEncodable st → t < 2 ^ 32 → StateEncodable (between c st t)
 between-encodable c st t h s l =

@@ -1,4 +1,2 @@
-pub mod Lists
-pub mod Contexts
 pub mod Encodable
 pub mod OverBytes

@@ -4,47 +4,25 @@ use borrow.Author.Needs.{needs}
 use Rattle.piece_bytes.proofs.put_state.Statement.{statement}
 use Rattle.piece_bytes.proofs.put_state.Tie as tie
 
-put-stage-requires : tie.Need-put-stage-requires
-put-stage-requires c κs = search needs
+put-front-requires : tie.Need-put-front-requires
+put-front-requires c κs = search needs
 
-put-quad-requires : tie.Need-put-quad-requires
-put-quad-requires c κs = search needs
-
-slice-aggregate-put-bytes : tie.Need-slice-aggregate-put-bytes
-slice-aggregate-put-bytes c = search needs
-
-put-bytes-requires : tie.Need-put-bytes-requires
-put-bytes-requires c κs = search needs
-
-slice-aggregate-put-bytes-2 : tie.Need-slice-aggregate-put-bytes-2
-slice-aggregate-put-bytes-2 c = search needs
-
-put-bytes-requires-2 : tie.Need-put-bytes-requires-2
-put-bytes-requires-2 c κs = search needs
-
-put-context-requires : tie.Need-put-context-requires
-put-context-requires c κs = search needs
+put-rest-requires : tie.Need-put-rest-requires
+put-rest-requires c κs = search needs
 
 same-length : tie.Need-same-length
 same-length c = search needs
 
 returns : tie.Need-returns
-returns c = search (state-put, mapped)
+returns c =
+    let w = c .before .before in
+    let f = w .before .before .before .before in
+    let at = f .before .before .before .before .before .before in
+    state-put (at .args .s .now) (search needs) (at .args .k) (f .put-front .ensures) (w .put-rest .ensures)
 
 returns-2 : tie.Need-returns-2
 returns-2 c = search (state-narrow, mapped)
 
 pub put-state-spec : {M : Type 1} → statement M
 put-state-spec =
-    tie.close
-    (tie.spec
-    put-stage-requires
-    put-quad-requires
-    slice-aggregate-put-bytes
-    put-bytes-requires
-    slice-aggregate-put-bytes-2
-    put-bytes-requires-2
-    put-context-requires
-    same-length
-    returns
-    returns-2)
+    tie.close (tie.spec put-front-requires put-rest-requires same-length returns returns-2)

@@ -36,8 +36,8 @@ part-put-bytes-end c = search needs
 put-bytes-requires : tie.Need-put-bytes-requires
 put-bytes-requires c κs = search needs
 
-context-in-requires : tie.Need-context-in-requires
-context-in-requires c κs = search needs
+context-at-requires : tie.Need-context-at-requires
+context-at-requires c κs = search needs
 
 returns : tie.Need-returns
 returns c = search state-read
@@ -57,5 +57,5 @@ state-in-spec =
     part-put-bytes-start
     part-put-bytes-end
     put-bytes-requires
-    context-in-requires
+    context-at-requires
     returns)

@@ -17,8 +17,8 @@ use Rattle.context.specs.declared.Modules.{Modules}
 use Rattle.context.specs.declared.Supervisors.{Supervisors}
 use Rattle.context.specs.declared.Context.{Context}
 use Rattle.context.proofs.Tables.{with-entry-length, with-bit-fits}
-use Rattle.piece_bytes.specs.State.{Words, ContextEncodable}
-use Rattle.piece_laws.proofs.Lists.{every-zero, every-entry}
+use Rattle.context_bytes.specs.Encoding.{Words, ContextEncodable}
+use Rattle.context_bytes.proofs.Lists.{every-zero, every-entry}
 
 abbrev KeySmall : RecordKey → Type 0
 KeySmall q = Byte (q .kind) × Byte (q .first) × Byte (q .second) × Byte (q .third)
@@ -70,7 +70,7 @@ whole q n ev ms vs =
       supervisors-known = vs .known;
       all-supervisors = vs .all;
       supervisor-states = vs .states;
-      alphabets = vs .alphabets;
+      all-alphabets = vs .alphabets;
       alphabet = vs .alphabet;
     }
 
@@ -112,7 +112,7 @@ module _ (c : Context) (h : ContextEncodable c) where
         known = h .supervisors-known;
         all = h .all-supervisors;
         states = h .supervisor-states;
-        alphabets = h .alphabets;
+        alphabets = h .all-alphabets;
         alphabet = h .alphabet;
       }
 
@@ -152,7 +152,7 @@ module _ (c : Context) (h : ContextEncodable c) where
         known = with-bit-fits 32 _ n true (h .supervisors-known);
         all = with-entry-length 32 _ n st (h .all-supervisors);
         states = every-entry Byte st p 32 _ n (h .supervisor-states);
-        alphabets = with-entry-length 32 _ n a (h .alphabets);
+        alphabets = with-entry-length 32 _ n a (h .all-alphabets);
         alphabet = every-entry Word a w 32 _ n (h .alphabet);
       }
 

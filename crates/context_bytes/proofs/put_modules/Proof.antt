@@ -1,8 +1,8 @@
 use Rattle.words.proofs.Laws.{mapped}
-use Rattle.piece_bytes.proofs.Writing.{modules-put, length-modules}
+use Rattle.context_bytes.proofs.Writing.{modules-put, length-modules}
 use borrow.Author.Needs.{needs}
-use Rattle.piece_bytes.proofs.put_modules.Statement.{statement}
-use Rattle.piece_bytes.proofs.put_modules.Tie as tie
+use Rattle.context_bytes.proofs.put_modules.Statement.{statement}
+use Rattle.context_bytes.proofs.put_modules.Tie as tie
 
 put-word-requires : tie.Need-put-word-requires
 put-word-requires c κs = search needs

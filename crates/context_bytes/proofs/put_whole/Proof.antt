@@ -1,7 +1,7 @@
-use Rattle.piece_bytes.proofs.Writing.{context-put}
+use Rattle.context_bytes.proofs.Writing.{context-put}
 use borrow.Author.Needs.{needs}
-use Rattle.piece_bytes.proofs.put_context.Statement.{statement}
-use Rattle.piece_bytes.proofs.put_context.Tie as tie
+use Rattle.context_bytes.proofs.put_whole.Statement.{statement}
+use Rattle.context_bytes.proofs.put_whole.Tie as tie
 
 flag-of-requires : tie.Need-flag-of-requires
 flag-of-requires c κs = search needs
@@ -35,8 +35,8 @@ returns c =
     context-put (at .args .s .now) (at .pre) (at .args .c) (f .flag-of .ensures) (b .put-bytes .ensures) (e .put-events .ensures) (m .put-modules .ensures)
     (v .put-supervisors .ensures)
 
-pub put-context-spec : {M : Type 1} → statement M
-put-context-spec =
+pub put-whole-spec : {M : Type 1} → statement M
+put-whole-spec =
     tie.close
     (tie.spec
     flag-of-requires

@@ -1,7 +1,7 @@
-use Rattle.piece_bytes.specs.State.{keyAt, countsAt, contextAt}
+use Rattle.context_bytes.specs.Encoding.{keyAt, countsAt, contextAt}
 use borrow.Author.Needs.{needs}
-use Rattle.piece_bytes.proofs.context_in.Statement.{statement}
-use Rattle.piece_bytes.proofs.context_in.Tie as tie
+use Rattle.context_bytes.proofs.context_in.Statement.{statement}
+use Rattle.context_bytes.proofs.context_in.Tie as tie
 
 shared-slice-read-flag : tie.Need-shared-slice-read-flag
 shared-slice-read-flag c = search needs

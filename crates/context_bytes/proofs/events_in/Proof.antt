@@ -1,7 +1,7 @@
-use Rattle.piece_bytes.proofs.Reading.{events-read}
+use Rattle.context_bytes.proofs.Reading.{events-read}
 use borrow.Author.Needs.{needs}
-use Rattle.piece_bytes.proofs.events_in.Statement.{statement}
-use Rattle.piece_bytes.proofs.events_in.Tie as tie
+use Rattle.context_bytes.proofs.events_in.Statement.{statement}
+use Rattle.context_bytes.proofs.events_in.Tie as tie
 
 word-at-requires : tie.Need-word-at-requires
 word-at-requires c κs = search needs

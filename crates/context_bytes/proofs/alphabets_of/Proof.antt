@@ -3,15 +3,15 @@ use mathlib.Core.Path.{_≡_, refl}
 use Prim.Native.Nat.{_-_, _≤_}
 use Rattle.words.specs.Lists.{listFrom}
 use Rattle.words.proofs.Lists.{filled}
-use Rattle.piece_bytes.proofs.Reading.{wordOf, words-on, words-done}
-use Rattle.piece_bytes.proofs.words_32.Statement.{statement}
-use Rattle.piece_bytes.proofs.words_32.Tie as tie
+use Rattle.context_bytes.proofs.Reading.{wordOf, words-on, words-done}
+use Rattle.context_bytes.proofs.alphabets_of.Statement.{statement}
+use Rattle.context_bytes.proofs.alphabets_of.Tie as tie
 
 abbrev Inv-loop : tie.InvT-loop
-Inv-loop s o next₀ i₀ next i = (i ≤ 32) × (next ≡ filled (wordOf s o) 0 32 i)
+Inv-loop s next₀ i₀ next i = (i ≤ 32) × (next ≡ filled (wordOf s) 0 32 i)
 
 abbrev μ-loop : tie.MeasureT-loop
-μ-loop s o next₀ i₀ next i = 32 - i
+μ-loop s next₀ i₀ next i = 32 - i
 
 loop-holds : tie.Need-loop-holds Inv-loop μ-loop
 unfolding listFrom
@@ -19,9 +19,6 @@ loop-holds c = (search needs, refl)
 
 mul-word-at : tie.Need-mul-word-at Inv-loop μ-loop
 mul-word-at c = search needs
-
-add-word-at : tie.Need-add-word-at Inv-loop μ-loop
-add-word-at c = search needs
 
 word-at-requires : tie.Need-word-at-requires Inv-loop μ-loop
 word-at-requires c κs = search needs
@@ -44,15 +41,14 @@ loop-again c = (search needs, search words-on)
 returns : tie.Need-returns Inv-loop μ-loop
 returns c = search words-done
 
-pub words-32-spec : {M : Type 1} → statement M
-words-32-spec =
+pub alphabets-of-spec : {M : Type 1} → statement M
+alphabets-of-spec =
     tie.close
     (tie.spec
     Inv-loop
     μ-loop
     loop-holds
     mul-word-at
-    add-word-at
     word-at-requires
     mul-next
     array-write-next

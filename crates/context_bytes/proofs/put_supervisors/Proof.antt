@@ -1,8 +1,8 @@
 use Rattle.words.proofs.Laws.{mapped}
-use Rattle.piece_bytes.proofs.Writing.{supervisors-put, length-supervisors}
+use Rattle.context_bytes.proofs.Writing.{supervisors-put, length-supervisors}
 use borrow.Author.Needs.{needs}
-use Rattle.piece_bytes.proofs.put_supervisors.Statement.{statement}
-use Rattle.piece_bytes.proofs.put_supervisors.Tie as tie
+use Rattle.context_bytes.proofs.put_supervisors.Statement.{statement}
+use Rattle.context_bytes.proofs.put_supervisors.Tie as tie
 
 put-word-requires : tie.Need-put-word-requires
 put-word-requires c κs = search needs

@@ -4,9 +4,9 @@ use Prim.Native.Nat.{_-_, _≤_}
 use native.Mathlib.Omega.{arith}
 use lib.ListN.{length}
 use Rattle.words.proofs.Laws.{mapped}
-use Rattle.piece_bytes.proofs.Writing.{Put, put-begin, put-on, put-end, length-words}
-use Rattle.piece_bytes.proofs.put_words.Statement.{statement}
-use Rattle.piece_bytes.proofs.put_words.Tie as tie
+use Rattle.context_bytes.proofs.Writing.{Put, put-begin, put-on, put-end, length-words}
+use Rattle.context_bytes.proofs.put_words.Statement.{statement}
+use Rattle.context_bytes.proofs.put_words.Tie as tie
 
 abbrev Inv-loop : tie.InvT-loop
 Inv-loop s₀ o a i₀ s i = Put o a s₀ s i × (length s ≡ length s₀) × (i ≤ 32)

@@ -1,7 +1,7 @@
-use Rattle.piece_bytes.proofs.Reading.{supervisors-read}
+use Rattle.context_bytes.proofs.Reading.{modules-read}
 use borrow.Author.Needs.{needs}
-use Rattle.piece_bytes.proofs.supervisors_in.Statement.{statement}
-use Rattle.piece_bytes.proofs.supervisors_in.Tie as tie
+use Rattle.context_bytes.proofs.modules_in.Statement.{statement}
+use Rattle.context_bytes.proofs.modules_in.Tie as tie
 
 word-at-requires : tie.Need-word-at-requires
 word-at-requires c κs = search needs
@@ -21,14 +21,11 @@ part-put-bytes-end c = search needs
 put-bytes-requires : tie.Need-put-bytes-requires
 put-bytes-requires c κs = search needs
 
-words-32-requires : tie.Need-words-32-requires
-words-32-requires c κs = search needs
-
 returns : tie.Need-returns
-returns c = search supervisors-read
+returns c = search modules-read
 
-pub supervisors-in-spec : {M : Type 1} → statement M
-supervisors-in-spec =
+pub modules-in-spec : {M : Type 1} → statement M
+modules-in-spec =
     tie.close
     (tie.spec
     word-at-requires
@@ -37,5 +34,4 @@ supervisors-in-spec =
     part-put-bytes-start
     part-put-bytes-end
     put-bytes-requires
-    words-32-requires
     returns)
