@@ -5,7 +5,7 @@ use mathlib.Core.Bool.{Bool, true, false, cond, not, _&&_}
 use Prim.Native.Nat.{ℕ, suc, _+_, _≤_, _<_}
 use native.Mathlib.Nat.{zero-add}
 use native.Mathlib.Omega.{arith}
-use lib.ListN.{length, drop-of-length-le}
+use lib.ListN.{length, replicate, drop-of-length-le}
 use lib.Dec.{eqb}
 use borrow.Author.Tests.{ne-eqb, eqb-true, lt-ltb, le-ltb}
 use Rattle.bits.specs.Bit.{bit, allBelow}
@@ -25,6 +25,8 @@ use Rattle.places.specs.Places.{nowhere, placeBy, notedAt, notedIn, placesOf}
 use Rattle.places.specs.declared.Places.{Places}
 use Rattle.rules.specs.Check.{endAt, checkWalk, verdictOf, limit}
 use Rattle.rules.specs.declared.Verdict.the-variants.{Accepted as VerdictAccepted, Refused as VerdictRefused}
+use Rattle.words.specs.Word.{wordAt}
+use Rattle.context_bytes.specs.Encoding.{wordsFrom, alphabets}
 use Rattle.context.specs.declared.Counts.{Counts}
 use Rattle.context.specs.declared.Events.{Events}
 use Rattle.context.specs.declared.Modules.{Modules}
@@ -197,6 +199,16 @@ module _ (s : List ℕ) (n : Counts) (known controllable : ℕ) (owner steps : L
       further s (past s 0x18 (e (r counts)) g)
       (further s (past s 0x17 (d (r steps)) z)
       (further s (past s 0x16 (c (r steps)) y) (further s (past s 0x15 (b (r steps)) u) (past s 0x14 (a (r steps)) w))))
+
+-- the alphabets by another name
+pub with-alphabets : (s : List ℕ) (q : RecordKey) (n : Counts) (ev : Events) (ms : Modules) (known i : ℕ) (states l : List ℕ) {p : Places} {own : List ℕ} → own ≡ l
+    → Reached s (contextBy q n ev ms (supervisorsBy known states l)) i p → Reached s (contextBy q n ev ms (supervisorsBy known states own)) i p
+with-alphabets s q n ev ms known i states l {p} e h = subst (λ (x : List ℕ). Reached s (contextBy q n ev ms (supervisorsBy known states x)) i p) (sym e) h
+
+-- those of no supervisor yet
+pub no-alphabets : alphabets (replicate 256 0) ≡ replicate 32 0
+unfolding wordsFrom wordAt
+no-alphabets = refl
 
 -- ---- the end record where the stretches stop
 

@@ -7,14 +7,16 @@ use Prim.Native.Nat.{ℕ, _+_, _-_, _*_, _%_, _^_, _≤_, _<_}
 use native.Mathlib.Nat.{le-refl, lt-of-le-of-lt, mod-eq-of-lt}
 use native.Mathlib.Omega.{arith}
 use lib.ListN.{length, getD, set, drop}
-use lib.Seq.{getD-drop}
+use lib.Seq.{sets, getD-drop}
 use lib.Dec.{eqb, leb, ltb, leb→le}
 use borrow.Author.Tests.{not-false, lt-ltb, ltb-true, ltb-false, leb-true, eqb-true, eq-eqb, ne-eqb, lt-leb}
 use lib.Bits.{bitAnd}
 use Rattle.bits.specs.Bit.{bit, allBelow, everyEvent, putBit}
 use Rattle.bits.proofs.Laws.{all-at, bit-and, bit-above, bit-low-ones, shl-one}
-use Rattle.words.specs.Word.{wordAt}
-use Rattle.words.proofs.Laws.{word-drop}
+use Rattle.words.specs.Word.{putAt, wordAt, wordBytes}
+use Rattle.words.proofs.Laws.{word-drop, length-word, put-sets}
+use Rattle.context_bytes.specs.Encoding.{alphabets}
+use Rattle.context_bytes.proofs.Regions.{words-at, words-set}
 use Rattle.records.specs.Kinds.{kindOf, bodyLen, noLen, sizeBy}
 use Rattle.records.specs.Key.{keyBy, keyOf, precedes}
 use Rattle.records.specs.Range.{inRange}
@@ -83,6 +85,10 @@ module _ (s : List ℕ) (i k n : ℕ) {t : Bool} (e : t ≡ standsAt s i k n) (h
 
     pub fields-by : 0x11 ≤ k → k ≤ 0x17 → i + 4 ≤ length s
     fields-by a b = let r : i + n ≤ length s = room-by in let l : 4 ≤ n = long k n z a b in omega arith
+
+    -- eight bytes within the record
+    pub word-by : (m : ℕ) → m + 8 ≤ sizeBy k → i + m + 8 ≤ length s
+    word-by m q = let r : i + n ≤ length s = room-by in omega (arith, z)
 
     -- a field's offset
     pub inside-by : (m : ℕ) → 0x11 ≤ k → k ≤ 0x17 → m ≤ 4 → length s < 2 ^ 64 → i + m < 2 ^ 64
@@ -180,6 +186,26 @@ pub index-by : (k e m : ℕ) (o w : Bool) → k ≡ e → not ((o && ltb e m) &&
 index-by k e m o w q h =
     let l : e < m = ltb-true e m (both o (ltb e m) (both (o && ltb e m) w (not-false _ h) .0) .1) in
     omega arith
+
+-- the same into a list of that many
+pub index-in : (l : List ℕ) (k e m : ℕ) (o w : Bool) → length l ≡ m → k ≡ e → not ((o && ltb e m) && w) ≡ false → k < length l
+index-in l k e m o w n q h = let i : k < m = index-by k e m o w q h in omega (arith, n)
+
+-- the alphabet of a supervisor, in bytes
+pub own-at : (l : List ℕ) (k e : ℕ) {own : ℕ} → own ≡ wordAt l (k * 8) → k ≡ e → e < 32 → own ≡ getD (alphabets l) k 0
+own-at l k e w q h = w ∙ ap (wordAt l) (let z : k * 8 ≡ 0 + k * 8 = omega arith in z) ∙ sym (words-at l 0 32 k (omega arith))
+
+pub own-room : (l : List ℕ) (k e : ℕ) → length l ≡ 256 → k ≡ e → e < 32 → k * 8 + 8 ≤ length l
+own-room l k e n q h = omega (arith, n)
+
+pub own-put : (l : List ℕ) (k e x : ℕ) (o w : Bool) {next : List ℕ} → length l ≡ 256 → x < 2 ^ 64 → k ≡ e → not ((o && ltb e 32) && w) ≡ false → next ≡ putAt (wordBytes x) (k * 8) l
+    → alphabets next ≡ set (alphabets l) k x
+own-put l k e x o w n f q h p =
+    let i : k < 32 = index-by k e 32 o w q h in
+    let m : length (wordBytes x) ≡ 8 = length-word x in
+    let z : k * 8 ≡ 0 + k * 8 = omega arith in
+    ap alphabets (p ∙ put-sets (wordBytes x) (k * 8) l (omega (arith, n, m))) ∙ ap (λ (y : ℕ). alphabets (sets l y (wordBytes x))) z
+    ∙ words-set l x f 0 32 k i (omega (arith, n))
 
 -- ---- the places
 
@@ -350,10 +376,10 @@ module _ (s : List ℕ) (c : Context → Context) (i : ℕ) (n : Counts) (p : Re
 
   pub supervisor-step : (events known : ℕ) (states alphabet : List ℕ) {a x : ℕ} {kept : Bool} → bytes ≡ sizeBy 0x14 → b ≡ standsAt s j 0x14 bytes → not b ≡ false → x ≡ wordAt s (j + 4)
       → kept ≡ supervisorKept f x n events → o ≡ precedes p (keyBy 0x14 (f .first) 0 0) → not ((o && ltb (f .first) 32) && kept) ≡ false → a ≡ putBit known (f .first) true
-      → Passed s 0x14 c i (atSupervisors p n events known states alphabet) j
-      → Passed s 0x14 c i (atSupervisors (keyBy 0x14 (f .first) 0 0) n events a (set states k (f .second)) (set alphabet k x)) (j + bytes)
+      → {next : List ℕ} → next ≡ set alphabet k x → Passed s 0x14 c i (atSupervisors p n events known states alphabet) j
+      → Passed s 0x14 c i (atSupervisors (keyBy 0x14 (f .first) 0 0) n events a (set states k (f .second)) next) (j + bytes)
   unfolding Passed atSupervisors judgeBy orderBy indexBy namesBy rulesBy allBy keyOf kindOf countsAfter eventsAfter modulesAfter supervisorsAfter withEntry withBit
-  supervisor-step events known states alphabet {a} {x} {kept} sized e b1 x1 n1 o1 h a1 v r =
+  supervisor-step events known states alphabet {a} {x} {kept} sized e b1 x1 n1 o1 h a1 {next} put v r =
       let y = both (o && ltb (f .first) 32) kept (not-false _ h) in
       let q = both o (ltb (f .first) 32) (y .0) in
       let m = both (inRange (Supervisor (f .first) (f .second) (f .third) x)) (ltb (f .first) (n .supervisors) && ltb (f .third) (f .second) && everyEvent x (bit events))
@@ -364,7 +390,7 @@ module _ (s : List ℕ) (c : Context → Context) (i : ℕ) (n : Counts) (p : Re
       (simp (sym o1 ∙ q .0, m .0, m .1)) refl refl (λ z. absurd (omega arith)) (v r)
       in
       let w : withRecord (atSupervisors p n events known states alphabet r) (Supervisor (f .first) (f .second) (f .third) x)
-      ≡ atSupervisors (keyBy 0x14 (f .first) 0 0) n events a (set states k (f .second)) (set alphabet k x) r = simp (q .1) cc
+      ≡ atSupervisors (keyBy 0x14 (f .first) 0 0) n events a (set states k (f .second)) next r = simp (q .1) cc
       in
       subst (λ (x : Context). Stretch s 0x14 (c r) i x (j + bytes)) w d
 
@@ -384,12 +410,12 @@ module _ (s : List ℕ) (c : Context → Context) (i : ℕ) (n : Counts) (p : Re
       reaches s 0x13 (j + bytes) (reads-module-move s j g sized (stands-told s j 0x13 bytes e b1)) (omega (arith, sized))
       (simp (sym o1 ∙ t .0, z .owner, z .from, z .event, z .to, w2 ∙ q .1)) refl refl (λ z. absurd (omega arith)) (v r)
 
-  pub supervisor-move-step : (events known : ℕ) (states alphabet : List ℕ) (a m : ℕ) {kept : Bool} → Below known (n .supervisors) a → Below events (n .events) m
-      → bytes ≡ sizeBy 0x15 → b ≡ standsAt s j 0x15 bytes → not b ≡ false → f .first < 32 → kept ≡ moveNamed f a (getD states k 0) (bitAnd m (getD alphabet k 0))
+  pub supervisor-move-step : (events known : ℕ) (states alphabet : List ℕ) (a m : ℕ) {own : ℕ} {kept : Bool} → Below known (n .supervisors) a → Below events (n .events) m
+      → bytes ≡ sizeBy 0x15 → b ≡ standsAt s j 0x15 bytes → not b ≡ false → f .first < 32 → own ≡ getD alphabet k 0 → kept ≡ moveNamed f a (getD states k 0) (bitAnd m own)
       → o ≡ precedes p (keyBy 0x15 (f .first) (f .second) (f .third)) → not (o && kept) ≡ false → Passed s 0x15 c i (atSupervisors p n events known states alphabet) j
       → Passed s 0x15 c i (atSupervisors (keyBy 0x15 (f .first) (f .second) (f .third)) n events known states alphabet) (j + bytes)
   unfolding Passed atSupervisors judgeBy orderBy indexBy namesBy rulesBy allBy inRange keyOf kindOf countsAfter eventsAfter modulesAfter supervisorsAfter
-  supervisor-move-step events known states alphabet a m {kept} u1 u2 sized e b1 l n1 o1 h v r =
+  supervisor-move-step events known states alphabet a m {own} {kept} u1 u2 sized e b1 l w1 n1 o1 h v r =
       let q = both o kept (not-false _ h) in
       let x : ℕ = getD alphabet (f .first) 0 in
       let n2 : moveNamed f a (getD states (f .first) 0) (bitAnd m x) ≡ kept = cc in
@@ -398,13 +424,13 @@ module _ (s : List ℕ) (c : Context → Context) (i : ℕ) (n : Counts) (p : Re
       reaches s 0x15 (j + bytes) (reads-supervisor-move s j g sized (stands-told s j 0x15 bytes e b1)) (omega (arith, sized))
       (simp (sym o1 ∙ q .0, z .owner, z .from, z .event, z .to, t .1)) refl refl (λ z. absurd (omega arith)) (v r)
 
-  pub disabling-step : (events controllable known : ℕ) (states alphabet : List ℕ) {x : ℕ} {w kept : Bool} → bytes ≡ sizeBy 0x16 → b ≡ standsAt s j 0x16 bytes → not b ≡ false → f .first < 32
+  pub disabling-step : (events controllable known : ℕ) (states alphabet : List ℕ) {x own : ℕ} {w kept : Bool} → own ≡ getD alphabet k 0 → bytes ≡ sizeBy 0x16 → b ≡ standsAt s j 0x16 bytes → not b ≡ false → f .first < 32
       → x ≡ wordAt s (j + 3) → kept ≡ disablingNamed f x (n .supervisors) known (getD states k 0) events → o ≡ precedes p (keyBy 0x16 (f .first) (f .second) 0)
-      → w ≡ everyEvent x (bit (bitAnd controllable (getD alphabet k 0))) → not (((o && not (eqb x 0)) && kept) && w) ≡ false
+      → w ≡ everyEvent x (bit (bitAnd controllable own)) → not (((o && not (eqb x 0)) && kept) && w) ≡ false
       → Passed s 0x16 c i (atDisablings p n events controllable known states alphabet) j
       → Passed s 0x16 c i (atDisablings (keyBy 0x16 (f .first) (f .second) 0) n events controllable known states alphabet) (j + bytes)
   unfolding Passed atDisablings judgeBy orderBy indexBy namesBy rulesBy allBy inRange keyOf kindOf countsAfter eventsAfter modulesAfter supervisorsAfter
-  disabling-step events controllable known states alphabet {x} {w} {kept} sized e b1 l x1 n1 o1 w1 h v r =
+  disabling-step events controllable known states alphabet {x} {own} {w} {kept} own1 sized e b1 l x1 n1 o1 w1 h v r =
       let q = both ((o && not (eqb x 0)) && kept) w (not-false _ h) in
       let m = both (o && not (eqb x 0)) kept (q .0) in
       let t = both o (not (eqb x 0)) (m .0) in

@@ -1,12 +1,12 @@
 -- What it is to pass a stretch of records of one kind that are not faulty. These are steps of a proof and need not be read: what a check gives is
--- `verdictOf` of rules/specs/Check, with the places of the records `examinedOf` of Examined, and how far it goes without an answer `pastFrom` of
--- judge/specs/Past; the contracts of `check`, `examine` and `pass` say it by these.
+-- `verdictOf` of rules/specs/Check, with the places of the records `examinedOf` of Examined, and how far it goes without an answer `pastIn` and
+-- `pastBytes` of InPlace; the contracts of `check`, `examine` and `pass` say it by these.
 use Prim.Native.Nat.{ℕ, _≤_, _<_}
 use mathlib.Core.Path.{_≡_}
 use mathlib.Core.Logic.{_⊎_}
 use mathlib.Core.List.{List}
 use mathlib.Core.Bool.{true, cond, not, _&&_}
-use lib.ListN.{length, replicate}
+use lib.ListN.{length, getD, replicate}
 use lib.Dec.{eqb, ltb}
 use Rattle.bits.specs.Bit.{bit}
 use Rattle.records.specs.Kinds.{kindOf}
@@ -23,6 +23,7 @@ use Rattle.context.specs.declared.Modules.{Modules}
 use Rattle.context.specs.declared.Supervisors.{Supervisors}
 use Rattle.context.specs.declared.Context.{Context}
 use Rattle.judge.specs.Judge.{judgeBy}
+use Rattle.context_bytes.specs.Encoding.{contextAt}
 use Rattle.judge.specs.Represents.{checkBy}
 
 -- how far whole records go that are faultless and no end record, as `pastBy` of judge/specs/Past has it, with the records from there on
@@ -52,11 +53,6 @@ pub record Stretch (s : List ℕ) (k : ℕ) (c : Context) (i : ℕ) (d : Context
 pub record Span (s : List ℕ) (c : Context) (i : ℕ) (p : Places) (d : Context) (j : ℕ) (q : Places) : Type 0 where
   pub same : restOf d (walkFrom s j) ≡ restOf c (walkFrom s i)
   pub notes : notedIn q (d .last .kind) (walkFrom s j) ≡ notedIn p (c .last .kind) (walkFrom s i)
-
--- the same of a check that has a record behind it, whatever places are noted
-pub record Onward (s : List ℕ) (c : Context) (i : ℕ) (d : Context) (j : ℕ) : Type 0 where
-  pub begun : d .begun ≡ true
-  pub same : restOf d (walkFrom s j) ≡ restOf c (walkFrom s i)
 
 -- the same whatever else is remembered
 unfoldable pub Passed : List ℕ → ℕ → (Context → Context) → ℕ → (Context → Context) → ℕ → Type 0
@@ -107,6 +103,18 @@ abbrev pub headed : Counts → Context
 headed n =
     contextBy (keyBy 0x10 0 0 0) n (eventsBy 0 0 (replicate 64 0) (replicate 64 0)) (modulesBy 0 (replicate 16 0))
     (supervisorsBy 0 (replicate 32 0) (replicate 32 0))
+
+-- ---- where what is remembered stands in the bytes of a state
+
+-- a whole state's bytes, after a faultless record
+abbrev pub AfterRecord : List ℕ → Type 0
+AfterRecord b = (length b ≡ 495) × (getD b 23 0 ≡ 1)
+
+-- from the offset i, with what the bytes b remember, on to j, with what the bytes x remember
+pub record OnwardIn (s b : List ℕ) (i : ℕ) (x : List ℕ) (j : ℕ) : Type 0 where
+  pub same : restOf (contextAt x) (walkFrom s j) ≡ restOf (contextAt b) (walkFrom s i)
+  pub front : (n : ℕ) → n < 24 → getD x n 0 ≡ getD b n 0
+  pub size : length x ≡ 495
 
 -- r has the bits of the mask m that are below n
 unfoldable pub Below : ℕ → ℕ → ℕ → Type 0

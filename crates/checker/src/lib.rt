@@ -1,23 +1,28 @@
-// The check of a plan image, in one pass over its records: those of each kind in a loop of their own, and the judge where these stop.
+// The check of a plan image, in one pass over its records: those of each kind in a loop of their own, and the judge where these stop. `pass` goes by the
+// same loops from any offset, with what the bytes of a check's state remember.
 ghost use mathlib.Core.Path.{_≡_};
-ghost use mathlib.Core.Bool.{true};
 ghost use lib.ListN.{length, getD, replicate};
 ghost use lib.Dec.{eqb};
 ghost use Prim.Native.Nat.{_+_, _%_, _≤_, _<_};
 ghost use Rattle.rules.specs.Check.{verdictOf, endAt};
 ghost use Rattle.places.specs.Places.{nowhere};
 ghost use Rattle.checker.specs.Examined.{examinedBy, examinedOf, ExaminedAs};
-ghost use Rattle.judge.specs.Past.{pastFrom};
-ghost use Rattle.checker.specs.Stretch.{Reached, Onward, Passed, notedPast, contextBy, eventsBy, modulesBy, supervisorsBy, headed};
+ghost use Rattle.checker.specs.InPlace.{pastIn, pastBytes};
+ghost use Rattle.checker.specs.Stretch.{AfterRecord, OnwardIn};
+ghost use Rattle.words.specs.Word.{putAt, wordAt};
+ghost use Rattle.reader.specs.Read.{readAt};
+ghost use Rattle.reader.specs.declared.Read.the-variants.{Whole};
+ghost use Rattle.context_bytes.specs.Encoding.{keyAt, keyBytes, countsAt};
+ghost use Rattle.checker.specs.Stretch.{Reached, Passed, notedPast, contextBy, eventsBy, modulesBy, supervisorsBy, headed};
 ghost use Rattle.checker.specs.Stretch.{atEvents, atModules, atModuleMoves, atSupervisors, atDisablings, atSteps};
 ghost use Rattle.checker.specs.Stretch.{Below};
+ghost use Rattle.context_bytes.specs.Encoding.{alphabets};
 ghost use Rattle.record_tests.specs.Tests.{fieldsAt};
 use context::Context;
 use context::Counts;
 use context::Events;
 use context::Modules;
 use context::Supervisors;
-use judge::Past;
 use places::Places;
 use reader::Read;
 use record_tests::Fields;
@@ -80,9 +85,26 @@ fn below(m: u64, n: u8) -> u64
     }
 }
 
+// The eight bytes at an index as a number, as the private function of words has it, which tests no byte, so that the compiler can read them as one word.
+fn word_in(s: &[u8], o: usize) -> u64
+    requires { ⌜ o + 8 ≤ length (now s) ⌝ }
+    ensures { λ r. ⌜ r ≡ wordAt (now (s .entry)) o ⌝ }
+{
+    words::word_of([
+        s[o],
+        s[o + 1],
+        s[o + 2],
+        s[o + 3],
+        s[o + 4],
+        s[o + 5],
+        s[o + 6],
+        s[o + 7],
+    ])
+}
+
 // Whether the event that a respond step names is of the same module.
-fn same_module(owner: &[u8; 64], event: u8, operand: u64) -> bool
-    requires { ⌜ event < 64 ⌝ }
+fn same_module(owner: &[u8], event: u8, operand: u64) -> bool
+    requires { ⌜ (length (now owner) ≡ 64) × (event < 64) ⌝ }
     ensures { λ t. ⌜ t ≡ eqb (getD (now (owner .entry)) (operand % 64) 0) (getD (now (owner .entry)) event 0) ⌝ }
 {
     let k = words::wide(event);
@@ -98,8 +120,9 @@ fn events(
     n: Counts,
     known: u64,
     controllable: u64,
-    owner: &mut [u8; 64],
+    owner: &mut [u8],
 ) -> PlaceOfEvents
+    requires { ⌜ length (now owner) ≡ 64 ⌝ }
     ensures { λ p. ⌜ Passed (now (image .entry)) 0x11 (atEvents before n known controllable (now (owner .entry))) from (atEvents (p .last) n (p .known) (p .controllable) (now (owner .exit))) (p .next) ⌝ }
 {
     let mut declared = known;
@@ -149,8 +172,9 @@ fn modules(
     before: RecordKey,
     n: Counts,
     known: u64,
-    states: &mut [u8; 16],
+    states: &mut [u8],
 ) -> PlaceOfNumbers
+    requires { ⌜ length (now states) ≡ 16 ⌝ }
     ensures { λ p. ⌜ Passed (now (image .entry)) 0x12 (atModules before n known (now (states .entry))) from (atModules (p .last) n (p .known) (now (states .exit))) (p .next) ⌝ }
 {
     let mut declared = known;
@@ -196,10 +220,11 @@ fn module_moves(
     before: RecordKey,
     n: Counts,
     events: u64,
-    owner: &[u8; 64],
+    owner: &[u8],
     known: u64,
-    states: &[u8; 16],
+    states: &[u8],
 ) -> Place
+    requires { ⌜ (length (now owner) ≡ 64) × (length (now states) ≡ 16) ⌝ }
     ensures { λ p. ⌜ Passed (now (image .entry)) 0x13 (atModuleMoves before n events (now (owner .entry)) known (now (states .entry))) from (atModuleMoves (p .last) n events (now (owner .entry)) known (now (states .entry))) (p .next) ⌝ }
 {
     let mut last = before;
@@ -247,10 +272,11 @@ fn supervisors(
     n: Counts,
     events: u64,
     known: u64,
-    states: &mut [u8; 32],
-    alphabet: &mut [u64; 32],
+    states: &mut [u8],
+    alphabet: &mut [u8],
 ) -> PlaceOfNumbers
-    ensures { λ p. ⌜ Passed (now (image .entry)) 0x14 (atSupervisors before n events known (now (states .entry)) (now (alphabet .entry))) from (atSupervisors (p .last) n events (p .known) (now (states .exit)) (now (alphabet .exit))) (p .next) ⌝ }
+    requires { ⌜ (length (now states) ≡ 32) × (length (now alphabet) ≡ 256) ⌝ }
+    ensures { λ p. ⌜ Passed (now (image .entry)) 0x14 (atSupervisors before n events known (now (states .entry)) (alphabets (now (alphabet .entry)))) from (atSupervisors (p .last) n events (p .known) (now (states .exit)) (alphabets (now (alphabet .exit)))) (p .next) ⌝ }
 {
     let mut declared = known;
     let mut last = before;
@@ -265,7 +291,7 @@ fn supervisors(
             };
         }
         let f = fields_at(image, i);
-        let x = words::word_at(image, i + 4);
+        let x = word_in(image, i + 4);
         let v = f.first;
         let key = RecordKey {
             kind: 0x14,
@@ -284,7 +310,7 @@ fn supervisors(
         let k = words::wide(v);
         declared = bits::put(declared, v, true);
         states[k] = f.second;
-        alphabet[k] = x;
+        words::put_word(&mut *alphabet, k * 8, x);
         last = key;
         i = i + size;
     }
@@ -298,10 +324,11 @@ fn supervisor_moves(
     n: Counts,
     events: u64,
     known: u64,
-    states: &[u8; 32],
-    alphabet: &[u64; 32],
+    states: &[u8],
+    alphabet: &[u8],
 ) -> Place
-    ensures { λ p. ⌜ Passed (now (image .entry)) 0x15 (atSupervisors before n events known (now (states .entry)) (now (alphabet .entry))) from (atSupervisors (p .last) n events known (now (states .entry)) (now (alphabet .entry))) (p .next) ⌝ }
+    requires { ⌜ (length (now states) ≡ 32) × (length (now alphabet) ≡ 256) ⌝ }
+    ensures { λ p. ⌜ Passed (now (image .entry)) 0x15 (atSupervisors before n events known (now (states .entry)) (alphabets (now (alphabet .entry)))) from (atSupervisors (p .last) n events known (now (states .entry)) (alphabets (now (alphabet .entry)))) (p .next) ⌝ }
 {
     let mut last = before;
     let mut i = from;
@@ -317,7 +344,7 @@ fn supervisor_moves(
         }
         let k = words::wide(v);
         let count = states[k];
-        let own = alphabet[k];
+        let own = word_in(alphabet, k * 8);
         let key = RecordKey {
             kind: 0x15,
             first: v,
@@ -344,10 +371,11 @@ fn disablings(
     events: u64,
     controllable: u64,
     known: u64,
-    states: &[u8; 32],
-    alphabet: &[u64; 32],
+    states: &[u8],
+    alphabet: &[u8],
 ) -> Place
-    ensures { λ p. ⌜ Passed (now (image .entry)) 0x16 (atDisablings before n events controllable known (now (states .entry)) (now (alphabet .entry))) from (atDisablings (p .last) n events controllable known (now (states .entry)) (now (alphabet .entry))) (p .next) ⌝ }
+    requires { ⌜ (length (now states) ≡ 32) × (length (now alphabet) ≡ 256) ⌝ }
+    ensures { λ p. ⌜ Passed (now (image .entry)) 0x16 (atDisablings before n events controllable known (now (states .entry)) (alphabets (now (alphabet .entry)))) from (atDisablings (p .last) n events controllable known (now (states .entry)) (alphabets (now (alphabet .entry)))) (p .next) ⌝ }
 {
     let mut last = before;
     let mut i = from;
@@ -357,14 +385,14 @@ fn disablings(
             return Place { last, next: i };
         }
         let f = fields_at(image, i);
-        let mask = words::word_at(image, i + 3);
+        let mask = word_in(image, i + 3);
         let v = f.first;
         if 32 <= v {
             return Place { last, next: i };
         }
         let k = words::wide(v);
         let count = states[k];
-        let own = alphabet[k];
+        let own = word_in(alphabet, k * 8);
         let key = RecordKey {
             kind: 0x16,
             first: v,
@@ -389,9 +417,10 @@ fn steps(
     n: Counts,
     known: u64,
     controllable: u64,
-    owner: &[u8; 64],
-    counts: &mut [u8; 64],
+    owner: &[u8],
+    counts: &mut [u8],
 ) -> Place
+    requires { ⌜ (length (now owner) ≡ 64) × (length (now counts) ≡ 64) ⌝ }
     ensures { λ p. ⌜ Passed (now (image .entry)) 0x17 (atSteps before n known controllable (now (owner .entry)) (now (counts .entry))) from (atSteps (p .last) n known controllable (now (owner .entry)) (now (counts .exit))) (p .next) ⌝ }
 {
     let mut last = before;
@@ -402,7 +431,7 @@ fn steps(
             return Place { last, next: i };
         }
         let f = fields_at(image, i);
-        let x = words::word_at(image, i + 4);
+        let x = word_in(image, i + 4);
         let e = f.first;
         if 64 <= e {
             return Place { last, next: i };
@@ -433,8 +462,9 @@ fn markings(
     before: RecordKey,
     n: Counts,
     known: u64,
-    states: &[u8; 16],
+    states: &[u8],
 ) -> Place
+    requires { ⌜ length (now states) ≡ 16 ⌝ }
     ensures { λ p. ⌜ Passed (now (image .entry)) 0x18 (atModules before n known (now (states .entry))) from (atModules (p .last) n known (now (states .entry))) (p .next) ⌝ }
 {
     let mut last = before;
@@ -544,7 +574,7 @@ fn after_modules(
     ensures { λ x. ⌜ x ≡ examinedOf (now (image .entry)) ⌝ }
 {
     let mut states = [0u8; 32];
-    let mut alphabet = [0u64; 32];
+    let mut alphabet = [0u8; 256];
     let mut counts = [0u8; 64];
     let v = supervisors(image, from, before, n, known, 0, &mut states, &mut alphabet);
     let vq = v.last;
@@ -584,6 +614,7 @@ fn after_modules(
         let p = places::noted(tp, tq.kind, 0x1f, t.next);
         return end_at(image, t.next, p);
     }
+    let own = context_bytes::alphabets_of(&alphabet);
     let c = Context {
         begun: true,
         last: tq,
@@ -601,7 +632,7 @@ fn after_modules(
         supervisors: Supervisors {
             known: v.known,
             states,
-            alphabet,
+            alphabet: own,
         },
     };
     judged(image, t.next, c, tp)
@@ -680,194 +711,332 @@ pub fn check(image: &[u8]) -> Verdict
     }
 }
 
-// ---- how far the check goes without an answer, from any offset and with any context
+// ---- how far the check goes without an answer, from any offset, in the bytes of a state
 
-// From the events to the module moves. A record has come before, as one has before every stretch.
-fn past_modules(image: &[u8], from: usize, c: Context) -> Past
-    requires { ⌜ c .begun ≡ true ⌝ }
-    ensures { λ r. ⌜ Onward (now (image .entry)) c from (r .context) (r .next) ⌝ }
+// The last record's kind and key.
+fn last_in(state: &[u8]) -> RecordKey
+    ensures { λ q. ⌜ q ≡ keyAt (now (state .entry)) 24 ⌝ }
 {
-    let before = c.last;
-    let n = c.counts;
-    let ev = c.events;
-    let ms = c.modules;
-    let mut owner = ev.owner;
-    let mut states = ms.states;
+    RecordKey {
+        kind: words::byte_at(state, 24),
+        first: words::byte_at(state, 25),
+        second: words::byte_at(state, 26),
+        third: words::byte_at(state, 27),
+    }
+}
+
+fn put_last(state: &mut [u8], q: RecordKey)
+    ensures { λ _. ⌜ now (state .exit) ≡ putAt (keyBytes q) 24 (now (state .entry)) ⌝ }
+{
+    words::put_bytes(state, 24, &[q.kind, q.first, q.second, q.third]);
+}
+
+// The head's counts.
+fn counts_in(state: &[u8]) -> Counts
+    ensures { λ n. ⌜ n ≡ countsAt (now (state .entry)) 28 ⌝ }
+{
+    Counts {
+        modules: words::byte_at(state, 28),
+        supervisors: words::byte_at(state, 29),
+        events: words::byte_at(state, 30),
+    }
+}
+
+// The loops over a stretch, each if a record of its kind stands at the offset: what it needs is read where it is in the state, and what it changes put
+// there.
+fn past_events(image: &[u8], from: usize, state: &mut [u8]) -> usize
+    requires { ⌜ AfterRecord (now state) ⌝ }
+    ensures { λ j. ⌜ OnwardIn (now (image .entry)) (now (state .entry)) from (now (state .exit)) j ⌝ }
+{
+    if words::byte_at(image, from) != 0x11 {
+        return from;
+    }
+    let before = last_in(&state[..]);
+    let n = counts_in(&state[..]);
+    let known = words::word_at(&state[..], 31);
+    let controllable = words::word_at(&state[..], 39);
     let e = events(
         image,
         from,
         before,
         n,
-        ev.known,
-        ev.controllable,
-        &mut owner,
+        known,
+        controllable,
+        &mut state[47..111],
     );
-    let eq = e.last;
-    let m = modules(image, e.next, eq, n, ms.known, &mut states);
-    let mq = m.last;
-    let v = module_moves(image, m.next, mq, n, e.known, &owner, m.known, &states);
-    let last = v.last;
-    let steps = ev.steps;
-    let supervisors = c.supervisors;
-    let d = Context {
-        begun: true,
-        last,
-        counts: n,
-        events: Events {
-            known: e.known,
-            controllable: e.controllable,
-            owner,
-            steps,
-        },
-        modules: Modules {
-            known: m.known,
-            states,
-        },
-        supervisors,
-    };
-    Past {
-        context: d,
-        next: v.next,
-    }
+    let last = e.last;
+    let declared = e.known;
+    let commands = e.controllable;
+    put_last(&mut *state, last);
+    words::put_word(&mut *state, 31, declared);
+    words::put_word(&mut *state, 39, commands);
+    e.next
 }
 
-// From the supervisors to the markings.
-fn past_supervisors(image: &[u8], from: usize, c: Context) -> Past
-    requires { ⌜ c .begun ≡ true ⌝ }
-    ensures { λ r. ⌜ Onward (now (image .entry)) c from (r .context) (r .next) ⌝ }
+fn past_modules(image: &[u8], from: usize, state: &mut [u8]) -> usize
+    requires { ⌜ AfterRecord (now state) ⌝ }
+    ensures { λ j. ⌜ OnwardIn (now (image .entry)) (now (state .entry)) from (now (state .exit)) j ⌝ }
 {
-    let before = c.last;
-    let n = c.counts;
-    let ev = c.events;
-    let ms = c.modules;
-    let vs = c.supervisors;
-    let owner = ev.owner;
-    let sizes = ms.states;
-    let mut states = vs.states;
-    let mut alphabet = vs.alphabet;
-    let mut counts = ev.steps;
-    let known = ev.known;
-    let all = ev.controllable;
+    if words::byte_at(image, from) != 0x12 {
+        return from;
+    }
+    let before = last_in(&state[..]);
+    let n = counts_in(&state[..]);
+    let known = words::word_at(&state[..], 175);
+    let m = modules(image, from, before, n, known, &mut state[183..199]);
+    let last = m.last;
+    let declared = m.known;
+    put_last(&mut *state, last);
+    words::put_word(&mut *state, 175, declared);
+    m.next
+}
+
+fn past_module_moves(image: &[u8], from: usize, state: &mut [u8]) -> usize
+    requires { ⌜ AfterRecord (now state) ⌝ }
+    ensures { λ j. ⌜ OnwardIn (now (image .entry)) (now (state .entry)) from (now (state .exit)) j ⌝ }
+{
+    if words::byte_at(image, from) != 0x13 {
+        return from;
+    }
+    let before = last_in(&state[..]);
+    let n = counts_in(&state[..]);
+    let events = words::word_at(&state[..], 31);
+    let known = words::word_at(&state[..], 175);
+    let v = module_moves(
+        image,
+        from,
+        before,
+        n,
+        events,
+        &state[47..111],
+        known,
+        &state[183..199],
+    );
+    let last = v.last;
+    put_last(&mut *state, last);
+    v.next
+}
+
+// Two tables change. They stand side by side, but the loop need not know it: they are copied, since a plan has 32 such records at most.
+fn past_supervisors(image: &[u8], from: usize, state: &mut [u8]) -> usize
+    requires { ⌜ AfterRecord (now state) ⌝ }
+    ensures { λ j. ⌜ OnwardIn (now (image .entry)) (now (state .entry)) from (now (state .exit)) j ⌝ }
+{
+    if words::byte_at(image, from) != 0x14 {
+        return from;
+    }
+    let before = last_in(&state[..]);
+    let n = counts_in(&state[..]);
+    let events = words::word_at(&state[..], 31);
+    let known = words::word_at(&state[..], 199);
+    let mut states = [0u8; 32];
+    let mut alphabet = [0u8; 256];
+    words::put_bytes(&mut states, 0, &state[207..239]);
+    words::put_bytes(&mut alphabet, 0, &state[239..495]);
     let v = supervisors(
         image,
         from,
         before,
         n,
+        events,
         known,
-        vs.known,
         &mut states,
         &mut alphabet,
     );
-    let vq = v.last;
-    let m = supervisor_moves(image, v.next, vq, n, known, v.known, &states, &alphabet);
-    let mq = m.last;
+    let last = v.last;
+    let declared = v.known;
+    words::put_bytes(&mut *state, 207, &states);
+    words::put_bytes(&mut *state, 239, &alphabet);
+    put_last(&mut *state, last);
+    words::put_word(&mut *state, 199, declared);
+    v.next
+}
+
+fn past_supervisor_moves(image: &[u8], from: usize, state: &mut [u8]) -> usize
+    requires { ⌜ AfterRecord (now state) ⌝ }
+    ensures { λ j. ⌜ OnwardIn (now (image .entry)) (now (state .entry)) from (now (state .exit)) j ⌝ }
+{
+    if words::byte_at(image, from) != 0x15 {
+        return from;
+    }
+    let before = last_in(&state[..]);
+    let n = counts_in(&state[..]);
+    let events = words::word_at(&state[..], 31);
+    let known = words::word_at(&state[..], 199);
+    let m = supervisor_moves(
+        image,
+        from,
+        before,
+        n,
+        events,
+        known,
+        &state[207..239],
+        &state[239..495],
+    );
+    let last = m.last;
+    put_last(&mut *state, last);
+    m.next
+}
+
+fn past_disablings(image: &[u8], from: usize, state: &mut [u8]) -> usize
+    requires { ⌜ AfterRecord (now state) ⌝ }
+    ensures { λ j. ⌜ OnwardIn (now (image .entry)) (now (state .entry)) from (now (state .exit)) j ⌝ }
+{
+    if words::byte_at(image, from) != 0x16 {
+        return from;
+    }
+    let before = last_in(&state[..]);
+    let n = counts_in(&state[..]);
+    let events = words::word_at(&state[..], 31);
+    let all = words::word_at(&state[..], 39);
+    let known = words::word_at(&state[..], 199);
     let d = disablings(
         image,
-        m.next,
-        mq,
+        from,
+        before,
+        n,
+        events,
+        all,
+        known,
+        &state[207..239],
+        &state[239..495],
+    );
+    let last = d.last;
+    put_last(&mut *state, last);
+    d.next
+}
+
+// The modules of the events are copied, 64 bytes, since the steps beside them are lent to be changed.
+fn past_steps(image: &[u8], from: usize, state: &mut [u8]) -> usize
+    requires { ⌜ AfterRecord (now state) ⌝ }
+    ensures { λ j. ⌜ OnwardIn (now (image .entry)) (now (state .entry)) from (now (state .exit)) j ⌝ }
+{
+    if words::byte_at(image, from) != 0x17 {
+        return from;
+    }
+    let before = last_in(&state[..]);
+    let n = counts_in(&state[..]);
+    let known = words::word_at(&state[..], 31);
+    let all = words::word_at(&state[..], 39);
+    let mut owner = [0u8; 64];
+    words::put_bytes(&mut owner, 0, &state[47..111]);
+    let s = steps(
+        image,
+        from,
+        before,
         n,
         known,
         all,
-        v.known,
-        &states,
-        &alphabet,
+        &owner,
+        &mut state[111..175],
     );
-    let dq = d.last;
-    let s = steps(image, d.next, dq, n, known, all, &owner, &mut counts);
-    let sq = s.last;
-    let t = markings(image, s.next, sq, n, ms.known, &sizes);
+    let last = s.last;
+    put_last(&mut *state, last);
+    s.next
+}
+
+fn past_markings(image: &[u8], from: usize, state: &mut [u8]) -> usize
+    requires { ⌜ AfterRecord (now state) ⌝ }
+    ensures { λ j. ⌜ OnwardIn (now (image .entry)) (now (state .entry)) from (now (state .exit)) j ⌝ }
+{
+    if words::byte_at(image, from) != 0x18 {
+        return from;
+    }
+    let before = last_in(&state[..]);
+    let n = counts_in(&state[..]);
+    let known = words::word_at(&state[..], 175);
+    let t = markings(image, from, before, n, known, &state[183..199]);
     let last = t.last;
-    let x = Context {
-        begun: true,
-        last,
-        counts: n,
-        events: Events {
-            known,
-            controllable: all,
-            owner,
-            steps: counts,
-        },
-        modules: ms,
-        supervisors: Supervisors {
-            known: v.known,
-            states,
-            alphabet,
-        },
-    };
-    Past {
-        context: x,
-        next: t.next,
+    put_last(&mut *state, last);
+    t.next
+}
+
+// From the events to the module moves.
+fn past_early(image: &[u8], from: usize, state: &mut [u8]) -> usize
+    requires { ⌜ AfterRecord (now state) ⌝ }
+    ensures { λ j. ⌜ OnwardIn (now (image .entry)) (now (state .entry)) from (now (state .exit)) j ⌝ }
+{
+    let e = past_events(image, from, &mut *state);
+    let m = past_modules(image, e, &mut *state);
+    past_module_moves(image, m, &mut *state)
+}
+
+// From the supervisors to the markings.
+fn past_late(image: &[u8], from: usize, state: &mut [u8]) -> usize
+    requires { ⌜ AfterRecord (now state) ⌝ }
+    ensures { λ j. ⌜ OnwardIn (now (image .entry)) (now (state .entry)) from (now (state .exit)) j ⌝ }
+{
+    let v = past_supervisors(image, from, &mut *state);
+    let m = past_supervisor_moves(image, v, &mut *state);
+    let d = past_disablings(image, m, &mut *state);
+    let s = past_steps(image, d, &mut *state);
+    past_markings(image, s, &mut *state)
+}
+
+// One by one, by value.
+fn past_by_value(image: &[u8], from: usize, state: &mut [u8]) -> usize
+    ensures { λ j. ⌜ (now (state .exit) ≡ pastBytes (now (image .entry)) from (now (state .entry))) × (j ≡ pastIn (now (image .entry)) from (now (state .entry)) .next) ⌝ }
+{
+    let c = context_bytes::context_at(&state[..]);
+    let p = judge::pass(image, from, c);
+    let d = p.context;
+    context_bytes::put_context(state, d);
+    p.next
+}
+
+// After a record: by stretches, and then one by one where they stop at a whole record.
+fn past_after(image: &[u8], from: usize, state: &mut [u8]) -> usize
+    requires { ⌜ AfterRecord (now state) ⌝ }
+    ensures { λ j. ⌜ (now (state .exit) ≡ pastBytes (now (image .entry)) from (now (state .entry))) × (j ≡ pastIn (now (image .entry)) from (now (state .entry)) .next) ⌝ }
+{
+    let m = past_early(image, from, &mut *state);
+    let i = past_late(image, m, &mut *state);
+    match reader::read_at(image, i) {
+        Read::Nothing => i,
+        Read::Cut => i,
+        Read::Unknown => i,
+        Read::Whole(_, _) => past_by_value(image, i, state),
     }
 }
 
-// Past one record at most, which may be the first.
-fn past_first(image: &[u8], from: usize, c: Context) -> Past
-    ensures { λ r. ⌜ pastFrom (now (image .entry)) (r .next) (r .context) ≡ pastFrom (now (image .entry)) from c ⌝ }
+// Before any record: past the whole one at an offset by value, and on.
+fn past_record(image: &[u8], from: usize, r: Record, next: usize, state: &mut [u8]) -> usize
+    requires { ⌜ (length (now state) ≡ 495) × (Whole r next ≡ readAt (now image) from) ⌝ }
+    ensures { λ j. ⌜ (now (state .exit) ≡ pastBytes (now (image .entry)) from (now (state .entry))) × (j ≡ pastIn (now (image .entry)) from (now (state .entry)) .next) ⌝ }
 {
-    let Read::Whole(r, next) = reader::read_at(image, from) else {
-        return Past {
-            context: c,
-            next: from,
-        };
-    };
+    let c = context_bytes::context_at(&state[..]);
     if judge::judge(c, r) != 0 {
-        return Past {
-            context: c,
-            next: from,
-        };
+        return past_by_value(image, from, state);
     }
     if records::kind_of(r) == 0x1f {
-        return Past {
-            context: c,
-            next: from,
-        };
+        return past_by_value(image, from, state);
     }
-    Past {
-        context: context::with_record(c, r),
-        next,
+    let d = context::with_record(c, r);
+    context_bytes::put_context(&mut *state, d);
+    past_after(image, next, state)
+}
+
+fn past_first(image: &[u8], from: usize, state: &mut [u8]) -> usize
+    requires { ⌜ length (now state) ≡ 495 ⌝ }
+    ensures { λ j. ⌜ (now (state .exit) ≡ pastBytes (now (image .entry)) from (now (state .entry))) × (j ≡ pastIn (now (image .entry)) from (now (state .entry)) .next) ⌝ }
+{
+    match reader::read_at(image, from) {
+        Read::Nothing => past_by_value(image, from, state),
+        Read::Cut => past_by_value(image, from, state),
+        Read::Unknown => past_by_value(image, from, state),
+        Read::Whole(r, next) => past_record(image, from, r, next, state),
     }
 }
 
-// From the supervisors on: by stretches, and then record by record where they stop at a whole record.
-fn past_late(image: &[u8], from: usize, c: Context) -> Past
-    requires { ⌜ c .begun ≡ true ⌝ }
-    ensures { λ r. ⌜ r ≡ pastFrom (now (image .entry)) from c ⌝ }
+// Past all whole records from an offset on that are faultless and no end record; what is remembered stands in the bytes of a check's state.
+pub fn pass(image: &[u8], from: usize, state: &mut [u8]) -> usize
+    ensures { λ j. ⌜ (now (state .exit) ≡ pastBytes (now (image .entry)) from (now (state .entry))) × (j ≡ pastIn (now (image .entry)) from (now (state .entry)) .next) ⌝ }
 {
-    let v = past_supervisors(image, from, c);
-    match reader::read_at(image, v.next) {
-        Read::Nothing => v,
-        Read::Cut => v,
-        Read::Unknown => v,
-        Read::Whole(_, _) => {
-            let d = v.context;
-            judge::pass(image, v.next, d)
-        }
+    if state.len() != 495 {
+        return past_by_value(image, from, state);
     }
-}
-
-// From any record on. A piece of a large plan is mostly moves, so the stretches before the supervisors are left out where they have nothing to pass.
-fn past_stretches(image: &[u8], from: usize, c: Context) -> Past
-    ensures { λ r. ⌜ r ≡ pastFrom (now (image .entry)) from c ⌝ }
-{
-    if !c.begun {
-        return judge::pass(image, from, c);
+    if state[23] == 1 {
+        return past_after(image, from, state);
     }
-    if 0x14 <= words::byte_at(image, from) {
-        return past_late(image, from, c);
-    }
-    let m = past_modules(image, from, c);
-    let d = m.context;
-    past_late(image, m.next, d)
-}
-
-// Past all whole records from an offset on that are faultless and no end record.
-pub fn pass(image: &[u8], from: usize, c: Context) -> Past
-    ensures { λ r. ⌜ r ≡ pastFrom (now (image .entry)) from c ⌝ }
-{
-    if c.begun {
-        return past_stretches(image, from, c);
-    }
-    let f = past_first(image, from, c);
-    let d = f.context;
-    past_stretches(image, f.next, d)
+    past_first(image, from, state)
 }

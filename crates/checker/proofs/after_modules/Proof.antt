@@ -1,7 +1,14 @@
+use mathlib.Core.Path.{sym}
+use Rattle.checker.proofs.Loop.{over, after-eight, end-inside, end-by, with-alphabets, no-alphabets}
 use borrow.Author.Needs.{needs}
-use Rattle.checker.proofs.Loop.{over, after-eight, end-inside, end-by}
 use Rattle.checker.proofs.after_modules.Statement.{statement}
 use Rattle.checker.proofs.after_modules.Tie as tie
+
+slice-aggregate-supervisors : tie.Need-slice-aggregate-supervisors
+slice-aggregate-supervisors c = search needs
+
+slice-aggregate-supervisors-2 : tie.Need-slice-aggregate-supervisors-2
+slice-aggregate-supervisors-2 c = search needs
 
 supervisors-requires : tie.Need-supervisors-requires
 supervisors-requires c κs = search needs
@@ -9,17 +16,32 @@ supervisors-requires c κs = search needs
 noted-past-requires : tie.Need-noted-past-requires
 noted-past-requires c κs = search needs
 
+slice-aggregate-supervisor-moves : tie.Need-slice-aggregate-supervisor-moves
+slice-aggregate-supervisor-moves c = search needs
+
+slice-aggregate-supervisor-moves-2 : tie.Need-slice-aggregate-supervisor-moves-2
+slice-aggregate-supervisor-moves-2 c = search needs
+
 supervisor-moves-requires : tie.Need-supervisor-moves-requires
 supervisor-moves-requires c κs = search needs
 
 noted-past-requires-2 : tie.Need-noted-past-requires-2
 noted-past-requires-2 c κs = search needs
 
+slice-aggregate-disablings : tie.Need-slice-aggregate-disablings
+slice-aggregate-disablings c = search needs
+
+slice-aggregate-disablings-2 : tie.Need-slice-aggregate-disablings-2
+slice-aggregate-disablings-2 c = search needs
+
 disablings-requires : tie.Need-disablings-requires
 disablings-requires c κs = search needs
 
 noted-past-requires-3 : tie.Need-noted-past-requires-3
 noted-past-requires-3 c κs = search needs
+
+slice-aggregate-steps : tie.Need-slice-aggregate-steps
+slice-aggregate-steps c = search needs
 
 steps-requires : tie.Need-steps-requires
 steps-requires c κs = search needs
@@ -46,30 +68,41 @@ returns : tie.Need-returns
 returns c =
     let e = c .before .before .before in
     let t = e .before in
-    let a = t .before .before .before in
-    let d = a .before .before .before .before in
+    let a = t .before .before .before .before in
+    let d = a .before .before .before .before .before .before in
     let m = d .before .before .before .before .before in
     let v = m .before .before .before .before .before in
+    let x = v .before .before .before .before in
     end-by _ _ _ _ _ _ _ (e .end-kept .ensures) (c .before .before .if1 .taken)
     (over _
-    (after-eight _ _ _ _ _ _ _ _ _ _ _ _ _ _ _ _ _ _ _ _ _ _ _ _ _ _ _ (v .before .before .supervisors .ensures) (v .noted-past .ensures)
+    (after-eight _ _ _ _ _ _ _ _ _ _ _ _ _ _ _ _ _ _ _ _ _ _ _ _ _ _ _ (x .supervisors .ensures) (v .noted-past .ensures)
     (m .before .before .supervisor-moves .ensures) (m .noted-past2 .ensures) (d .before .before .disablings .ensures) (d .noted-past3 .ensures)
-    (a .before .before .steps .ensures) (a .noted-past4 .ensures) (t .before .before .markings .ensures) (t .noted-past5 .ensures))
-    (v .before .before .before .before .before .before .pre))
+    (a .before .before .before .steps .ensures) (a .noted-past4 .ensures) (t .before .before .markings .ensures) (t .noted-past5 .ensures))
+    (with-alphabets _ _ _ _ _ _ _ _ _ no-alphabets (x .before .before .before .before .pre)))
     (c .before .noted .ensures) (c .end-at .ensures)
+
+slice-aggregate-alphabets-of : tie.Need-slice-aggregate-alphabets-of
+slice-aggregate-alphabets-of c =
+    let x = c .before .before .before .before .before .before .before .before .before .before .before .before .before .before .before .before .before .before .before .before .before .before .before .before .before .before .before in
+    sym (x .supervisors .kept .1 .1 .1 .1 .1 .1 .1 .0)
+
+alphabets-of-requires : tie.Need-alphabets-of-requires
+alphabets-of-requires c κs = search needs
 
 judged-requires : tie.Need-judged-requires
 judged-requires c κs =
-    let t = c .before .before .before .before in
-    let a = t .before .before .before in
-    let d = a .before .before .before .before in
+    let t = c .before .before .before .before .before .before in
+    let a = t .before .before .before .before in
+    let d = a .before .before .before .before .before .before in
     let m = d .before .before .before .before .before in
     let v = m .before .before .before .before .before in
-    over _
-    (after-eight _ _ _ _ _ _ _ _ _ _ _ _ _ _ _ _ _ _ _ _ _ _ _ _ _ _ _ (v .before .before .supervisors .ensures) (v .noted-past .ensures)
+    let x = v .before .before .before .before in
+    with-alphabets _ _ _ _ _ _ _ _ _ (c .before .before .alphabets-of .ensures)
+    (over _
+    (after-eight _ _ _ _ _ _ _ _ _ _ _ _ _ _ _ _ _ _ _ _ _ _ _ _ _ _ _ (x .supervisors .ensures) (v .noted-past .ensures)
     (m .before .before .supervisor-moves .ensures) (m .noted-past2 .ensures) (d .before .before .disablings .ensures) (d .noted-past3 .ensures)
-    (a .before .before .steps .ensures) (a .noted-past4 .ensures) (t .before .before .markings .ensures) (t .noted-past5 .ensures))
-    (v .before .before .before .before .before .before .pre)
+    (a .before .before .before .steps .ensures) (a .noted-past4 .ensures) (t .before .before .markings .ensures) (t .noted-past5 .ensures))
+    (with-alphabets _ _ _ _ _ _ _ _ _ no-alphabets (x .before .before .before .before .pre)))
 
 returns-2 : tie.Need-returns-2
 returns-2 c = search needs
@@ -78,12 +111,19 @@ pub after-modules-spec : {M : Type 1} → statement M
 after-modules-spec =
     tie.close
     (tie.spec
+    slice-aggregate-supervisors
+    slice-aggregate-supervisors-2
     supervisors-requires
     noted-past-requires
+    slice-aggregate-supervisor-moves
+    slice-aggregate-supervisor-moves-2
     supervisor-moves-requires
     noted-past-requires-2
+    slice-aggregate-disablings
+    slice-aggregate-disablings-2
     disablings-requires
     noted-past-requires-3
+    slice-aggregate-steps
     steps-requires
     noted-past-requires-4
     markings-requires
@@ -92,5 +132,7 @@ after-modules-spec =
     noted-requires
     end-at-requires
     returns
+    slice-aggregate-alphabets-of
+    alphabets-of-requires
     judged-requires
     returns-2)

@@ -43,8 +43,8 @@ returns-2 c = search needs
 wide-requires : tie.Need-wide-requires Inv-loop μ-loop
 wide-requires c κs = search needs
 
-element-copy-out-count : tie.Need-element-copy-out-count Inv-loop μ-loop
-element-copy-out-count c = search needs
+shared-slice-read-count : tie.Need-shared-slice-read-count Inv-loop μ-loop
+shared-slice-read-count c = search needs
 
 has-requires : tie.Need-has-requires Inv-loop μ-loop
 has-requires c κs = search needs
@@ -80,7 +80,7 @@ markings-spec =
     shared-slice-read-st
     returns-2
     wide-requires
-    element-copy-out-count
+    shared-slice-read-count
     has-requires
     precedes-requires
     returns-3

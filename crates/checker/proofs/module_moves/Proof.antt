@@ -37,14 +37,14 @@ returns-3 c = search needs
 wide-requires : tie.Need-wide-requires Inv-loop μ-loop
 wide-requires c κs = search needs
 
-element-copy-out-count : tie.Need-element-copy-out-count Inv-loop μ-loop
-element-copy-out-count c = search needs
+shared-slice-read-count : tie.Need-shared-slice-read-count Inv-loop μ-loop
+shared-slice-read-count c = search needs
 
 wide-requires-2 : tie.Need-wide-requires-2 Inv-loop μ-loop
 wide-requires-2 c κs = search needs
 
-element-copy-out-of : tie.Need-element-copy-out-of Inv-loop μ-loop
-element-copy-out-of c = search needs
+shared-slice-read-of : tie.Need-shared-slice-read-of Inv-loop μ-loop
+shared-slice-read-of c = search needs
 
 below-requires : tie.Need-below-requires Inv-loop μ-loop
 below-requires c κs = search needs
@@ -84,9 +84,9 @@ module-moves-spec =
     returns-2
     returns-3
     wide-requires
-    element-copy-out-count
+    shared-slice-read-count
     wide-requires-2
-    element-copy-out-of
+    shared-slice-read-of
     below-requires
     below-requires-2
     move-named-requires

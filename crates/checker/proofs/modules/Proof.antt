@@ -3,12 +3,15 @@ use Prim.Native.Nat.{_-_}
 use lib.ListN.{length}
 use lib.Dec.{lit≤}
 use Rattle.checker.specs.Stretch.{Passed, atModules}
-use Rattle.checker.proofs.Stretch.{begins-stretch, fields-by, fits-by, further-by, index-by, module-step}
+use Rattle.checker.proofs.Stretch.{begins-stretch, fields-by, fits-by, further-by, module-step}
+use mathlib.Core.Path.{_≡_}
+use Rattle.checker.proofs.Stretch.{index-in}
 use Rattle.checker.proofs.modules.Statement.{statement}
 use Rattle.checker.proofs.modules.Tie as tie
 
 abbrev Inv-loop : tie.InvT-loop
-Inv-loop image from n known states₀ declared₀ last₀ i₀ size states declared last i = Passed image 0x12 (atModules last₀ n known states₀) from (atModules last n declared states) i
+Inv-loop image from n known states₀ declared₀ last₀ i₀ size states declared last i =
+    Passed image 0x12 (atModules last₀ n known states₀) from (atModules last n declared states) i × (length states ≡ 16)
 
 abbrev μ-loop : tie.MeasureT-loop
 μ-loop image from n known states₀ declared₀ last₀ i₀ size states declared last i = length image - i
@@ -17,10 +20,13 @@ size-by-requires : tie.Need-size-by-requires Inv-loop μ-loop
 size-by-requires c κs = search needs
 
 loop-holds : tie.Need-loop-holds Inv-loop μ-loop
-loop-holds c = search begins-stretch
+loop-holds c = (search begins-stretch, search needs)
 
 stands-requires : tie.Need-stands-requires Inv-loop μ-loop
 stands-requires c κs = search needs
+
+same-length : tie.Need-same-length Inv-loop μ-loop
+same-length c = search needs
 
 returns : tie.Need-returns Inv-loop μ-loop
 returns c = search needs
@@ -28,11 +34,14 @@ returns c = search needs
 fields-at-requires : tie.Need-fields-at-requires Inv-loop μ-loop
 fields-at-requires c κs = search (fields-by, lit≤)
 
-returns-2 : tie.Need-returns-2 Inv-loop μ-loop
-returns-2 c = search needs
-
 precedes-requires : tie.Need-precedes-requires Inv-loop μ-loop
 precedes-requires c κs = search needs
+
+same-length-2 : tie.Need-same-length-2 Inv-loop μ-loop
+same-length-2 c = search needs
+
+returns-2 : tie.Need-returns-2 Inv-loop μ-loop
+returns-2 c = search needs
 
 wide-requires : tie.Need-wide-requires Inv-loop μ-loop
 wide-requires c κs = search needs
@@ -40,8 +49,8 @@ wide-requires c κs = search needs
 put-requires : tie.Need-put-requires Inv-loop μ-loop
 put-requires c κs = search needs
 
-element-write-states : tie.Need-element-write-states Inv-loop μ-loop
-element-write-states c = search index-by
+slice-write-states : tie.Need-slice-write-states Inv-loop μ-loop
+slice-write-states c = search index-in
 
 add-i : tie.Need-add-i Inv-loop μ-loop
 add-i c = search (needs, fits-by)
@@ -50,7 +59,8 @@ loop-less : tie.Need-loop-less Inv-loop μ-loop
 loop-less c = search further-by
 
 loop-again : tie.Need-loop-again Inv-loop μ-loop
-loop-again c = search module-step
+unfolding Passed atModules
+loop-again c = (search module-step, search needs)
 
 pub modules-spec : {M : Type 1} → statement M
 modules-spec =
@@ -61,13 +71,15 @@ modules-spec =
     size-by-requires
     loop-holds
     stands-requires
+    same-length
     returns
     fields-at-requires
     precedes-requires
+    same-length-2
     returns-2
     wide-requires
     put-requires
-    element-write-states
+    slice-write-states
     add-i
     loop-less
     loop-again)

@@ -1,6 +1,4 @@
-use Rattle.reader.specs.declared.Read.the-variants.{Nothing, Cut, Unknown}
-use mathlib.Core.Path.{refl, _∙_}
-use Rattle.checker.proofs.Onward.{onward-past, late-cut, late-unknown}
+use Rattle.checker.proofs.InPlace.{begun-on, past-then}
 use borrow.Author.Needs.{needs}
 use Rattle.checker.proofs.past_late.Statement.{statement}
 use Rattle.checker.proofs.past_late.Tie as tie
@@ -8,48 +6,56 @@ use Rattle.checker.proofs.past_late.Tie as tie
 past-supervisors-requires : tie.Need-past-supervisors-requires
 past-supervisors-requires c κs = search needs
 
-read-at-requires : tie.Need-read-at-requires
-read-at-requires c κs = search needs
+past-supervisor-moves-requires : tie.Need-past-supervisor-moves-requires
+past-supervisor-moves-requires c κs =
+    let a0 = c .before .before .before in
+    let at = a0 .before .before .before .before in
+    begun-on _ _ _ _ _ (at .pre) (a0 .past-supervisors .ensures)
 
-enum-told : tie.Need-enum-told
-enum-told c = search needs
+past-disablings-requires : tie.Need-past-disablings-requires
+past-disablings-requires c κs =
+    let a1 = c .before .before .before in
+    let a0 = a1 .before .before .before .before in
+    let at = a0 .before .before .before .before in
+    begun-on _ _ _ _ _ (begun-on _ _ _ _ _ (at .pre) (a0 .past-supervisors .ensures)) (a1 .past-supervisor-moves .ensures)
 
-enum-told-2 : tie.Need-enum-told-2
-enum-told-2 c = search needs
+past-steps-requires : tie.Need-past-steps-requires
+past-steps-requires c κs =
+    let a2 = c .before .before .before in
+    let a1 = a2 .before .before .before .before in
+    let a0 = a1 .before .before .before .before in
+    let at = a0 .before .before .before .before in
+    begun-on _ _ _ _ _ (begun-on _ _ _ _ _ (begun-on _ _ _ _ _ (at .pre) (a0 .past-supervisors .ensures)) (a1 .past-supervisor-moves .ensures)) (a2 .past-disablings .ensures)
 
-enum-told-3 : tie.Need-enum-told-3
-enum-told-3 c = search needs
+past-markings-requires : tie.Need-past-markings-requires
+past-markings-requires c κs =
+    let a3 = c .before .before .before in
+    let a2 = a3 .before .before .before .before in
+    let a1 = a2 .before .before .before .before in
+    let a0 = a1 .before .before .before .before in
+    let at = a0 .before .before .before .before in
+    begun-on _ _ _ _ _ (begun-on _ _ _ _ _ (begun-on _ _ _ _ _ (begun-on _ _ _ _ _ (at .pre) (a0 .past-supervisors .ensures)) (a1 .past-supervisor-moves .ensures)) (a2 .past-disablings .ensures)) (a3 .past-steps .ensures)
 
-enum-told-4 : tie.Need-enum-told-4
-enum-told-4 c = search needs
-
-pass-requires : tie.Need-pass-requires
-pass-requires c κs = search needs
+same-length : tie.Need-same-length
+same-length c = search needs
 
 returns : tie.Need-returns
-returns c = late-cut _ _ _ _ (c .before .before .before .past-supervisors .ensures) {y = Nothing} (c .before .before .read-at .ensures .answer) (search needs) refl
-
-returns-2 : tie.Need-returns-2
-returns-2 c = late-cut _ _ _ _ (c .before .before .before .past-supervisors .ensures) {y = Cut} (c .before .before .read-at .ensures .answer) (search needs) refl
-
-returns-3 : tie.Need-returns-3
-returns-3 c = late-unknown _ _ _ _ (c .before .before .before .past-supervisors .ensures) {y = Unknown} (c .before .before .read-at .ensures .answer) (search needs) refl
-
-returns-4 : tie.Need-returns-4
-returns-4 c = c .pass .ensures ∙ onward-past _ _ _ _ _ (c .before .before .before .before .before .past-supervisors .ensures)
+returns c =
+    let a4 = c .before .before in
+    let a3 = a4 .before .before .before .before in
+    let a2 = a3 .before .before .before .before in
+    let a1 = a2 .before .before .before .before in
+    let a0 = a1 .before .before .before .before in
+    past-then _ _ _ _ _ _ _ (a4 .past-markings .ensures) (past-then _ _ _ _ _ _ _ (a3 .past-steps .ensures) (past-then _ _ _ _ _ _ _ (a2 .past-disablings .ensures) (past-then _ _ _ _ _ _ _ (a1 .past-supervisor-moves .ensures) (a0 .past-supervisors .ensures))))
 
 pub past-late-spec : {M : Type 1} → statement M
 past-late-spec =
     tie.close
     (tie.spec
     past-supervisors-requires
-    read-at-requires
-    enum-told
-    enum-told-2
-    enum-told-3
-    enum-told-4
-    pass-requires
-    returns
-    returns-2
-    returns-3
-    returns-4)
+    past-supervisor-moves-requires
+    past-disablings-requires
+    past-steps-requires
+    past-markings-requires
+    same-length
+    returns)

@@ -1,14 +1,18 @@
+use Rattle.checker.proofs.Stretch.{own-room}
 use borrow.Author.Needs.{needs}
 use Prim.Native.Nat.{_-_}
 use lib.ListN.{length}
 use lib.Dec.{lit≤}
 use Rattle.checker.specs.Stretch.{Passed, atSupervisors}
 use Rattle.checker.proofs.Stretch.{begins-stretch, fields-by, fits-by, further-by, supervisor-move-step}
+use Rattle.context_bytes.specs.Encoding.{alphabets}
+use Rattle.checker.proofs.Stretch.{own-at}
 use Rattle.checker.proofs.supervisor_moves.Statement.{statement}
 use Rattle.checker.proofs.supervisor_moves.Tie as tie
 
 abbrev Inv-loop : tie.InvT-loop
-Inv-loop image from n events known states alphabet last₀ i₀ size last i = Passed image 0x15 (atSupervisors last₀ n events known states alphabet) from (atSupervisors last n events known states alphabet) i
+Inv-loop image from n events known states alphabet last₀ i₀ size last i =
+    Passed image 0x15 (atSupervisors last₀ n events known states (alphabets alphabet)) from (atSupervisors last n events known states (alphabets alphabet)) i
 
 abbrev μ-loop : tie.MeasureT-loop
 μ-loop image from n events known states alphabet last₀ i₀ size last i = length image - i
@@ -34,14 +38,14 @@ returns-2 c = search needs
 wide-requires : tie.Need-wide-requires Inv-loop μ-loop
 wide-requires c κs = search needs
 
-element-copy-out-count : tie.Need-element-copy-out-count Inv-loop μ-loop
-element-copy-out-count c = search needs
+shared-slice-read-count : tie.Need-shared-slice-read-count Inv-loop μ-loop
+shared-slice-read-count c = search needs
 
-mul-own : tie.Need-mul-own Inv-loop μ-loop
-mul-own c = search needs
+mul-word-in : tie.Need-mul-word-in Inv-loop μ-loop
+mul-word-in c = search needs
 
-element-copy-out-own : tie.Need-element-copy-out-own Inv-loop μ-loop
-element-copy-out-own c = search needs
+word-in-requires : tie.Need-word-in-requires Inv-loop μ-loop
+word-in-requires c κs = search own-room
 
 below-requires : tie.Need-below-requires Inv-loop μ-loop
 below-requires c κs = search needs
@@ -65,7 +69,16 @@ loop-less : tie.Need-loop-less Inv-loop μ-loop
 loop-less c = search further-by
 
 loop-again : tie.Need-loop-again Inv-loop μ-loop
-loop-again c = search supervisor-move-step
+loop-again c =
+    let p = c .before in
+    let m = p .before in
+    let b = m .before .before in
+    let w = b .before .before .before in
+    let f = w .before .before in
+    let t = f .before .before in
+    supervisor-move-step _ _ _ _ _ _ (f .fields-at .ensures) (w .wide .ensures) _ _ _ _ _ _ (b .below .ensures) (m .before .below2 .ensures) (t .before .before .size-by .ensures) (t .stands .ensures)
+    (f .before .if1 .left) (w .before .if2 .left) (own-at _ _ _ (b .before .word-in .ensures) (w .wide .ensures) (w .before .if2 .left)) (m .move-named .ensures) (p .precedes .ensures) (c .if3 .left)
+    (t .before .loop .inv)
 
 pub supervisor-moves-spec : {M : Type 1} → statement M
 supervisor-moves-spec =
@@ -80,9 +93,9 @@ supervisor-moves-spec =
     fields-at-requires
     returns-2
     wide-requires
-    element-copy-out-count
-    mul-own
-    element-copy-out-own
+    shared-slice-read-count
+    mul-word-in
+    word-in-requires
     below-requires
     below-requires-2
     move-named-requires

@@ -1,0 +1,21 @@
+use Rattle.context_bytes.specs.Encoding.{countsAt}
+use borrow.Author.Needs.{needs}
+use Rattle.checker.proofs.counts_in.Statement.{statement}
+use Rattle.checker.proofs.counts_in.Tie as tie
+
+byte-at-requires : tie.Need-byte-at-requires
+byte-at-requires c κs = search needs
+
+byte-at-requires-2 : tie.Need-byte-at-requires-2
+byte-at-requires-2 c κs = search needs
+
+byte-at-requires-3 : tie.Need-byte-at-requires-3
+byte-at-requires-3 c κs = search needs
+
+returns : tie.Need-returns
+unfolding countsAt
+returns c = cc
+
+pub counts-in-spec : {M : Type 1} → statement M
+counts-in-spec =
+    tie.close (tie.spec byte-at-requires byte-at-requires-2 byte-at-requires-3 returns)
