@@ -5,20 +5,17 @@ use mathlib.Core.Bool.{Bool, true, false}
 use Prim.Native.Nat.{ℕ, _≤_, _<_}
 use native.Mathlib.Omega.{arith}
 use lib.ListN.{length}
-use lib.Dec.{eqb}
-use borrow.Author.Tests.{lt-ltb, le-ltb, eqb-true}
-use Rattle.roundtrip.specs.Fits.{Bytes}
+use borrow.Author.Tests.{lt-ltb, le-ltb}
 use Rattle.rules.specs.declared.Verdict.{Verdict}
 use Rattle.messages.specs.Message.{putAt, written, short}
 use Rattle.messages.proofs.Writing.{put-start}
-use Rattle.fields.proofs.Back.{and-left}
-use Rattle.pieces.specs.Pieces.{starting, pieceTaken, verdictBy}
+use Rattle.pieces.specs.Pieces.{starting, verdictBy}
 use Rattle.pieces.specs.declared.CheckState.{CheckState}
 use Rattle.piece_bytes.specs.State.{isState, stateAt, stateBytes}
 use Rattle.piece_bytes.proofs.Parts.{parts as state-parts}
 use Rattle.piece_laws.proofs.Encodable.{stays-encodable}
+use Rattle.taking.specs.Taken.{pieceTakenIn}
 use Rattle.packing.specs.Answer.{Answered, packed, verdictAnswer, startAnswer}
-use Rattle.packing.proofs.InPlace.{put-over}
 use Rattle.piece_interface.specs.Calls.{checkStartBytes, checkPieceBytes, checkAnswerBytes}
 
 -- ---- the start
@@ -39,30 +36,14 @@ module _ (b : List ℕ) {r : ℕ} where
 
 -- ---- a piece
 
-state-length : (s : List ℕ) → isState s ≡ true → length s ≡ 495
-unfolding isState
-state-length s h = eqb-true (length s) 495 (and-left (eqb (length s) 495) _ h)
+module _ (s p : List ℕ) {t : Bool} {after : List ℕ} (e : (t ≡ isState s) × (after ≡ pieceTakenIn s p)) {r : ℕ} where
+  pub piece-taken : t ≡ true → r ≡ packed 0 0 0 0 → Answered (checkPieceBytes s p) r after []
+  unfolding checkPieceBytes pieceTakenIn
+  piece-taken h w = let is : isState s ≡ true = sym (e .0) ∙ h in simp is (record { answer = w; state = e .1 ∙ simp is; buffer = refl })
 
-module _ (s p : List ℕ) {t : Bool} (e : t ≡ isState s) {r : ℕ} where
-  -- the state after the piece has as many bytes as the one before
-  pub piece-taken : {k x : CheckState} {after : List ℕ} → Bytes s → Bytes p → t ≡ true → k ≡ stateAt s → x ≡ pieceTaken k p → after ≡ putAt (stateBytes x) 0 s → r ≡ packed 0 0 0 0
-      → Answered (checkPieceBytes s p) r after []
-  unfolding checkPieceBytes
-  piece-taken g f h v y w z =
-      let is : isState s ≡ true = sym e ∙ h in
-      let next : CheckState = pieceTaken (stateAt s) p in
-      let n : length (stateBytes next) ≡ 495 = state-parts .size next (stays-encodable .piece (stateAt s) p (state-parts .encodable s g is) f) in
-      simp is
-      (record {
-        answer = z;
-        state = w ∙ ap (λ (u : CheckState). putAt (stateBytes u) 0 s) (y ∙ ap (λ (u : CheckState). pieceTaken u p) v)
-            ∙ put-over (stateBytes next) s (n ∙ sym (state-length s is));
-        buffer = refl;
-      })
-
-  pub piece-none : t ≡ false → r ≡ packed 9 0 0 0 → Answered (checkPieceBytes s p) r s []
-  unfolding checkPieceBytes
-  piece-none h w = simp (sym e ∙ h) (record { answer = w; state = refl; buffer = refl })
+  pub piece-none : t ≡ false → r ≡ packed 9 0 0 0 → Answered (checkPieceBytes s p) r after []
+  unfolding checkPieceBytes pieceTakenIn
+  piece-none h w = let is : isState s ≡ false = sym (e .0) ∙ h in simp is (record { answer = w; state = e .1 ∙ simp is; buffer = refl })
 
 -- ---- the answer
 

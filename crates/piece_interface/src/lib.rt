@@ -22,10 +22,7 @@ pub fn check_start(state: &mut [u8]) -> u64
 pub fn check_piece(state: &mut [u8], piece: &[u8]) -> u64
     ensures { λ r. ⌜ Answered (checkPieceBytes (now (state .entry)) (now (piece .entry))) r (now (state .exit)) [] ⌝ }
 {
-    if piece_bytes::is_state(&state[..]) {
-        let k = piece_bytes::state_at(&state[..]);
-        let after = pieces::take(k, piece);
-        piece_bytes::put_state(&mut *state, after);
+    if taking::take(&mut *state, piece) {
         return packing::pack(0, 0, 0, 0);
     }
     packing::pack(9, 0, 0, 0)
