@@ -26,7 +26,7 @@ use Rattle.permits.specs.declared.Served.the-variants.{Refused as SupervisorRef
 use Rattle.permits.specs.Module as M
 use Rattle.permits.specs.Supervisor as S
 use Rattle.turn_laws.proofs.Laws.{turn-laws}
-use Rattle.turn_laws.proofs.Words.{words}
+use Rattle.roundtrip.proofs.AllFit.{all-fit}
 use Rattle.bits.specs.Bit.{isSome}
 use Rattle.protocol.specs.Generic.{Picked, pick, update}
 use Rattle.protocol.specs.Plan.{Laws}
@@ -202,7 +202,7 @@ pub demand : Demand
 unfolding planOf
 demand image bytes plan acts n =
     let rs : List Record = recordsOf image in
-    let L : Laws (planOf (recordsOf image)) = laws (recordsOf image) (turn-laws (recordsOf image) (every-plan image plan .sound) (words image bytes)) in
+    let L : Laws (planOf (recordsOf image)) = laws (recordsOf image) (turn-laws (recordsOf image) (every-plan image plan .sound) (all-fit image bytes)) in
     let I : Inv (planOf rs) (P.startSystem (planOf rs)) (P.startDevice (planOf rs)) = start-inv (planOf rs) L in
     let r = ran image plan L acts (A.start image) (P.startSystem (planOf rs)) (P.startDevice (planOf rs)) (startCall image .device) n (start-sim image plan L) I (start-same image plan L) in
     let w = whole (planOf rs) L (map actOf acts) (P.startSystem (planOf rs)) (P.startDevice (planOf rs)) I in

@@ -1,4 +1,5 @@
 pub mod Shape
 pub mod OneRecord
 pub mod TakenApart
+pub mod AllFit
 pub mod RoundTrips

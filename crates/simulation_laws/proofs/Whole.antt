@@ -23,7 +23,7 @@ use Rattle.acts.specs.declared.Act.the-variants.{Module as ModuleLine, Supervis
 use Rattle.simulation.specs.Play.{played}
 use Rattle.turn_laws.specs.Laws.{TurnLaws}
 use Rattle.turn_laws.proofs.Laws.{turn-laws}
-use Rattle.turn_laws.proofs.Words.{words}
+use Rattle.roundtrip.proofs.AllFit.{all-fit}
 use Rattle.agreement.specs.System as A
 use Rattle.agreement.specs.Compared as C
 use Rattle.words.proofs.Lists.{from-length}
@@ -82,7 +82,7 @@ module _ (image : List ℕ) (bytes : (i : ℕ) → getD image i 0 < 256) (plan :
   rs = recordsOf image
 
   T : TurnLaws rs
-  T = turn-laws rs (every-plan image plan .sound) (words image bytes)
+  T = turn-laws rs (every-plan image plan .sound) (all-fit image bytes)
 
   -- ---- the start
 

@@ -8,7 +8,8 @@ use borrow.Author.Tests.{ltb-true}
 use denote.Floats.{passes as holds, is-true}
 use Rattle.records.specs.declared.Record.{Record}
 use Rattle.reader.specs.Walk.{recordsOf}
-use Rattle.roundtrip.specs.Fits.{Bytes}
+use Rattle.roundtrip.specs.Fits.{AllFit, Bytes}
+use Rattle.roundtrip.proofs.AllFit.{all-fit}
 use Rattle.rules.specs.LookUp.{modulesOf}
 use Rattle.rules.specs.Check.{IsPlan}
 use Rattle.accepted.specs.Plan.{Sound}
@@ -16,8 +17,7 @@ use Rattle.accepted.proofs.Accepted.{every-plan}
 use Rattle.modules.specs.declared.Own.{Own}
 use Rattle.modules.specs.Turn.{startOwn}
 use Rattle.modules.specs.Fits.{ownFits}
-use Rattle.turn_laws.specs.Laws.{Words, fitsAt, TurnLaws}
-use Rattle.turn_laws.proofs.Words.{words}
+use Rattle.turn_laws.specs.Laws.{fitsAt, TurnLaws}
 use Rattle.turn_laws.proofs.Plan.{asked}
 use Rattle.turn_laws.proofs.Found as found
 use Rattle.turn_laws.proofs.Plan as plan
@@ -34,7 +34,7 @@ kept rs m a b f e =
     asked (ltb m (modulesOf rs)) (ownFits rs m b)
     (λ h. is-true (ownFits rs m b) (f (holds _ (subst (λ (t : Bool). cond t (ownFits rs m a) true ≡ true) h e))))
 
-pub turn-laws : (rs : List Record) → Sound rs → Words rs → TurnLaws rs
+pub turn-laws : (rs : List Record) → Sound rs → AllFit rs → TurnLaws rs
 unfolding startOwn
 turn-laws rs s w = record {
   few-modules = s .modules .1;
@@ -77,4 +77,4 @@ turn-laws rs s w = record {
 
 -- the records of an accepted image of bytes
 pub plan-laws : (s : List ℕ) → Bytes s → IsPlan s → TurnLaws (recordsOf s)
-plan-laws s g accepted = turn-laws (recordsOf s) (every-plan s accepted .sound) (words s g)
+plan-laws s g accepted = turn-laws (recordsOf s) (every-plan s accepted .sound) (all-fit s g)

@@ -1,6 +1,5 @@
 pub mod Found
 pub mod Plan
-pub mod Words
 pub mod Water
 pub mod Queue
 pub mod Procedure

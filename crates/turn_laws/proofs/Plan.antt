@@ -16,10 +16,11 @@ use Rattle.records.specs.declared.Record.the-variants.{Event, Module, Superviso
 use Rattle.reader.specs.Find.{findIn, found}
 use Rattle.reader.specs.declared.Found.{Found}
 use Rattle.reader.specs.declared.Found.the-variants.{It, Missing}
+use Rattle.roundtrip.specs.Fits.{AllFit}
 use Rattle.rules.specs.LookUp.{field2, field3, wordField, fieldOf, modulesOf, supervisorsOf, eventsOf, supervisorIn, moduleState, supervisorState, ownerOf, controllable, alphabetOf}
 use Rattle.plan.specs.Plan.{supervisorMove, moduleInitial, supervisorInitial, shown, inAlphabet}
 use Rattle.accepted.specs.Plan.{_∈_, DisabledLaw, Sound}
-use Rattle.turn_laws.specs.Laws.{Words, stateFitsAt}
+use Rattle.turn_laws.specs.Laws.{stateFitsAt}
 use Rattle.turn_laws.proofs.Found.{keyed, at, supervisor-law, supervisor-move, disabling-law}
 
 -- an 8-byte field of what is not found has no bit
@@ -73,7 +74,7 @@ module _ (rs : List Record) (plan : Sound rs) where
   pub alphabet-supervisor : (v e : ℕ) → inAlphabet rs v e ≡ true → v < supervisorsOf rs
   alphabet-supervisor v e b = supervisor-law rs plan v (bit-found (supervisorIn rs v) e b) .number
 
-module _ (rs : List Record) (plan : Sound rs) (words : Words rs) where
+module _ (rs : List Record) (plan : Sound rs) (fit : AllFit rs) where
   -- ---- masks, which are words of 64 bits
 
   word-small : (l : Found) → (T (found l) → fieldOf wordField l < 2 ^ 64) → fieldOf wordField l < 2 ^ 64
@@ -85,13 +86,13 @@ module _ (rs : List Record) (plan : Sound rs) (words : Words rs) where
   unfolding fieldOf wordField
   shown-small v x =
       let p = keyBy 0x16 v x 0 in
-      word-small (findIn p rs) (at rs plan p (λ l. fieldOf wordField l < 2 ^ 64) (λ r n. words (keyed p r) n .2))
+      word-small (findIn p rs) (at rs plan p (λ l. fieldOf wordField l < 2 ^ 64) (λ r n. fit (keyed p r) n .2))
 
   alphabet-small : (v : ℕ) → alphabetOf rs v < 2 ^ 64
   unfolding fieldOf wordField
   alphabet-small v =
       let p = keyBy 0x14 v 0 0 in
-      word-small (findIn p rs) (at rs plan p (λ l. fieldOf wordField l < 2 ^ 64) (λ r n. words (keyed p r) n .3))
+      word-small (findIn p rs) (at rs plan p (λ l. fieldOf wordField l < 2 ^ 64) (λ r n. fit (keyed p r) n .3))
 
   disabled : (v x e : ℕ) → bit (shown rs v x) e ≡ true → DisabledLaw rs v e
   disabled v x e b =

@@ -11,10 +11,9 @@ use Rattle.bits.specs.Bit.{bit}
 use Rattle.records.specs.Key.{keyBy}
 use Rattle.records.specs.declared.Record.{Record}
 use Rattle.reader.specs.Find.{findIn, found}
-use Rattle.roundtrip.specs.Fits.{Fits}
 use Rattle.rules.specs.LookUp.{modulesOf, supervisorsOf, eventsOf, supervisorState, ownerOf, controllable}
 use Rattle.plan.specs.Plan.{moduleMove, supervisorMove, moduleInitial, supervisorInitial, shown, inAlphabet, stepIn, operationOf, operandOf}
-use Rattle.accepted.specs.Plan.{_∈_, ModuleMoveLaw, SupervisorMoveLaw, StepLaw}
+use Rattle.accepted.specs.Plan.{ModuleMoveLaw, SupervisorMoveLaw, StepLaw}
 use Rattle.litres.specs.Eighths.{count}
 use Rattle.water.specs.declared.Flow.{Flow}
 use Rattle.modules.specs.Queue.{queueOf, places, withQueue, queued}
@@ -26,10 +25,6 @@ use Rattle.modules.specs.declared.Procedure.{Procedure}
 use Rattle.modules.specs.declared.Turn.{Turn}
 use Rattle.modules.specs.declared.Turn.the-variants.{Event, Stray, Nothing}
 use Rattle.modules.specs.declared.Turned.{Turned}
-
--- every record fits the sizes of its fields
-abbrev pub Words : List Record → Type 0
-Words rs = (r : Record) → r ∈ rs → Fits r
 
 -- the own part fits, of a module that the plan has; nothing is asked of another
 abbrev pub fitsAt : List Record → ℕ → Own → Bool
