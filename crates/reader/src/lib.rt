@@ -100,7 +100,7 @@ pub enum Read {
 }
 
 // The same without the fields.
-enum Shape {
+pub enum Shape {
     // the kind, and the offsets of the body and of what follows it
     Whole(u8, usize, usize),
     Unknown,
@@ -108,7 +108,8 @@ enum Shape {
     Nothing,
 }
 
-fn shape_at(s: &[u8], at: usize) -> Shape
+// The shape alone, for a caller that reads fields where they stand.
+pub fn shape_at(s: &[u8], at: usize) -> Shape
     ensures { λ r. ⌜ r ≡ shapeAt (now (s .entry)) at ⌝ }
 {
     if s.len() <= at {
