@@ -1,0 +1,4 @@
+pub mod Paper
+pub mod Print
+pub mod Numbers
+pub mod Put
