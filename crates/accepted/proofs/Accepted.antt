@@ -149,7 +149,8 @@ module _ (latest all : List Record) (v : Valid latest) (ended : End ∈ latest) 
 
 -- ---- an accepted plan
 
-in-reverse : (xs acc : List Record) (t : Record) → (t ∈ xs) ⊎ (t ∈ acc) → t ∈ reverseAux xs acc
+-- a list turned round has the same records
+pub in-reverse : (xs acc : List Record) (t : Record) → (t ∈ xs) ⊎ (t ∈ acc) → t ∈ reverseAux xs acc
 in-reverse [] acc t (inl m) = absurd (List·Memᴰ·not-nil m)
 in-reverse [] acc t (inr m) = m
 in-reverse (x ∷ xs) acc t (inl m) = in-reverse xs (x ∷ acc) t (⊎-elim (λ e. inr (List·Memᴰ·head e)) (λ n. inl n) (List·Memᴰ·cases-cons m))

@@ -1,0 +1,4 @@
+pub mod Read
+pub mod OnPaper
+pub mod Most
+pub mod Enough
