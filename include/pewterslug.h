@@ -42,6 +42,9 @@ uint32_t pewterslug_version(void);
 #define PEWTERSLUG_STEP_BYTES 128    /* the longest answer of a step: 32 releases of 4 bytes */
 #define PEWTERSLUG_STUCK_BYTES 4143  /* the longest answer of find_stuck: a word of 4,095 events and 48 states */
 #define PEWTERSLUG_COUNT_BYTES 86037 /* enough for every text of count_words: 4,097 lines of 20 digits and a line feed */
+#define PEWTERSLUG_LINE_BYTES 73     /* a line of print_plan: 72 characters and a line feed */
+#define PEWTERSLUG_PAGE_BYTES 4380   /* a page of print_plan: 60 lines */
+#define PEWTERSLUG_PRINT_BYTES 735840 /* enough for every text of print_plan: 168 pages */
 
 /* How many at most: modules, supervisors and events of a plan; responses queued and outputs of a module. */
 #define PEWTERSLUG_MODULE_LIMIT 16
@@ -348,6 +351,37 @@ uint64_t pewterslug_read_record(const uint8_t *image, size_t image_length, size_
  * at. A kind that is none is 5. */
 uint64_t pewterslug_write_record(uint8_t kind, uint8_t first, uint8_t second, uint8_t third, uint8_t fourth, uint64_t word,
                                  uint8_t *buffer, size_t buffer_length);
+
+/* Prints a plan: a text of lines of exactly 72 characters and a line feed, one for each record in the image's order, the end record too. 60
+ * lines are a page; the last page is filled up with lines of 72 spaces.
+ *
+ *   columns   1 to 16  the name of the record's kind, as in the table of plan records, at the left
+ *            17 to 40  four columns of 6: the one-byte fields in the table's order, decimal, at the right
+ *            41 to 72  the field of eight bytes as 16 upper-case hexadecimal digits, at the right
+ *
+ * What a record lacks is blank. The text read by its columns gives exactly the image again, so two plans have the same text only if they are
+ * the same.
+ *
+ * The call did PEWTERSLUG_DONE and wrote pewterslug_print_bytes of the image's records. After the image's numbers comes 15, where the buffer
+ * is shorter than that. PEWTERSLUG_PRINT_BYTES are always enough. */
+uint64_t pewterslug_print_plan(const uint8_t *image, size_t image_length, uint8_t *buffer, size_t buffer_length);
+
+/* How many bytes print_plan writes for so many records: a page for each 60 that are begun. */
+static inline size_t pewterslug_print_bytes(size_t records) { return (records / 60 + (records % 60 != 0)) * PEWTERSLUG_PAGE_BYTES; }
+
+/* How many records an image has, as far as they can be read; of an accepted plan all. */
+static inline size_t pewterslug_record_count(const uint8_t *image, size_t image_length)
+{
+    size_t records = 0;
+    size_t offset = 0;
+    uint64_t answer = pewterslug_read_record(image, image_length, offset);
+    while (pewterslug_number(answer) == PEWTERSLUG_ACCEPTED) {
+        records++;
+        offset += pewterslug_length(answer);
+        answer = pewterslug_read_record(image, image_length, offset);
+    }
+    return records;
+}
 
 /* Whether the plan ever gets stuck: a question for a workstation and not for a device. It takes about 2.0 MB of stack, and time that grows
  * with the joint states found, the modules and supervisors, and the events that may happen in each.

@@ -23,6 +23,10 @@ use Rattle.messages.specs.declared.Parsed.the-variants.{Whole as Message, Missh
 use Rattle.rules.specs.Check.{verdictOf}
 use Rattle.rules.specs.declared.Verdict.{Verdict}
 use Rattle.rules.specs.declared.Verdict.the-variants.{Accepted, Refused as CheckRefused}
+use Rattle.paper.specs.Print.{answerBy as printAnswer}
+use Rattle.paper.specs.Numbers.{printedNumber}
+use Rattle.paper.specs.declared.Printed.{Printed}
+use Rattle.paper.specs.declared.Printed.the-variants.{Length as Pages, Refused as PrintRefused}
 use Rattle.modules.specs.Numbers.{calledNumber}
 use Rattle.modules.specs.declared.Turn.{Turn}
 use Rattle.modules.specs.declared.Turn.the-variants.{Event, Stray, Nothing}
@@ -48,7 +52,7 @@ use Rattle.words.specs.Word.{quadAt}
 use Rattle.piece_bytes.specs.State.{stageOf, isStage, isState, stateAt, stateBytes}
 use Rattle.piece_interface.specs.Calls.{checkStartBytes, checkPieceBytes, checkAnswerBytes}
 use Rattle.refusals.specs.Numbers.{verdictNumber, writtenNumber}
-use Rattle.refusals.specs.Refusals.{InTable, OfCheck, CheckAnswer, WriteAnswer, CallAnswer, TurnAnswer, StepAnswer, ServeAnswer, BlockingAnswer, OfStuck, CountingAnswer, OfCounts}
+use Rattle.refusals.specs.Refusals.{InTable, OfPages, OfCheck, CheckAnswer, WriteAnswer, PrintAnswer, CallAnswer, TurnAnswer, StepAnswer, ServeAnswer, BlockingAnswer, OfStuck, CountingAnswer, OfCounts}
 use Rattle.refusals.proofs.Cases.{done}
 use Rattle.refusals.proofs.Refusals.{refusals}
 use Rattle.device_bytes.specs.Device.{deviceBytes, deviceOf}
@@ -57,6 +61,7 @@ use Rattle.party_bytes.specs.Supervisor.{supervisorBytes, supervisorOf}
 use Rattle.packing.specs.Answer.{packed, verdictAnswer, calledAnswer, turnAnswer, turningAnswer, steppedAnswer, servedAnswer, startAnswer}
 use Rattle.packing.specs.Flow.{flowOf}
 use Rattle.plan_interface.specs.Records.{readBy, recordBy, writtenAnswer, writeBy}
+use Rattle.plan_interface.specs.Pages.{printedAnswer, printBy}
 use Rattle.plan_interface.specs.Messages.{messageKind, parsedAnswer, messageBy, writeParsed}
 use Rattle.blocking.specs.Numbers.{blockingNumber}
 use Rattle.blocking.proofs.OneAnswer.{one-answer}
@@ -66,7 +71,7 @@ use Rattle.analysis_interface.specs.Analysis.{blockingAnswer}
 use Rattle.counting.specs.Numbers.{countingNumber}
 use Rattle.counting.proofs.OneAnswer.{one-answer as one-count}
 use Rattle.counting.specs.declared.Counting.{Counting}
-use Rattle.counting.specs.declared.Counting.the-variants.{Printed, Refused as CountRefused}
+use Rattle.counting.specs.declared.Counting.the-variants.{Printed as Counted, Refused as CountRefused}
 use Rattle.analysis_interface.specs.Counts.{countingAnswer}
 use Rattle.device_interface.specs.Calls as Device
 use Rattle.module_interface.specs.Calls as Module
@@ -109,6 +114,15 @@ record-number : (f : Found) (l : List ℕ) → numberOf (writeBy f l) ≡ record
 unfolding writeBy
 record-number (It r) l = written-number (answerOf r l) (refusals .writers .write r l .answer)
 record-number Missing l = small 5 0 (lit< tt)
+
+printed-number : (a : Printed) → PrintAnswer a → printedAnswer a % 256 ≡ printedNumber a
+unfolding printedAnswer
+printed-number (Pages n) h = accepted 0 0 n
+printed-number (PrintRefused n o) h = go (h .numbered n o refl)
+  where
+    go : OfPages n → packed n 0 0 o % 256 ≡ n
+    go (inl t) = small n o (omega (arith, t .1))
+    go (inr e) = small n o (omega arith)
 
 parsed-number : (p : Parsed) → parsedAnswer p % 256 ≡ parsedNumber p
 unfolding parsedAnswer
@@ -223,7 +237,7 @@ blocking-number (StuckRefused n o) h = of-stuck n o (h .numbered n o refl)
 
 counting-number : (a : Counting) → CountingAnswer a → countingAnswer a % 256 ≡ countingNumber a
 unfolding countingAnswer
-counting-number (Printed n) h = accepted 0 0 n
+counting-number (Counted n) h = accepted 0 0 n
 counting-number (CountRefused n o) h = go (h .numbered n o refl)
   where
     go : OfCounts n → packed n 0 0 o % 256 ≡ n
@@ -239,6 +253,7 @@ same-numbers =
       checkAnswer = answer-number;
       readRecord = λ s at. read-number s at (readAt s at);
       writeRecord = λ k a b c d w l. record-number (recordBy k a b c d w) l;
+      printPlan = λ image l. unfold printBy in printed-number (printAnswer (verdictOf image) image l) (refusals .writers .print image l .answer);
       readMessage = λ g. parsed-number (parse g);
       writeMessage = λ k a b e w l. message-number (messageBy k a b e w) l;
       deviceStart = λ image l. unfold Device.startBytes in start-number 592 (startCall image .answer) (deviceBytes (startCall image .device)) l (refusals .device .start image);

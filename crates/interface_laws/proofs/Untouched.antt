@@ -31,6 +31,7 @@ use Rattle.pieces.specs.Pieces.{starting, pieceTaken}
 use Rattle.piece_bytes.specs.State.{isState, stateAt, stateBytes}
 use Rattle.piece_interface.specs.Calls.{checkStartBytes, checkPieceBytes}
 use Rattle.plan_interface.specs.Records.{recordBy, writtenAnswer, writeBy}
+use Rattle.plan_interface.specs.Pages.{printBy}
 use Rattle.plan_interface.specs.Messages.{messageBy, writeParsed}
 use Rattle.device_interface.specs.Calls as Device
 use Rattle.module_interface.specs.Calls as Module
@@ -96,6 +97,11 @@ all-untouched =
       checkStart = λ l. unfold checkStartBytes in start-untouched 495 Done (stateBytes starting) l;
       checkPiece = piece-untouched;
       writeRecord = λ k a b c d w l. record-untouched (recordBy k a b c d w) l;
+      printPlan = λ image l. unfold printBy in
+          record {
+            state = λ h. refl;
+            buffer = λ h. refusals .writers .print image l .buffer .untouched (λ z. h (same-numbers .printPlan image l ∙ z));
+          };
       writeMessage = λ k a b e w l. message-untouched (messageBy k a b e w) l;
       deviceStart = λ image l. unfold Device.startBytes in start-untouched 592 (startCall image .answer) (deviceBytes (startCall image .device)) l;
       deviceTurn = λ image s m. unfold Device.turnBytes in on-state _ _ _ s (same-numbers .deviceTurn image s m);

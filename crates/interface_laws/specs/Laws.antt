@@ -18,6 +18,8 @@ use Rattle.messages.specs.declared.Parsed.the-variants.{Whole, Misshapen}
 use Rattle.rules.specs.LookUp.{modulesOf, supervisorsOf}
 use Rattle.rules.specs.Check.{verdictOf}
 use Rattle.rules.specs.declared.Verdict.the-variants.{Accepted}
+use Rattle.paper.specs.Print.{answerBy as printAnswer}
+use Rattle.paper.specs.Numbers.{printedNumber}
 use Rattle.modules.specs.Numbers.{calledNumber}
 use Rattle.device.specs.Numbers.{turningNumber}
 use Rattle.device.specs.Device.{startCall, turnCall, respondCall, tickCall}
@@ -31,6 +33,7 @@ use Rattle.party_bytes.specs.Supervisor.{isSupervisor, supervisorOf}
 use Rattle.packing.specs.Answer.{Answer, refused}
 use Rattle.packing.specs.Flow.{flowOf}
 use Rattle.plan_interface.specs.Records.{checkAnswer, readAnswer, recordBy, writeBytes}
+use Rattle.plan_interface.specs.Pages.{printBytes}
 use Rattle.plan_interface.specs.Messages.{readMessageAnswer, messageBy, writeMessageBytes}
 use Rattle.pieces.specs.Pieces.{verdictBy}
 use Rattle.piece_bytes.specs.State.{isState, stateAt}
@@ -60,6 +63,7 @@ pub record AllUntouched : Type 0 where
   pub checkStart : (l : List ℕ) → Untouched (checkStartBytes l) [] l
   pub checkPiece : (s p : List ℕ) → Untouched (checkPieceBytes s p) s []
   pub writeRecord : (k a b c d w : ℕ) (l : List ℕ) → Untouched (writeBytes k a b c d w l) [] l
+  pub printPlan : (image l : List ℕ) → Untouched (printBytes image l) [] l
   pub writeMessage : (k a b e w : ℕ) (l : List ℕ) → Untouched (writeMessageBytes k a b e w l) [] l
   pub deviceStart : (image l : List ℕ) → Untouched (Device.startBytes image l) [] l
   pub deviceTurn : (image s : List ℕ) (m : ℕ) → Untouched (Device.turnBytes image s m) s []
@@ -124,6 +128,7 @@ pub record SameNumbers : Type 0 where
   pub checkAnswer : (s : List ℕ) → checkAnswerBytes s % 256 ≡ cond (isState s) (verdictNumber (verdictBy (stateAt s))) 9
   pub readRecord : (s : List ℕ) (at : ℕ) → readAnswer s at % 256 ≡ readNumber (readAt s at)
   pub writeRecord : (k a b c d w : ℕ) (l : List ℕ) → numberOf (writeBytes k a b c d w l) ≡ recordNumber (recordBy k a b c d w) l
+  pub printPlan : (image l : List ℕ) → numberOf (printBytes image l) ≡ printedNumber (printAnswer (verdictOf image) image l)
   pub readMessage : (g : List ℕ) → readMessageAnswer g % 256 ≡ parsedNumber (parse g)
   pub writeMessage : (k a b e w : ℕ) (l : List ℕ) → numberOf (writeMessageBytes k a b e w l) ≡ messageNumber (messageBy k a b e w) l
   pub deviceStart : (image l : List ℕ) → numberOf (Device.startBytes image l) ≡ startNumber 592 (calledNumber (startCall image .answer)) l

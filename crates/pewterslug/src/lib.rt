@@ -5,6 +5,7 @@ ghost use Rattle.packing.specs.Answer.{Answered};
 ghost use Rattle.analysis_interface.specs.Analysis.{FoundBytes};
 ghost use Rattle.analysis_interface.specs.Counts.{CountedBytes};
 ghost use Rattle.plan_interface.specs.Records.{checkAnswer, readAnswer, writeBytes};
+ghost use Rattle.plan_interface.specs.Pages.{printBytes};
 ghost use Rattle.plan_interface.specs.Messages.{readMessageAnswer, writeMessageBytes};
 ghost use Rattle.piece_interface.specs.Calls.{checkStartBytes, checkPieceBytes, checkAnswerBytes};
 ghost use Rattle.device_interface.specs.Calls as Device;
@@ -73,6 +74,13 @@ pub extern "C" fn pewterslug_write_record(
     ensures { λ r. ⌜ Answered (writeBytes kind first second third fourth word (now (buffer .entry))) r [] (now (buffer .exit)) ⌝ }
 {
     plan_interface::write_record(kind, first, second, third, fourth, word, buffer)
+}
+
+#[no_mangle]
+pub extern "C" fn pewterslug_print_plan(image: &[u8], buffer: &mut [u8]) -> u64
+    ensures { λ r. ⌜ Answered (printBytes (now (image .entry)) (now (buffer .entry))) r [] (now (buffer .exit)) ⌝ }
+{
+    plan_interface::print_plan(image, buffer)
 }
 
 #[no_mangle]

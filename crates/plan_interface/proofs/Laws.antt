@@ -1,4 +1,4 @@
--- Records and messages over lent bytes, from what the code is told.
+-- Records, pages and messages over lent bytes, from what the code is told.
 use mathlib.Core.Path.{_≡_, refl, sym, ap, ap₂, _∙_}
 use mathlib.Core.List.{List, []}
 use mathlib.Core.Bool.{Bool, true, false, not}
@@ -20,8 +20,11 @@ use Rattle.messages.specs.declared.Message.{Message}
 use Rattle.messages.specs.declared.Parsed.{Parsed}
 use Rattle.messages.specs.declared.Parsed.the-variants.{Whole as Read-whole, Misshapen}
 use Rattle.messages.proofs.Writing.{start-fits, put-start, put-short}
+use Rattle.paper.specs.Print.{bufferBy as pagesBy, PagesAs}
+use Rattle.paper.specs.declared.Printed.{Printed}
 use Rattle.packing.specs.Answer.{Answer, Answered, packed}
 use Rattle.plan_interface.specs.Records.{readBy, readAnswer, recordBy, writtenAnswer, writeBy, writeBytes}
+use Rattle.plan_interface.specs.Pages.{printedAnswer, printBy, printBytes}
 use Rattle.plan_interface.specs.Messages.{messageKind, parsedAnswer, readMessageAnswer, messageBy, writeParsed, writeMessageBytes}
 
 -- ---- a record read
@@ -72,6 +75,13 @@ module _ (k a b c d w : ℕ) (lent : List ℕ) {f : Found} (e : f ≡ recordBy k
         state = sym (ap (λ (p : Answer). p .state) is);
         buffer = sym (ap (λ (p : Answer). p .buffer) is);
       }
+
+-- ---- a plan printed
+
+pub print-by : (s b : List ℕ) {r : ℕ} {p : Printed} {after : List ℕ} → PagesAs s b p after → r ≡ printedAnswer p → Answered (printBytes s b) r [] after
+unfolding printBy
+print-by s b h e =
+    record { answer = e ∙ ap printedAnswer (h .answer); state = refl; buffer = h .buffer ∙ ap (λ (q : Printed). pagesBy q s b) (h .answer) }
 
 -- ---- a message read
 

@@ -1,11 +1,13 @@
-// The check of a plan, one record and one message over lent bytes: specs/Records.antt and specs/Messages.antt.
+// The check of a plan, its pages, one record and one message over lent bytes: specs/Records.antt, specs/Pages.antt and specs/Messages.antt.
 ghost use mathlib.Core.Path.{_≡_};
 ghost use mathlib.Core.List.{[]};
 ghost use Rattle.packing.specs.Answer.{Answered};
 ghost use Rattle.plan_interface.specs.Records.{checkAnswer, readAnswer, wordRecordBy, recordBy, writtenAnswer, writeBytes};
+ghost use Rattle.plan_interface.specs.Pages.{printedAnswer, printBytes};
 ghost use Rattle.plan_interface.specs.Messages.{messageKind, readMessageAnswer, messageBy, writeMessageBytes};
 use messages::Message;
 use messages::Parsed;
+use paper::Printed;
 use reader::Found;
 use reader::Read;
 use records::Record;
@@ -114,6 +116,22 @@ pub fn write_record(k: u8, a: u8, b: u8, c: u8, d: u8, w: u64, buffer: &mut [u8]
         Found::It(record) => written(writer::write(record, &mut *buffer)),
         Found::Missing => packing::pack(5, 0, 0, 0),
     }
+}
+
+fn printed(p: Printed) -> u64
+    ensures { λ r. ⌜ r ≡ printedAnswer p ⌝ }
+{
+    match p {
+        Printed::Length(n) => packing::pack(0, 0, 0, n),
+        Printed::Refused(n, o) => packing::pack(n, 0, 0, o),
+    }
+}
+
+// Prints a plan from the buffer's start.
+pub fn print_plan(image: &[u8], buffer: &mut [u8]) -> u64
+    ensures { λ r. ⌜ Answered (printBytes (now (image .entry)) (now (buffer .entry))) r [] (now (buffer .exit)) ⌝ }
+{
+    printed(paper::print(image, buffer))
 }
 
 fn kind_of(g: Message) -> u8

@@ -1,13 +1,9 @@
 -- What a refused analysis of a plan leaves of the buffer.
-use Prim.Native.Nat.{ℕ, _≤_}
-use mathlib.Core.Path.{_≡_, refl, ap, subst}
+use Prim.Native.Nat.{ℕ}
+use mathlib.Core.Path.{refl, ap}
 use mathlib.Core.Logic.{inl, inr}
 use mathlib.Core.List.{List, _++_}
 use lib.ListN.{length}
-use Rattle.rules.specs.Check.{verdictOf}
-use Rattle.rules.specs.declared.Verdict.{Verdict}
-use Rattle.rules.specs.declared.Verdict.the-variants.{Refused as CheckRefused}
-use Rattle.refusals.specs.Numbers.{verdictNumber}
 use Rattle.blocking.specs.Blocking.{Told, image-refused, too-many, free, short, stuck}
 use Rattle.blocking.specs.Numbers.{blockingNumber, blockingOffset, blockingLength}
 use Rattle.blocking.specs.declared.Blocking.{Blocking}
@@ -16,22 +12,16 @@ use Rattle.counting.specs.Counting.{Told as CountsTold, answerText, image-refus
 use Rattle.counting.specs.Numbers.{countingNumber, countingOffset, countingLength}
 use Rattle.counting.specs.declared.Counting.{Counting}
 use Rattle.counting.specs.declared.Counting.the-variants.{Printed, Refused as CountRefused}
-use Rattle.refusals.specs.Refusals.{OfStuck, OfCounts, Placed, CheckAnswer, FindStuck, CountWords, Analyses}
+use Rattle.refusals.specs.Refusals.{OfStuck, OfCounts, Placed, FindStuck, CountWords, Analyses}
 use Rattle.refusals.proofs.Cases.{never, at-zero, accepts, refuses, untouched, put}
-use Rattle.refusals.proofs.Checked.{checked, checker}
-
--- a number of the image's own
-of-image : (image : List ℕ) {n o : ℕ} → verdictOf image ≡ CheckRefused n o → OfStuck n × Placed n o
-of-image image {n} {o} e =
-    let j : CheckAnswer (CheckRefused n o) = subst CheckAnswer e (checked image) in
-    (inl (j .numbered n o refl .0, subst (λ (v : Verdict). verdictNumber v ≤ 8) e (checker .numbers image)), j .placed)
+use Rattle.refusals.proofs.Checked.{of-image}
 
 stuck-refused : (n o : ℕ) (b : List ℕ) → OfStuck n → Placed n o → FindStuck b (Refused n o) b
 stuck-refused n o b t p =
     record { answer = refuses OfStuck blockingNumber blockingOffset Refused (λ n o. refl) (λ n o. refl) n o t p; bytes = λ k e. ap blockingLength e; free = λ e. ap blockingLength e; buffer = untouched n b }
 
 find-stuck : (image b : List ℕ) (a : Blocking) (c : List ℕ) → Told image b a c → FindStuck b a c
-find-stuck image b (Refused n o) c (image-refused e) = let j = of-image image e in stuck-refused n o b (j .0) (j .1)
+find-stuck image b (Refused n o) c (image-refused e) = let j = of-image image e in stuck-refused n o b (inl (j .0)) (j .1)
 find-stuck image b (Refused n o) c (too-many i m) = stuck-refused 16 0 b (inr (inr refl)) (at-zero 16)
 find-stuck image b Free c (free i m f) =
     record { answer = accepts OfStuck blockingNumber blockingOffset Refused _ (λ n o e. never (cc)) refl refl; bytes = λ k e. ap blockingLength e; free = λ e. ap blockingLength e; buffer = untouched 0 b }
@@ -44,7 +34,7 @@ count-refused n o b t p =
     record { answer = refuses OfCounts countingNumber countingOffset CountRefused (λ n o. refl) (λ n o. refl) n o t p; bytes = λ k e. ap countingLength e; buffer = untouched n b }
 
 count-words : (image : List ℕ) (m : ℕ) (b : List ℕ) (a : Counting) (c : List ℕ) → CountsTold image m b a c → CountWords b a c
-count-words image m b (CountRefused n o) c (count-image-refused e) = let j = of-image image e in count-refused n o b (inl (j .0)) (j .1)
+count-words image m b (CountRefused n o) c (count-image-refused e) = let j = of-image image e in count-refused n o b (inl (inl (j .0))) (j .1)
 count-words image m b (CountRefused n o) c (count-too-many i h) = count-refused 16 0 b (inl (inr (inr refl))) (at-zero 16)
 count-words image m b (CountRefused n o) c (too-long i a h) = count-refused 17 0 b (inr refl) (at-zero 17)
 count-words image m b (CountRefused n o) c (too-large i h l) = count-refused 17 0 b (inr refl) (at-zero 17)

@@ -1,7 +1,7 @@
 -- The numbers of the check: a walk stops at 2 or 3, a faulty record is 4 to 8, and 1 stands alone.
 use Prim.Native.Nat.{ℕ, zero, suc, _≤_}
 use native.Mathlib.Omega.{arith}
-use mathlib.Core.Path.{_≡_, refl}
+use mathlib.Core.Path.{_≡_, refl, subst}
 use mathlib.Core.List.{List, [], _∷_}
 use mathlib.Core.Bool.{Bool, true, false, cond}
 use lib.ListN.{length}
@@ -108,6 +108,12 @@ piece k j = either Numbered (ltb limit (k .taken)) too-long (numbered _ (stage (
 
 pub checked : (image : List ℕ) → CheckAnswer (verdictOf image)
 checked image = verdict image .answer
+
+-- a number of the image's own
+pub of-image : (image : List ℕ) {n o : ℕ} → verdictOf image ≡ Refused n o → ((1 ≤ n) × (n ≤ 8)) × Placed n o
+of-image image {n} {o} e =
+    let j : CheckAnswer (Refused n o) = subst CheckAnswer e (checked image) in
+    ((j .numbered n o refl .0, subst (λ (v : Verdict). verdictNumber v ≤ 8) e (verdict image .small)), j .placed)
 
 pub checker : Checker
 checker =

@@ -1,6 +1,7 @@
 -- What a refused writer leaves of the buffer.
 use Prim.Native.Nat.{ℕ}
 use mathlib.Core.Path.{_≡_, refl, ap}
+use mathlib.Core.Logic.{inl, inr}
 use mathlib.Core.List.{List}
 use mathlib.Core.Bool.{Bool, true, false, cond}
 use lib.ListN.{length}
@@ -18,12 +19,15 @@ use Rattle.writer.specs.declared.Written.the-variants.{Length, Refused as Write
 use Rattle.writer.proofs.Writing.{length-bytes}
 use Rattle.rewrite.specs.Rewrite.{planBytes, answerBy as rewriteAnswer, bufferBy as rewriteBuffer}
 use Rattle.rewrite.specs.declared.Rewritten.the-variants.{Length as Copied, Refused as CopyRefused}
+use Rattle.paper.specs.Print.{planPageSet, answerBy as printAnswer, bufferBy as printBuffer}
+use Rattle.paper.specs.Numbers.{printedNumber, printedOffset, printedLength}
+use Rattle.paper.specs.declared.Printed.the-variants.{Length as Pages, Refused as PrintRefused}
 use Rattle.messages.specs.Message.{messageBytes, fitsAt, putAt}
 use Rattle.messages.specs.declared.Message.{Message}
 use Rattle.refusals.specs.Numbers.{writtenNumber, writtenOffset, writtenLength, rewrittenNumber, rewrittenOffset, rewrittenLength}
-use Rattle.refusals.specs.Refusals.{InTable, Placed, CheckAnswer, Write, Rewrite, Writers}
+use Rattle.refusals.specs.Refusals.{InTable, OfPages, Placed, CheckAnswer, Write, Rewrite, Print, Writers}
 use Rattle.refusals.proofs.Cases.{either, never, in-table, at-zero, accepts, refuses, untouched, put}
-use Rattle.refusals.proofs.Checked.{checked}
+use Rattle.refusals.proofs.Checked.{checked, of-image}
 
 -- one record
 write-refused : (n : ℕ) (r : Record) (b : List ℕ) → InTable n → Write r b (WriteRefused n 0)
@@ -69,9 +73,29 @@ rewrite s b Accepted j = go (ltb (length b) (length (planBytes s))) refl
           buffer = put (length (planBytes s)) (planBytes s) b refl (ltb-false _ _ e);
         }
 
+-- a plan on paper
+print-refused : (n o : ℕ) (s b : List ℕ) → OfPages n → Placed n o → Print s b (PrintRefused n o)
+unfolding printBuffer
+print-refused n o s b t p =
+    record { answer = refuses OfPages printedNumber printedOffset PrintRefused (λ n o. refl) (λ n o. refl) n o t p; bytes = λ k e. ap printedLength e; buffer = untouched n b }
+
+print : (s b : List ℕ) (v : Verdict) → verdictOf s ≡ v → Print s b (printAnswer v s b)
+unfolding printAnswer printBuffer
+print s b (Refused n o) e = let j = of-image s e in print-refused n o s b (inl (j .0)) (j .1)
+print s b Accepted e = go (ltb (length b) (length (planPageSet s))) refl
+  where
+    go : (q : Bool) → ltb (length b) (length (planPageSet s)) ≡ q → Print s b (cond q (PrintRefused 15 0) (Pages (length (planPageSet s))))
+    go true h = print-refused 15 0 s b (inr refl) (at-zero 15)
+    go false h =
+        record {
+          answer = accepts OfPages printedNumber printedOffset PrintRefused _ (λ n o e. never (cc)) refl refl;
+          bytes = λ k e. ap printedLength e;
+          buffer = put (length (planPageSet s)) (planPageSet s) b refl (ltb-false _ _ h);
+        }
+
 message : (g : Message) (at : ℕ) (b : List ℕ) → fitsAt (messageBytes g) at b ≡ false → putAt (messageBytes g) at b ≡ b
 unfolding putAt
 message g at b e = simp e
 
 pub writers : Writers
-writers = record { write = write; rewrite = λ s b. rewrite s b (verdictOf s) (checked s); message = message }
+writers = record { write = write; rewrite = λ s b. rewrite s b (verdictOf s) (checked s); print = λ s b. print s b (verdictOf s) refl; message = message }

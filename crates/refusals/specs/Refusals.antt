@@ -22,6 +22,10 @@ use Rattle.writer.specs.declared.Written.the-variants.{Length, Refused as Write
 use Rattle.rewrite.specs.Rewrite.{answerBy as rewriteAnswer, bufferBy as rewriteBuffer}
 use Rattle.rewrite.specs.declared.Rewritten.{Rewritten}
 use Rattle.rewrite.specs.declared.Rewritten.the-variants.{Length as Copied, Refused as CopyRefused}
+use Rattle.paper.specs.Print.{answerBy as printAnswer, bufferBy as printBuffer}
+use Rattle.paper.specs.Numbers.{printedNumber, printedOffset, printedLength}
+use Rattle.paper.specs.declared.Printed.{Printed}
+use Rattle.paper.specs.declared.Printed.the-variants.{Length as Pages, Refused as PrintRefused}
 use Rattle.messages.specs.Message.{messageBytes, fitsAt, putAt}
 use Rattle.messages.specs.declared.Message.{Message}
 use Rattle.water.specs.declared.Flow.{Flow}
@@ -59,7 +63,7 @@ use Rattle.blocking.specs.declared.Blocking.the-variants.{Free, Stuck, Refused 
 use Rattle.counting.specs.Counting.{Told as CountsTold}
 use Rattle.counting.specs.Numbers.{countingNumber, countingOffset, countingLength}
 use Rattle.counting.specs.declared.Counting.{Counting}
-use Rattle.counting.specs.declared.Counting.the-variants.{Printed, Refused as CountRefused}
+use Rattle.counting.specs.declared.Counting.the-variants.{Printed as Counted, Refused as CountRefused}
 use Rattle.refusals.specs.Numbers.{verdictNumber, verdictOffset, writtenNumber, writtenOffset, writtenLength, rewrittenNumber, rewrittenOffset, rewrittenLength}
 
 -- a refusal has a number, and what is accepted has 0
@@ -69,6 +73,10 @@ IsRefusal n = n ≢ 0
 -- a number of the table
 abbrev pub InTable : ℕ → Type 0
 InTable n = (1 ≤ n) × (n ≤ 15)
+
+-- a number of a plan on paper: one of the image's, or 15
+abbrev pub OfPages : ℕ → Type 0
+OfPages n = ((1 ≤ n) × (n ≤ 8)) ⊎ (n ≡ 15)
 
 -- a number of the question whether a plan ever gets stuck: one of the image's, 15, or 16 of document 02
 abbrev pub OfStuck : ℕ → Type 0
@@ -132,6 +140,9 @@ WriteAnswer a = Answer InTable writtenNumber writtenOffset WriteRefused a
 abbrev pub RewriteAnswer : Rewritten → Type 0
 RewriteAnswer a = Answer InTable rewrittenNumber rewrittenOffset CopyRefused a
 
+abbrev pub PrintAnswer : Printed → Type 0
+PrintAnswer a = Answer OfPages printedNumber printedOffset PrintRefused a
+
 abbrev pub CallAnswer : Called → Type 0
 CallAnswer a = Answer InTable calledNumber calledOffset CallRefused a
 
@@ -163,6 +174,11 @@ pub record Rewrite (s b : List ℕ) (a : Rewritten) : Type 0 where
   pub answer : RewriteAnswer a
   pub bytes : Held rewrittenLength Copied a
   pub buffer : Lent (rewrittenNumber a) (rewrittenLength a) b (rewriteBuffer a s b)
+
+pub record Print (s b : List ℕ) (a : Printed) : Type 0 where
+  pub answer : PrintAnswer a
+  pub bytes : Held printedLength Pages a
+  pub buffer : Lent (printedNumber a) (printedLength a) b (printBuffer a s b)
 
 -- a reply of a module's own part, which has no offset
 pub record OwnCall (own : Own) (c : Replied) : Type 0 where
@@ -224,7 +240,7 @@ pub record FindStuck (b : List ℕ) (a : Blocking) (c : List ℕ) : Type 0 where
 -- the answer how many words lead to each joint state, with the buffer before and after
 pub record CountWords (b : List ℕ) (a : Counting) (c : List ℕ) : Type 0 where
   pub answer : CountingAnswer a
-  pub bytes : Held countingLength Printed a
+  pub bytes : Held countingLength Counted a
   pub buffer : Lent (countingNumber a) (countingLength a) b c
 
 -- ---- every call, party by party. A start is given no state, and the check lends nothing.
@@ -242,6 +258,8 @@ pub record Checker : Type 0 where
 pub record Writers : Type 0 where
   pub write : (r : Record) (b : List ℕ) → Write r b (answerOf r b)
   pub rewrite : (s b : List ℕ) → Rewrite s b (rewriteAnswer (verdictOf s) s b)
+  -- document 02, 2.4: a plan on paper
+  pub print : (s b : List ℕ) → Print s b (printAnswer (verdictOf s) s b)
   -- a message for which there is no room
   pub message : (g : Message) (at : ℕ) (b : List ℕ) → fitsAt (messageBytes g) at b ≡ false → putAt (messageBytes g) at b ≡ b
 
