@@ -1,7 +1,7 @@
 #!/usr/bin/env bash
 # The reference in Rust, written from the specification, the readings of its open places and the header (of states that no call left, from the
 # definition): by itself, and then beside the engine over the C interface.
-#   tests/differential.sh [COUNT [SEED..]]     COUNT cases in each of twelve groups, for each seed
+#   tests/differential.sh [COUNT [SEED..]]     COUNT cases in each of thirteen groups, in pieces and forged more, for each seed
 # A longer run: tests/differential.sh 200000 11 12 13. The archive is that of `rt staticlib pewterslug`
 # (target/staticlib), which tests/interface.sh makes; nothing is fetched.
 set -eu

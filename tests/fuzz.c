@@ -19,7 +19,7 @@
 enum { PAGE = 4096, ROOM = 13 * PAGE, PLANS = 3, NUMBERS = 18, MARKING = 0x18 };
 
 /* The calls by number; those before are of a device, a module and a supervisor, records and messages. */
-enum { FIND_STUCK = 17, COUNT_WORDS, CHECK_START, CHECK_PIECE, CHECK_ANSWER, CALLS };
+enum { FIND_STUCK = 17, COUNT_WORDS, CHECK_START, CHECK_PIECE, CHECK_ANSWER, PRINT_PLAN, CALLS };
 
 /* A lent slice: `bytes` of them end at the guard page; `before` is what the room held when the call was made. */
 struct slice {
@@ -416,6 +416,25 @@ static uint64_t check_call(uint32_t call, const struct plan *plan)
     return pewterslug_check_answer(state.start, state.length);
 }
 
+/* How many bytes the text of the image lent has, if it is accepted. */
+static size_t text_bytes(void) { return pewterslug_print_bytes(pewterslug_record_count(image.start, image.length)); }
+
+/* A plan printed into a buffer about as long as its text, where there is room for that; the state is not lent. */
+static uint64_t print_call(void)
+{
+    size_t length = text_bytes();
+    if (chance_one_in(&chance, 4))
+        length -= length > 0;
+    else if (chance_one_in(&chance, 4))
+        length += chance_below(&chance, 300);
+    else if (chance_one_in(&chance, 8))
+        length = chance_below(&chance, (uint32_t)length + 1);
+    slice_random(&buffer, length < ROOM ? length : ROOM);
+    slice_random(&state, chance_below(&chance, 20));
+    slice_keep(&state), slice_keep(&buffer);
+    return pewterslug_print_plan(image.start, image.length, buffer.start, buffer.length);
+}
+
 /* Whether the bytes before a call stood for a state of the check in pieces, as the header says. */
 static int stood(void)
 {
@@ -458,6 +477,21 @@ static int check_broken(uint32_t call, uint64_t answer)
     return call == CHECK_ANSWER && (pewterslug_number(answer) > 9 || (pewterslug_number(answer) == 0 && answer != 0));
 }
 
+/* A printed plan has the check's answer, 15, or the length that the header tells; then each line has 72 characters and a line feed. */
+static int print_broken(uint64_t answer)
+{
+    uint64_t checked = pewterslug_check(image.start, image.length);
+    size_t length = text_bytes();
+    if (pewterslug_number(checked) != 0 || buffer.length < length)
+        return answer != (pewterslug_number(checked) != 0 ? checked : 15);
+    for (size_t place = 0; place < length; place++) {
+        int ends = place % PEWTERSLUG_LINE_BYTES == PEWTERSLUG_LINE_BYTES - 1;
+        if (ends ? buffer.start[place] != '\n' : buffer.start[place] < ' ' || buffer.start[place] > '~')
+            return 1;
+    }
+    return answer != (uint64_t)length << 32;
+}
+
 /* How long the buffer of a call may be, so that it is often long enough and often not. */
 static uint32_t most_bytes(uint32_t call)
 {
@@ -469,7 +503,8 @@ static uint32_t most_bytes(uint32_t call)
 static uint64_t one_call(uint32_t call)
 {
     int joint = call == FIND_STUCK || call == COUNT_WORDS;
-    const struct plan *plan = joint && !chance_one_in(&chance, 32) ? choose_small() : choose_image();
+    int small = joint ? !chance_one_in(&chance, 32) : call == PRINT_PLAN && chance_one_in(&chance, 2);
+    const struct plan *plan = small ? choose_small() : choose_image();
     choose_message(plan);
     slice_random(&buffer, chance_below(&chance, most_bytes(call)));
     slice_keep(&image);
@@ -483,6 +518,8 @@ static uint64_t one_call(uint32_t call)
         return supervisor_call(call - 9, plan);
     if (call < FIND_STUCK)
         return other_call(call - 12);
+    if (call == PRINT_PLAN)
+        return print_call();
     return joint ? joint_call(call) : check_call(call, plan);
 }
 
@@ -497,7 +534,7 @@ int main(int count, char **words)
     for (uint64_t call = 0; call < calls; call++) {
         uint32_t which = chance_below(&chance, CALLS);
         uint64_t answer = one_call(which);
-        if (broken(answer, which != 13 && which != 15) || check_broken(which, answer)) {
+        if (broken(answer, which != 13 && which != 15) || check_broken(which, answer) || (which == PRINT_PLAN && print_broken(answer))) {
             printf("fuzz: seed %llu, call %llu: lent memory or the answer is not as promised\n", (unsigned long long)seed, (unsigned long long)call);
             return 1;
         }

@@ -1,6 +1,7 @@
 /* The C interface from C, and from C++: the version; the two-valve plan (docs/two-valve.hex) on one device, then on many with the bytes of
- * each message, then refusals, whether a plan gets stuck and how many words it has, and its check in pieces; and what the header itself has,
- * its names, texts and what it reads from state bytes. tests/interface.sh compares what this prints with tests/interface.expected. */
+ * each message, then refusals, whether a plan gets stuck and how many words it has, its check in pieces, and the plan as text; and what the
+ * header itself has, its names, texts and what it reads from state bytes. tests/interface.sh compares what this prints with
+ * tests/interface.expected. */
 #include "pewterslug.h"
 
 #include <inttypes.h>
@@ -532,6 +533,52 @@ static void check_pieces(void)
     no_check_state("refused with 9", 2, 1, 9);
 }
 
+/* So many lines of a text between bars, and how many blank ones follow. */
+static void show_lines(const uint8_t *text, unsigned lines, size_t length)
+{
+    char blank[PEWTERSLUG_LINE_BYTES];
+    unsigned blanks = 0;
+
+    memset(blank, ' ', sizeof blank - 1);
+    blank[sizeof blank - 1] = '\n';
+    for (size_t at = 0; at < length; at += sizeof blank)
+        if (at < lines * sizeof blank)
+            printf("|%.72s|%s", (const char *)text + at, text[at + 72] == '\n' ? "\n" : " NO LINE FEED\n");
+        else
+            blanks += memcmp(text + at, blank, sizeof blank) == 0;
+    printf("and %u blank lines\n", blanks);
+}
+
+static void print_plan(void)
+{
+    static uint8_t buffer[PEWTERSLUG_PRINT_BYTES], before[sizeof buffer];
+    static const size_t records[] = {0, 1, 59, 60, 61, 120, 121, 10049};
+    const uint8_t unknown[] = {0x10, 0x01, 0x00, 0x01, 0x20};
+    const size_t page = PEWTERSLUG_PAGE_BYTES;
+    uint64_t answer;
+
+    memset(buffer, 0xAA, sizeof buffer);
+    memcpy(before, buffer, sizeof buffer);
+    say("print_plan P into 4379 bytes", pewterslug_print_plan(plan, sizeof plan, buffer, page - 1));
+    left(buffer, before, sizeof buffer);
+    say("print_plan P cut", pewterslug_print_plan(plan, sizeof plan - 1, buffer, page));
+    left(buffer, before, sizeof buffer);
+    answer = pewterslug_print_plan(plan, sizeof plan, buffer, page);
+    say("print_plan P into 4380 bytes", answer);
+    show_lines(buffer, 16, pewterslug_length(answer));
+    left(buffer + page, before, sizeof buffer - page);
+    memcpy(buffer, before, sizeof buffer);
+    answer = pewterslug_print_plan(named, named_length, buffer, sizeof buffer);
+    say("print_plan of every kind into the most", answer);
+    show_lines(buffer, 20, pewterslug_length(answer));
+    left(buffer + page, before, sizeof buffer - page);
+    printf("records: P %zu, every kind %zu, P cut %zu, an unknown kind %zu, no bytes %zu\n", pewterslug_record_count(plan, sizeof plan),
+           pewterslug_record_count(named, named_length), pewterslug_record_count(plan, sizeof plan - 1),
+           pewterslug_record_count(unknown, sizeof unknown), pewterslug_record_count(plan, 0));
+    for (unsigned i = 0; i < sizeof records / sizeof *records; i++)
+        printf("print_bytes of %zu records: %zu\n", records[i], pewterslug_print_bytes(records[i]));
+}
+
 static void texts(void)
 {
     unsigned alike = 0, empty = 0, known = 0;
@@ -569,6 +616,7 @@ static void codes(void)
            PEWTERSLUG_DEVICE_BYTES, PEWTERSLUG_OWN_BYTES, PEWTERSLUG_MODULE_BYTES, PEWTERSLUG_SUPERVISOR_BYTES, PEWTERSLUG_RECORD_BYTES,
            PEWTERSLUG_MESSAGE_BYTES, PEWTERSLUG_RELEASE_BYTES, PEWTERSLUG_STEP_BYTES, PEWTERSLUG_STUCK_BYTES, PEWTERSLUG_COUNT_BYTES,
            PEWTERSLUG_CHECK_BYTES);
+    printf("line %d, page %d, print %d\n", PEWTERSLUG_LINE_BYTES, PEWTERSLUG_PAGE_BYTES, PEWTERSLUG_PRINT_BYTES);
 }
 
 /* Bytes that no call wrote: all 0, all FF, and each byte another, so that a field read from a wrong place shows. */
@@ -654,6 +702,7 @@ int main(void)
     find_stuck();
     count_words();
     check_pieces();
+    print_plan();
     texts();
     answers();
     codes();

@@ -22,13 +22,13 @@ enum { STACK_BYTES = 1 << 22, UPPER_BYTES = 1 << 18, PAINT = 0xA5, PLANS = 3, UN
 enum which {
     VERSION, CHECK, READ_RECORD, WRITE_RECORD, DEVICE_START, DEVICE_TURN, DEVICE_RESPOND, DEVICE_TICK, MODULE_START, MODULE_STEP,
     MODULE_DELIVER, MODULE_RESPOND, MODULE_TICK, SUPERVISOR_START, SUPERVISOR_STEP, SUPERVISOR_DELIVER, READ_MESSAGE, WRITE_MESSAGE,
-    CHECK_START, CHECK_PIECE, CHECK_ANSWER, FIND_STUCK, COUNT_WORDS, CALLS
+    CHECK_START, CHECK_PIECE, CHECK_ANSWER, PRINT_PLAN, FIND_STUCK, COUNT_WORDS, CALLS
 };
 
 static const char *const names[CALLS] = {
     "version", "check", "read_record", "write_record", "device_start", "device_turn", "device_respond", "device_tick", "module_start",
     "module_step", "module_deliver", "module_respond", "module_tick", "supervisor_start", "supervisor_step", "supervisor_deliver", "read_message",
-    "write_message", "check_start", "check_piece", "check_answer", "find_stuck", "count_words",
+    "write_message", "check_start", "check_piece", "check_answer", "print_plan", "find_stuck", "count_words",
 };
 
 static const struct {
@@ -58,7 +58,7 @@ struct fleet {
     uint8_t supervisors[PEWTERSLUG_SUPERVISOR_LIMIT][PEWTERSLUG_SUPERVISOR_BYTES];
     uint8_t check[PEWTERSLUG_CHECK_BYTES];
     uint8_t buffer[PEWTERSLUG_STEP_BYTES];
-    uint8_t text[PEWTERSLUG_COUNT_BYTES]; /* longer than any other answer */
+    uint8_t text[PEWTERSLUG_PRINT_BYTES]; /* longer than any other answer */
     struct {
         uint8_t bytes[PEWTERSLUG_MESSAGE_BYTES];
         size_t length;
@@ -129,6 +129,7 @@ static uint64_t perform_other(const struct call *call)
     case CHECK_START: return pewterslug_check_start(call->state, call->state_length);
     case CHECK_PIECE: return pewterslug_check_piece(call->state, call->state_length, plan->image + call->offset, call->length);
     case CHECK_ANSWER: return pewterslug_check_answer(call->state, call->state_length);
+    case PRINT_PLAN: return pewterslug_print_plan(plan->image, plan->length, call->bytes, call->length);
     case FIND_STUCK: return pewterslug_find_stuck(plan->image, plan->length, call->bytes, call->length);
     case COUNT_WORDS: return pewterslug_count_words(plan->image, plan->length, call->words, call->bytes, call->length);
     default: return pewterslug_write_message(call->kind, 0, 0, 0, 1, call->bytes, call->length);
@@ -281,6 +282,10 @@ static void start(struct fleet *fleet)
     call.which = COUNT_WORDS;
     for (call.words = 0; call.words <= 41; call.words++)
         measured(fleet, call);
+    call.which = PRINT_PLAN;
+    measured(fleet, call);
+    call.length = pewterslug_print_bytes(pewterslug_record_count(fleet->plan.image, fleet->plan.length)) - 1;
+    measured(fleet, call); /* refused */
     measured(fleet, call_device(fleet, DEVICE_START, 0));
     for (unsigned module = 0; module < fleet->plan.modules; module++) {
         call = call_module(fleet, MODULE_START, module);

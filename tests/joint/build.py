@@ -64,10 +64,13 @@ class Plan:
     def steps(self, event, count):
         self.records += [(STEP, [event, index, OUTPUT_ON, 0]) for index in range(count)]
 
-    def image(self):
+    def in_order(self):
+        """The records as kinds and fields, in the image's order."""
         head = (HEAD, [self.counts[kind] for kind in (MODULE, SUPERVISOR, EVENT)])
-        records = sorted([head, *self.records], key=lambda record: (record[0], record[1][: KEY[record[0]]]))
-        return b"".join(bytes_of(kind, fields) for kind, fields in records)
+        return sorted([head, *self.records], key=lambda record: (record[0], record[1][: KEY[record[0]]]))
+
+    def image(self):
+        return b"".join(bytes_of(kind, fields) for kind, fields in self.in_order())
 
 
 def mask_of(events):

@@ -13,6 +13,7 @@ pub enum Call {
     CountWords {
         length: u64,
     },
+    PrintPlan,
     ReadRecord {
         offset: usize,
     },
@@ -89,6 +90,7 @@ impl Engine for Reference {
             Call::CheckAnswer => crate::check_answer(state),
             Call::FindStuck => crate::find_stuck(image, buffer),
             Call::CountWords { length } => crate::count_words(image, length, buffer),
+            Call::PrintPlan => crate::print_plan(image, buffer),
             Call::ReadRecord { offset } => crate::read_record(image, offset),
             Call::WriteRecord {
                 kind,

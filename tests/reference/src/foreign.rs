@@ -11,6 +11,7 @@ extern "C" {
     fn pewterslug_check_answer(state: *const u8, state_length: usize) -> u64;
     fn pewterslug_find_stuck(image: *const u8, image_length: usize, buffer: *mut u8, buffer_length: usize) -> u64;
     fn pewterslug_count_words(image: *const u8, image_length: usize, length: u64, buffer: *mut u8, buffer_length: usize) -> u64;
+    fn pewterslug_print_plan(image: *const u8, image_length: usize, buffer: *mut u8, buffer_length: usize) -> u64;
     fn pewterslug_read_record(image: *const u8, image_length: usize, offset: usize) -> u64;
     fn pewterslug_write_record(
         kind: u8,
@@ -106,6 +107,7 @@ impl Engine for Foreign {
                 Call::CheckAnswer => pewterslug_check_answer(s, sl),
                 Call::FindStuck => pewterslug_find_stuck(i, il, b, bl),
                 Call::CountWords { length } => pewterslug_count_words(i, il, length, b, bl),
+                Call::PrintPlan => pewterslug_print_plan(i, il, b, bl),
                 Call::ReadRecord { offset } => pewterslug_read_record(i, il, offset),
                 Call::WriteRecord {
                     kind,

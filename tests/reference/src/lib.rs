@@ -13,6 +13,7 @@ mod device;
 mod joint;
 pub mod message;
 mod module;
+pub mod pages;
 pub mod pieces;
 pub mod plan;
 mod procedure;
@@ -52,6 +53,11 @@ pub fn find_stuck(image: &[u8], buffer: &mut [u8]) -> u64 {
 /// Writes how many words of a length end in each reachable joint state, and their sum, one number a line.
 pub fn count_words(image: &[u8], length: u64, buffer: &mut [u8]) -> u64 {
     pack(joint::count_words(image, length, buffer))
+}
+
+/// Writes a plan as text: a line for each record, in columns, and blank lines up to the end of the last page.
+pub fn print_plan(image: &[u8], buffer: &mut [u8]) -> u64 {
+    pack(pages::print_plan(image, buffer))
 }
 
 /// Reads the record at an offset by shape alone: the value is its kind, the length that of the whole record.

@@ -38,7 +38,7 @@ pub const fn body_length(kind: u8) -> Option<usize> {
 }
 
 /// How many one-byte fields a body begins with; what follows is one field of eight bytes.
-const fn byte_fields(kind: u8) -> usize {
+pub(crate) const fn byte_fields(kind: u8) -> usize {
     match kind {
         HEAD | EVENT | MODULE | SUPERVISOR | STEP => 3,
         MODULE_MOVE | SUPERVISOR_MOVE => 4,

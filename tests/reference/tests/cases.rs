@@ -4,9 +4,9 @@ use reference::answer::{did, length, number, FREE, STUCK};
 use reference::calls::{Engine, Reference};
 use reference::cases::{
     break_device, break_module, break_supervisor, counter, counts_case, crowded, device_case, fit_device, fit_module, fit_supervisor,
-    full_with_two_states, image_case, image_of, lively_plan, message_case, module_case, plan, record_case, records_of, rounds, schedule,
-    sized, stuck_case, supervisor_case, switches, Case, Ground, Rng, World, COUNT_BYTES, DEVICE_CLAUSES, MODULE_CLAUSES, STUCK_BYTES,
-    SUPERVISOR_CLAUSES,
+    full_with_two_states, image_case, image_of, lively_plan, message_case, module_case, pages_case, plan, record_case, records_of, rounds,
+    schedule, sized, stuck_case, supervisor_case, switches, Case, Ground, Rng, World, COUNT_BYTES, DEVICE_CLAUSES, MODULE_CLAUSES,
+    STUCK_BYTES, SUPERVISOR_CLAUSES,
 };
 use std::collections::BTreeSet;
 
@@ -114,6 +114,13 @@ fn every_number_of_a_call_arises() {
     arise(
         counts(15, 120, |rng, ground| counts_case(rng, ground)),
         &[1, 2, 3, 4, 5, 6, 8, 15, 16, 17],
+    );
+    arise(
+        counts(16, 400, |rng, ground| {
+            let image = image_case(rng, ground).image;
+            pages_case(rng, &image)
+        }),
+        &[1, 2, 3, 4, 5, 6, 7, 8, 15],
     );
 }
 

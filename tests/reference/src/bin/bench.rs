@@ -11,7 +11,8 @@ use foreign::Foreign;
 use reference::answer::{did, number, BIDS, EVENT};
 use reference::calls::{Call, Engine, Reference};
 use reference::cases::{
-    counter, crowded, fit_module, full_with_two_states, hex, image_of, rounds, sized, switches, Case, Rng, COUNT_BYTES, PLAN_P, STUCK_BYTES,
+    counter, crowded, fit_module, full_with_two_states, hex, image_of, most_records, rounds, sized, switches, Case, Rng, COUNT_BYTES,
+    PLAN_P, PRINT_BYTES, STUCK_BYTES,
 };
 use reference::message::Message;
 use reference::pieces::CHECK_BYTES;
@@ -198,6 +199,20 @@ fn count_rows() -> Vec<(&'static str, Case)> {
     plans.into_iter().map(|(name, length, image)| (name, case(length, image))).collect()
 }
 
+/// A plan printed: each of these, and the one with the most records.
+fn print_rows(images: &[Vec<u8>]) -> Vec<(&'static str, Case)> {
+    let most = image_of(&most_records());
+    let plans = images.iter().map(|image| ("print", image)).chain([("print, 10049 records", &most)]);
+    let case = |image: &[u8]| Case {
+        call: Call::PrintPlan,
+        image: image.to_vec(),
+        state: Vec::new(),
+        message: Vec::new(),
+        buffer: vec![0; PRINT_BYTES],
+    };
+    plans.map(|(name, image)| (name, case(image))).collect()
+}
+
 /// What a row times: one call, or an image handed over in pieces of a size.
 enum Work {
     Call(Case),
@@ -324,8 +339,8 @@ fn main() -> ExitCode {
     let by_name = sets[0]
         .iter()
         .flat_map(|(name, _)| sets.iter().flatten().filter(move |(other, _)| other == name));
-    let questions = [stuck_rows(), count_rows()].concat();
-    let calls = by_name.chain(&questions).map(|(name, case)| (*name, Work::Call(case.clone())));
+    let others = [stuck_rows(), count_rows(), print_rows(&images)].concat();
+    let calls = by_name.chain(&others).map(|(name, case)| (*name, Work::Call(case.clone())));
     let pieces = piece_rows(images.last().expect("a plan"));
     for (name, work) in calls.chain(pieces) {
         let bytes = work.image().len();

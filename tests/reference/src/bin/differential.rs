@@ -11,10 +11,11 @@ use foreign::Foreign;
 use reference::answer::{did, length, number, offset, value};
 use reference::calls::{Call, Engine, Reference};
 use reference::cases::{
-    counts_case, device_case, forged, image_case, image_of, lively_plan, message_case, module_case, pieces, plan, record_case, records_of,
-    schedule, shrink_case, shrink_pieces, shrink_schedule, single_bytes, some_cuts, stuck_case, supervisor_case, unfit_case, Applied, Case,
-    Ground, Op, Rng, World,
+    counts_case, device_case, forged, image_case, image_of, lively_plan, message_case, module_case, pages_case, pieces, plan, record_case,
+    records_of, schedule, shrink_case, shrink_pages, shrink_pieces, shrink_schedule, single_bytes, some_cuts, stuck_case, supervisor_case,
+    unfit_case, Applied, Case, Ground, Op, Rng, World,
 };
+use reference::pages::LINE_BYTES;
 use reference::pieces::CHECK_BYTES;
 use std::hint::black_box;
 use std::process::ExitCode;
@@ -198,6 +199,25 @@ fn cut_images(seed: u64, cut_seed: u64, count: usize) -> Tally {
     tally
 }
 
+/// Prints every image of the group `images` once.
+fn printed_images(seed: u64, room_seed: u64, count: usize) -> Tally {
+    let mut rng = Rng::new(room_seed);
+    let mut tally = Tally::default();
+    for_images(seed, count, |image| {
+        let case = pages_case(&mut rng, image);
+        let (engine, reference) = (outcome(&Foreign, &case), outcome(&Reference, &case));
+        tally.count(reference.answer);
+        if engine != reference || !engine.untouched {
+            tally.differences += 1;
+            if tally.differences == 1 {
+                print_pages(&shrink_pages(&case, differs));
+            }
+        }
+    });
+    tally.print("pages");
+    tally
+}
+
 /// The images of the group `images`.
 fn for_images(seed: u64, count: usize, mut each: impl FnMut(&[u8])) {
     let mut rng = Rng::new(seed);
@@ -218,6 +238,25 @@ fn print_pieces(image: Vec<u8>, cuts: Vec<usize>) {
     println!("difference in pieces, cut at {cuts:?}");
     println!("  image     {}", hex_records(&image));
     println!("  {}", pieces_difference(&image, &cuts).unwrap_or_default());
+}
+
+/// The image, the buffer, and the first line of it that is not the same on both sides.
+fn print_pages(case: &Case) {
+    let held = case.buffer.first().copied().unwrap_or(0);
+    println!("difference in pages, into {} bytes that held {held:02X}", case.buffer.len());
+    println!("  image     {}", hex_records(&case.image));
+    let (engine, reference) = (outcome(&Foreign, case), outcome(&Reference, case));
+    let mut lines = engine.buffer.chunks(LINE_BYTES).zip(reference.buffer.chunks(LINE_BYTES));
+    let place = lines.position(|(ours, theirs)| ours != theirs);
+    for (side, outcome) in [("engine", &engine), ("reference", &reference)] {
+        println!("  {side:<9} {}", in_words(outcome.answer));
+        if let Some(line) = place.and_then(|place| outcome.buffer.chunks(LINE_BYTES).nth(place)) {
+            println!("            line {} {:?}", place.unwrap_or(0), String::from_utf8_lossy(line));
+        }
+        if !outcome.untouched {
+            println!("            wrote where it must not");
+        }
+    }
 }
 
 fn print_case(name: &str, case: &Case) {
@@ -371,6 +410,7 @@ fn main() -> ExitCode {
         calls("counts", seed(10), count, |rng, ground| counts_case(rng, ground)),
         cut_images(seed(1), seed(11), count),
         calls("forged", seed(12), FORGED * count, forged_states()),
+        printed_images(seed(1), seed(13), count),
     ];
     let cases: usize = tallies.iter().map(|tally| tally.cases).sum();
     let differences: usize = tallies.iter().map(|tally| tally.differences).sum();

@@ -1,9 +1,10 @@
-//! Seeded inputs of every kind, for the differential test: plans good and damaged, whole and in pieces, states that fit and that do not,
-//! messages, readings, buffers, and whole schedules. The same seed gives the same inputs.
+//! Seeded inputs of every kind, for the differential test: plans good and damaged, whole, in pieces and on paper, states that fit and that
+//! do not, messages, readings, buffers, and whole schedules. The same seed gives the same inputs.
 
 mod damage;
 mod inputs;
 mod joint;
+mod pages;
 mod pieces;
 mod plans;
 mod schedule;
@@ -15,10 +16,11 @@ pub use inputs::{
     buffer, device_case, image_case, message, message_case, module_case, reading, record_case, supervisor_case, unfit_case, Case, Ground,
 };
 pub use joint::{counter, counts_case, crowded, full_with_two_states, rounds, stuck_case, switches, COUNT_BYTES, STUCK_BYTES};
+pub use pages::{most_records, pages_case, print_bytes, PRINT_BYTES};
 pub use pieces::{forged, pieces, single_bytes, some_cuts};
 pub use plans::{image_of, lively_plan, orchard, plan, records_of, sized, Records};
 pub use schedule::{random_op, schedule, Applied, Op, World};
-pub use shrink::{shrink_case, shrink_pieces, shrink_schedule};
+pub use shrink::{shrink_case, shrink_pages, shrink_pieces, shrink_schedule};
 pub use states::{
     break_device, break_module, break_supervisor, fit_device, fit_module, fit_supervisor, DEVICE_CLAUSES, MODULE_CLAUSES,
     SUPERVISOR_CLAUSES,

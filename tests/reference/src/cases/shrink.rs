@@ -1,6 +1,7 @@
 //! Makes a case that shows a difference smaller while the difference stays.
 
 use super::inputs::Case;
+use super::pages::print_bytes;
 use super::plans::{image_of, records_of, Records};
 use super::schedule::Op;
 use crate::plan;
@@ -187,6 +188,20 @@ pub fn shrink_pieces(mut image: Vec<u8>, mut cuts: Vec<usize>, mut differs: impl
             return (image, cuts);
         }
     }
+}
+
+/// Drops records that are not needed. The buffer stays by as much longer or shorter than the page set as it was.
+pub fn shrink_pages(case: &Case, mut differs: impl FnMut(&Case) -> bool) -> Case {
+    let spare = case.buffer.len() as isize - print_bytes(&case.image) as isize;
+    let held = case.buffer.first().copied().unwrap_or(0);
+    let with_image = |image: &[u8]| Case {
+        image: image.to_vec(),
+        buffer: vec![held; print_bytes(image).saturating_add_signed(spare)],
+        ..case.clone()
+    };
+    let mut image = case.image.clone();
+    while shrink_image(&mut image, |image| differs(&with_image(image))) {}
+    with_image(&image)
 }
 
 /// Drops calls and records that are not needed, then whole events, supervisors and modules from both.
