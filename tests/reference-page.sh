@@ -1,11 +1,11 @@
 #!/usr/bin/env bash
-# docs/REFERENCE.md says what is so: its plans and images get the answers that stand beside them, whole and in pieces, its blocks of calls are what the
-# programs print, the definitions and files that it names are there, it has every name of the header and no other, with its value, and every kind,
-# message, number and field of a state has its row, with the functions of the header that read it.
+# docs/REFERENCE.md says what is so: its plans and images get the answers that stand beside them, whole and in pieces, its blocks of calls and its pages
+# are what the programs print, the definitions and files that it names are there, it has every name of the header and no other, with its value, and every
+# kind, message, number and field of a state has its row, with the functions of the header that read it.
 set -eu
 cd "$(dirname "$0")/.."
 mkdir -p target
-rt check listing simulate stuck word_counts check_plan device_vectors many_vectors > target/reference-page.log 2>&1 || { tail -n 40 target/reference-page.log; exit 1; }
+rt check listing simulate stuck word_counts check_plan print_plan device_vectors many_vectors > target/reference-page.log 2>&1 || { tail -n 40 target/reference-page.log; exit 1; }
 kit=$(dirname "$(dirname "$(rt doc)")")
 loader=$(find "$kit" -name ld-linux-x86-64.so.2 | head -n 1)
 room=$(mktemp -d)
@@ -17,7 +17,7 @@ page, loader, room = sys.argv[1:]
 text = open(page).read()
 here = os.getcwd()
 wrong = []
-counts = dict.fromkeys(["images", "plans", "blocks of calls", "definitions", "files", "names", "values", "rows", "fields", "readers"], 0)
+counts = dict.fromkeys(["images", "plans", "blocks of calls", "pages", "definitions", "files", "names", "values", "rows", "fields", "readers"], 0)
 
 
 def complain(what):
@@ -35,7 +35,7 @@ def run(program, given, image=b""):
 blocks = []
 for marks, body in re.findall(r"^```([^\n]*)\n(.*?)^```$", text, re.M | re.S):
     word, *arguments = marks.split() or [""]
-    if word not in ("", "plan", "parts", "calls", "sh"):
+    if word not in ("", "plan", "parts", "calls", "page", "sh"):
         complain("a block is marked %s" % word)
     blocks.append((word, arguments, body.splitlines()))
 
@@ -131,7 +131,7 @@ for word, arguments, lines in blocks:
     script, expected = script_of(lines)
     if program == "check_plan":  # its input is the plan
         printed = run(program, parts[name]).splitlines()
-    elif program in ("listing", "simulate", "stuck", "word_counts"):
+    elif program in ("listing", "simulate", "stuck", "word_counts", "print_plan"):
         printed = run(program, "".join(line + "\n" for line in script).encode(), parts[name]).splitlines()
     else:  # these two are given the plan in a line, which `device_vectors` answers
         printed = run(program, "".join(line + "\n" for line in ["plan " + parts[name].hex().upper()] + script).encode()).splitlines()
@@ -143,6 +143,21 @@ for word, arguments, lines in blocks:
         if not agrees(line, said):
             complain("calls of %s with %s: printed line %d is `%s`, not `%s`" % (program, name, place + 1, line, said))
             break
+
+
+# ---- pages: the lines of a plan on paper, without the spaces at their ends and the blank lines behind them
+
+stored = open("docs/two-valve.pages").read()
+for word, arguments, lines in blocks:
+    if word != "page":
+        continue
+    name = arguments[0]
+    printed = run("print_plan", b"", parts[name])
+    counts["pages"] += 1
+    if name == "P" and printed != stored:
+        complain("print_plan does not print docs/two-valve.pages of plan P")
+    if printed != "".join(line.ljust(72) + "\n" for line in lines + [""] * (-len(lines) % 60)):
+        complain("the page of plan %s is not what print_plan prints" % name)
 
 
 # ---- what the page names
