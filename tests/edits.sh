@@ -4,6 +4,18 @@
 set -eu
 cd "$(dirname "$0")/.."
 field() { sed -n "s/^$1: //p" "$2"; }
+# The crates named and all below them, one a line: a copy has no more than these, with their proofs.
+needed() {
+  awk -F: -v named="$*" '
+    function add(name, i, n, words) {
+      if (name in seen) return
+      seen[name]; print name
+      n = split(needs[name], words, " ")
+      for (i = 1; i <= n; i++) add(words[i])
+    }
+    NF == 2 && !/^#/ { needs[$1] = $2 }
+    END { n = split(named, words, " "); for (i = 1; i <= n; i++) add(words[i]) }' crates.txt
+}
 
 # One edit, in a copy of its own.
 refused() { # EDIT
@@ -21,7 +33,14 @@ refused() { # EDIT
   copy=$(mktemp -d)
   # shellcheck disable=SC2064
   trap "rm -rf '$copy'" EXIT
-  tar -cf - --exclude=target/must-fail crates crates.txt target | tar -xf - -C "$copy"
+  mkdir -p "$copy"/crates "$copy"/target/{rlib,stamp,log}
+  cp crates.txt "$copy"
+  # shellcheck disable=SC2046
+  for by in $(needed $(field 'refused by' "$edit")); do
+    cp -r "crates/$by" "$copy/crates"
+    cp -r "target/rlib/$by.rlib" "$copy/target/rlib"
+    cp "target/stamp/$by" "$copy/target/stamp"
+  done
   printf '%s\n' "${text/"$old"/"$new"}" > "$copy/$file"
   log=target/edits-$name.log
   for by in $(field 'refused by' "$edit"); do
