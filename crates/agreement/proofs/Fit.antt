@@ -27,6 +27,7 @@ use Rattle.protocol.proofs.Tools.{and-intro}
 use Rattle.protocol.proofs.Neighbours.{neighbour-below, neighbour-module}
 use Rattle.protocol.proofs.Invariant.{Inv, noted-neighbour, holder-neighbour}
 use Rattle.agreement.specs.PlanOf.{planOf}
+use Rattle.agreement.specs.Compared.{holderOf}
 use Rattle.agreement.proofs.Names.{neighbour-same, neighbour-bit, missing-same}
 
 pub record SameModule (x : Module) (y : R.ModuleState) : Type 0 where
@@ -34,10 +35,6 @@ pub record SameModule (x : Module) (y : R.ModuleState) : Type 0 where
   pub held : x .held ≡ y .held
   pub received : x .received ≡ y .received
   pub bid : x .bid ≡ isSome (y .outstanding)
-
-unfoldable pub holderOf : Holder → Option ℕ
-holderOf Home = none
-holderOf (Out m) = some m
 
 pub record SameSupervisor (x : Supervisor) (y : R.SupervisorState) : Type 0 where
   pub state : x .state ≡ y .state
@@ -59,6 +56,16 @@ module _ (rs : List Record) (L : Laws (planOf rs)) where
 
   pub watched : (v e : ℕ) → inAlphabet rs v e ≡ true → v < supervisorsOf rs
   watched v e h = unfold planOf in (L .alphabet-supervisor v e h)
+
+  -- neighbours are of the plan
+  pub near-module : (m v : ℕ) → R.neighbour (planOf rs) m v ≡ true → m < modulesOf rs
+  near-module m v n = unfold planOf in (neighbour-module (planOf rs) L m v n)
+
+  pub near-supervisor : (m v : ℕ) → R.neighbour (planOf rs) m v ≡ true → v < supervisorsOf rs
+  near-supervisor m v n = unfold planOf in (neighbour-below (planOf rs) L m v n)
+
+  pub both-named : (m v : ℕ) → R.neighbour (planOf rs) m v ≡ true → neighbours? rs m v ≡ true
+  both-named m v n = and-intro (and-intro (lt-ltb m (modulesOf rs) (near-module m v n)) (lt-ltb v (supervisorsOf rs) (near-supervisor m v n))) (neighbour-same rs few watched m v ∙ n)
 
   module _ (D : System) (O : R.OneDevice) (I : Inv (planOf rs) D O) where
     near : (m v : ℕ) → R.neighbour (planOf rs) m v ≡ true → bit (neighbours rs m) v ≡ true
@@ -93,12 +100,6 @@ module _ (rs : List Record) (L : Laws (planOf rs)) where
 
         bids : (not (x .bid) || isSome (M.missing rs m (x .held))) ≡ true
         bids = implies (x .bid) _ (λ b. ap (λ (h : ℕ). isSome (M.missing rs m h)) (s .held) ∙ missing-some m (D .moduleAt m .outstanding) refl (sym (s .bid) ∙ b))
-
-    pub both-named : (m v : ℕ) → R.neighbour (planOf rs) m v ≡ true → neighbours? rs m v ≡ true
-    both-named m v n =
-        let a : m < modulesOf rs = unfold planOf in (neighbour-module (planOf rs) L m v n) in
-        let b : v < supervisorsOf rs = unfold planOf in (neighbour-below (planOf rs) L m v n) in
-        and-intro (and-intro (lt-ltb m (modulesOf rs) a) (lt-ltb v (supervisorsOf rs) b)) (neighbour-same rs few watched m v ∙ n)
 
     holder-fits : (v : ℕ) (h : Holder) → holderOf h ≡ D .supervisorAt v .holder → S.holderFits rs v h ≡ true
     unfolding S.holderFits holderOf

@@ -23,12 +23,11 @@ use Rattle.messages.specs.declared.Parsed.the-variants.{Whole, Misshapen}
 use Rattle.permits.specs.Names.{named}
 use Rattle.permits.specs.declared.Supervisor.{Supervisor}
 use Rattle.permits.specs.declared.SupervisorCalled.{SupervisorCalled}
-use Rattle.permits.specs.declared.Holder.{Holder}
-use Rattle.permits.specs.declared.Holder.the-variants.{Home}
 use Rattle.permits.specs.Supervisor as S
-use Rattle.protocol.specs.Generic.{update, Picked, pick}
+use Rattle.protocol.specs.Generic.{update}
 use Rattle.agreement.specs.System as A
 use Rattle.agreement.specs.Compared as C
+use Rattle.agreement.specs.Compared.{holderOf}
 
 -- a claim of both ways holds of the way taken
 either : {X : Type 0} (Q : X → Type 0) (b : Bool) (x y : X) → Q x → Q y → Q (cond b x y)
@@ -37,10 +36,10 @@ either Q false x y p q = q
 
 module _ (rs : List Record) (v : ℕ) (y : Supervisor) where
   abbrev Serves : S.ServeCall → Type 0
-  Serves c = C.afterServing (c .answer) (y .holder) ≡ c .state .holder
+  Serves c = C.afterServing (c .answer) (holderOf (y .holder)) ≡ holderOf (c .state .holder)
 
   serve-holder : (w : Verdict) (b : List ℕ) → Serves (S.stepBy w rs v y b)
-  unfolding S.stepBy S.stepIn S.answerBy S.stateAfter C.afterServing
+  unfolding S.stepBy S.stepIn S.answerBy S.stateAfter C.afterServing holderOf
   serve-holder (Refused n o) b = refl
   serve-holder Accepted b =
       either Serves (ltb v (supervisorsOf rs)) _ _
@@ -72,70 +71,74 @@ module _ (rs : List Record) (v : ℕ) (y : Supervisor) where
       (either Keeps (eqb s v && not (bit (y .noted) m)) (record { answer = Done; state = S.afterNote y m }) (S.callRefused y 12 0) refl refl) w
 
   abbrev Releases : SupervisorCalled → Type 0
-  Releases c = C.afterRelease (c .answer) (y .holder) ≡ c .state .holder
+  Releases c = C.afterRelease (c .answer) (holderOf (y .holder)) ≡ holderOf (c .state .holder)
 
   release-holder : (w : Verdict) (m s e : ℕ) → Releases (S.deliverBy w rs v y (Whole (Release m s e)))
-  unfolding S.takenBy C.afterRelease
+  unfolding S.takenBy C.afterRelease holderOf
   release-holder w m s e =
       delivers Releases (Release m s e) (λ n o. refl)
       (either Releases (eqb s v && S.heldBy (y .holder) m) (record { answer = Done; state = S.afterRelease rs v y e }) (S.callRefused y 12 0) refl refl) w
 
 -- one supervisor's state changed
-holder-at : (D : A.System) (w v : ℕ) (y : Supervisor) (h : Holder) → (w ≡ v → h ≡ y .holder)
-    → cond (eqb w v) h (D .supervisorAt v .holder) ≡ update (D .supervisorAt) w y v .holder
+abbrev out : A.System → ℕ → Option ℕ
+out D v = holderOf (D .supervisorAt v .holder)
+
+holder-at : (D : A.System) (w v : ℕ) (y : Supervisor) (h : Option ℕ) → (w ≡ v → h ≡ holderOf (y .holder))
+    → cond (eqb w v) h (out D v) ≡ holderOf (update (D .supervisorAt) w y v .holder)
 unfolding update
 holder-at D w v y h f = go (eqb w v) refl
   where
-    go : (b : Bool) → eqb w v ≡ b → cond b h (D .supervisorAt v .holder) ≡ cond b y (D .supervisorAt v) .holder
+    go : (b : Bool) → eqb w v ≡ b → cond b h (out D v) ≡ holderOf (cond b y (D .supervisorAt v) .holder)
     go true e = f (eqb-true w v e)
     go false e = refl
 
-kept-at : (D : A.System) (w v : ℕ) (y : Supervisor) → y .holder ≡ D .supervisorAt w .holder → D .supervisorAt v .holder ≡ update (D .supervisorAt) w y v .holder
+kept-at : (D : A.System) (w v : ℕ) (y : Supervisor) → y .holder ≡ D .supervisorAt w .holder → out D v ≡ holderOf (update (D .supervisorAt) w y v .holder)
 unfolding update
 kept-at D w v y k = go (eqb w v) refl
   where
-    go : (b : Bool) → eqb w v ≡ b → D .supervisorAt v .holder ≡ cond b y (D .supervisorAt v) .holder
-    go true e = ap (λ (n : ℕ). D .supervisorAt n .holder) (sym (eqb-true w v e)) ∙ sym k
+    go : (b : Bool) → eqb w v ≡ b → out D v ≡ holderOf (cond b y (D .supervisorAt v) .holder)
+    go true e = ap (out D) (sym (eqb-true w v e)) ∙ ap holderOf (sym k)
     go false e = refl
 
 module _ (image : List ℕ) (v : ℕ) where
-  message-holder : (D : A.System) (bytes : List ℕ) (rest : List (List ℕ)) (g : Parsed) → parse bytes ≡ g
-      → C.afterMessage image D v bytes g (D .supervisorAt v .holder) ≡ A.delivered image D bytes rest g .supervisorAt v .holder
+  message-holder : (D : A.System) (bytes : List ℕ) (rest : List A.Sent) (g : Parsed) → parse bytes ≡ g
+      → C.afterMessage image D v bytes g (out D v) ≡ out (A.delivered image D bytes rest g) v
   unfolding C.afterMessage A.delivered
   message-holder D bytes rest (Whole (Bid m w)) e =
       kept-at D w v _ (ap (λ (g : Parsed). S.deliverBy (verdictOf image) (recordsOf image) w (D .supervisorAt w) g .state .holder) e
       ∙ bid-holder (recordsOf image) w (D .supervisorAt w) (verdictOf image) m w)
   message-holder D bytes rest (Whole (Permit w m k)) e = refl
   message-holder D bytes rest (Whole (Release m w x)) e =
-      holder-at D w v _ _ (λ i. ap (λ (n : ℕ). C.afterRelease (S.supervisorDeliver image w (D .supervisorAt w) bytes .answer) (D .supervisorAt n .holder)) (sym i)
+      holder-at D w v _ _ (λ i. ap (λ (n : ℕ). C.afterRelease (S.supervisorDeliver image w (D .supervisorAt w) bytes .answer) (out D n)) (sym i)
       ∙ subst (λ (g : Parsed). Releases (recordsOf image) w (D .supervisorAt w) (S.deliverBy (verdictOf image) (recordsOf image) w (D .supervisorAt w) g)) (sym e)
       (release-holder (recordsOf image) w (D .supervisorAt w) (verdictOf image) m w x))
   message-holder D bytes rest Misshapen e = refl
 
-  act-holder : (D : A.System) (a : A.Act) → C.actPermit image D v a (D .supervisorAt v .holder) ≡ A.step image D a .supervisorAt v .holder
+  act-holder : (D : A.System) (a : A.Act) → C.actPermit image D v a (out D v) ≡ out (A.step image D a) v
   unfolding C.actPermit A.step
   act-holder D (A.moduleStep m b) = refl
   act-holder D (A.supervisorStep w b) =
-      holder-at D w v _ _ (λ i. ap (λ (n : ℕ). C.afterServing (S.supervisorStep image w (D .supervisorAt w) b .answer) (D .supervisorAt n .holder)) (sym i)
+      holder-at D w v _ _ (λ i. ap (λ (n : ℕ). C.afterServing (S.supervisorStep image w (D .supervisorAt w) b .answer) (out D n)) (sym i)
       ∙ serve-holder (recordsOf image) w (D .supervisorAt w) (verdictOf image) b)
-  act-holder D (A.deliver k) = go (pick k (D .underWay))
+  act-holder D (A.deliver k) = go (A.brought k (D .sent))
     where
-      go : (o : Option (Picked (List ℕ))) → C.afterDelivery image D v o (D .supervisorAt v .holder) ≡ A.deliveredAt image D o .supervisorAt v .holder
+      go : (o : Option (List ℕ)) → C.afterDelivery image D v o (out D v) ≡ out (A.deliveredAt image D k o) v
       go none = unfold C.afterDelivery A.deliveredAt in refl
-      go (some q) = unfold C.afterDelivery A.deliveredAt in (message-holder D (q .item) (q .rest) (parse (q .item)) refl)
+      go (some bytes) = unfold C.afterDelivery A.deliveredAt in (message-holder D bytes (A.mark k (D .sent)) (parse bytes) refl)
   act-holder D (A.respond m e) = refl
   act-holder D (A.tick m f) = refl
 
-  run-holder : (D : A.System) (acts : List A.Act) → C.permitAfter image D v acts (D .supervisorAt v .holder) ≡ A.run image D acts .supervisorAt v .holder
+  pub permit-holder : (D : A.System) (acts : List A.Act) → C.permitOf image D acts v ≡ out (A.run image D acts) v
   unfolding C.permitAfter A.run
-  run-holder D [] = refl
-  run-holder D (a ∷ l) = ap (C.permitAfter image (A.step image D a) v l) (act-holder D a) ∙ run-holder (A.step image D a) l
+  permit-holder D [] = refl
+  permit-holder D (a ∷ l) = ap (C.permitAfter image (A.step image D a) v l) (act-holder D a) ∙ permit-holder (A.step image D a) l
 
-  start-holder : (w : Verdict) → S.startBy w (recordsOf image) v .state .holder ≡ Home
-  unfolding S.startBy
-  start-holder (Refused n o) = refl
-  start-holder Accepted = either (λ (c : SupervisorCalled). c .state .holder ≡ Home) (ltb v (supervisorsOf (recordsOf image))) _ _ refl refl
+-- ---- the start
+home-at : (rs : List Record) (v : ℕ) (w : Verdict) → holderOf (S.startBy w rs v .state .holder) ≡ none
+unfolding S.startBy holderOf
+home-at rs v (Refused n o) = refl
+home-at rs v Accepted = either (λ (c : SupervisorCalled). holderOf (c .state .holder) ≡ none) (ltb v (supervisorsOf rs)) _ _ refl refl
 
-  pub permit-holder : (acts : List A.Act) → C.permitOf image v acts ≡ A.run image (A.start image) acts .supervisorAt v .holder
-  unfolding A.start
-  permit-holder acts = ap (C.permitAfter image (A.start image) v acts) (sym (start-holder (verdictOf image))) ∙ run-holder (A.start image) acts
+pub start-home : (image : List ℕ) (v : ℕ) → holderOf (A.start image .supervisorAt v .holder) ≡ none
+unfolding A.start
+start-home image v = home-at (recordsOf image) v (verdictOf image)

@@ -32,10 +32,11 @@ use Rattle.permits.proofs.Stepping.{bytes-one}
 use Rattle.protocol.specs.Plan.{Plan, Laws}
 use Rattle.protocol.specs.Rules as R
 use Rattle.agreement.specs.PlanOf.{planOf}
-use Rattle.agreement.specs.System.{pieces, sent, sentOut}
+use Rattle.agreement.specs.System.{pieces, wrote, wroteOut}
+use Rattle.agreement.specs.Compared.{holderOf}
 use Rattle.agreement.proofs.Names.{messageOf, choiceOf, choice-same, releases-same}
 use Rattle.agreement.proofs.Bytes.{Fours, pieces-of, length-fours}
-use Rattle.agreement.proofs.Fit.{SameModule, SameSupervisor, holderOf, few, watched}
+use Rattle.agreement.proofs.Fit.{SameModule, SameSupervisor, few, watched}
 
 -- ---- a module step
 
@@ -86,8 +87,8 @@ module _ (rs : List Record) (m : ℕ) (x : Module) where
       ∙ (unfold M.stepBy in (ap (λ (p : Bool). cond p (cond (M.moduleFits rs m x) (M.stepIn rs m x b (M.choice rs m x)) (M.stepRefused x b 9 0)) (M.stepRefused x b 11 0)) (le-ltb m (modulesOf rs) l)))
 
   -- what it wrote is its messages
-  pub sent-is : (c : M.Choice) (b : List ℕ) → sent (M.answerBy rs m x c) (written (M.stepBytes rs m x c) b) ≡ map messageBytes (M.sentBy rs m x c)
-  unfolding M.sentBy M.answerBy sent
+  pub sent-is : (c : M.Choice) (b : List ℕ) → wrote (M.answerBy rs m x c) (written (M.stepBytes rs m x c) b) ≡ map messageBytes (M.sentBy rs m x c)
+  unfolding M.sentBy M.answerBy wrote
   sent-is M.takesTurn b =
       let n = length-fours turnMessages (releases-fours rs m (M.turnTaken rs m x .turn) 32) in
       let e : length (bytesOfMessages turnMessages) / 4 ≡ length turnMessages = omega arith in
@@ -147,8 +148,8 @@ module _ (rs : List Record) (v : ℕ) (x : Supervisor) where
       ap (λ (z : Verdict). S.stepBy z rs v x b) a
       ∙ (unfold S.stepBy in (ap (λ (p : Bool). cond p (cond (S.supervisorFits rs v x) (S.stepIn rs v x b (S.served x)) (S.stepRefused x b 9 0)) (S.stepRefused x b 11 0)) (le-ltb v (supervisorsOf rs) l)))
 
-  pub served-bytes : (t : Option ℕ) (b : List ℕ) → sentOut (S.answerBy (S.stepBytes rs v x t) t) (written (S.stepBytes rs v x t) b) ≡ map messageBytes (S.sentTo rs v x t)
-  unfolding S.sentTo S.answerBy sentOut
+  pub served-bytes : (t : Option ℕ) (b : List ℕ) → wroteOut (S.answerBy (S.stepBytes rs v x t) t) (written (S.stepBytes rs v x t) b) ≡ map messageBytes (S.sentTo rs v x t)
+  unfolding S.sentTo S.answerBy wroteOut
   served-bytes none b = refl
   served-bytes (some m) b = ap (λ (l : List ℕ). l ∷ []) (take-at (S.stepBytes rs v x (some m)) (drop (length (S.stepBytes rs v x (some m))) b) (length (S.stepBytes rs v x (some m))) refl ∙ bytes-one (Permit v m (shown rs v (x .state))))
 

@@ -16,7 +16,6 @@ use Rattle.modules.specs.declared.Own.{Own}
 use Rattle.modules.specs.declared.Replied.{Replied}
 use Rattle.modules.specs.Procedure.{calledBy, respondOf, tickOf}
 use Rattle.modules.specs.Fits.{ownFits}
-use Rattle.device_states.specs.States.{deviceFits}
 use Rattle.device_states.specs.declared.Device.{Device}
 use Rattle.device.specs.declared.Turning.the-variants.{Turned}
 use Rattle.device_states.specs.States as States
@@ -33,7 +32,7 @@ use Rattle.agreement.specs.System as A
 use Rattle.agreement.specs.Compared as C
 use Rattle.agreement.proofs.Device.{Same, reply-same, turn-same, after-same, turn-call, reply-call}
 use Rattle.agreement.proofs.Fit.{few-modules, few, watched}
-use Rattle.agreement.proofs.Simulation.{Sim, actOf, seenOf, fedOf, act-done, map-append}
+use Rattle.agreement.proofs.Simulation.{Sim, actOf, actsOf, seenOf, fedOf, act-done, map-append}
 
 -- the module that a one-device act names
 unfoldable moduleOf : R.DeviceAct → ℕ
@@ -45,13 +44,13 @@ moduleOf (R.deviceTicks m f) = m
 AtMostOne : List Record → List R.DeviceAct → Type 0
 AtMostOne rs os = (os ≡ []) ⊎ ((x : R.DeviceAct) × (os ≡ x ∷ []) × (moduleOf x < modulesOf rs))
 
-module _ (rs : List Record) (D : P.System) where
+module _ (rs : List Record) (D : P.System) (w : List A.Sent) where
   when : (m : ℕ) (x : R.DeviceAct) → moduleOf x ≡ m → (b : Bool) → ltb m (modulesOf rs) ≡ b → AtMostOne rs (cond b (x ∷ []) [])
   unfolding AtMostOne
   when m x e true t = inr (x, refl, subst (λ (n : ℕ). n < modulesOf rs) (sym e) (ltb-true m (modulesOf rs) t))
   when m x e false t = inl refl
 
-  fed-one : (a : A.Act) → AtMostOne rs (P.actFed (planOf rs) D (actOf a))
+  fed-one : (a : A.Act) → AtMostOne rs (P.actFed (planOf rs) D (actOf w a))
   unfolding P.actFed actOf planOf
   fed-one (A.moduleStep m b) = go (R.choice (planOf rs) m (D .moduleAt m)) (ltb m (modulesOf rs)) refl
     where
@@ -81,6 +80,11 @@ rules-append : (Q : Plan) (O : R.OneDevice) (l r : List R.DeviceAct) → P.devic
 unfolding P.deviceSeen P.deviceRun
 rules-append Q O [] r = refl
 rules-append Q O (a ∷ l) r = ap (λ (t : List P.Seen). P.deviceActSeen Q O a ∷ t) (rules-append Q (R.deviceStep Q O a) l r)
+
+rules-run-append : (Q : Plan) (O : R.OneDevice) (l r : List R.DeviceAct) → P.deviceRun Q O (l ++ r) ≡ P.deviceRun Q (P.deviceRun Q O l) r
+unfolding P.deviceRun
+rules-run-append Q O [] r = refl
+rules-run-append Q O (a ∷ l) r = rules-run-append Q (R.deviceStep Q O a) l r
 
 module _ (image : List ℕ) (plan : IsPlan image) (L : Laws (planOf (recordsOf image))) where
   abbrev rs : List Record
@@ -174,34 +178,35 @@ module _ (image : List ℕ) (plan : IsPlan image) (L : Laws (planOf (recordsOf i
 
   -- ---- whole lists
   pub record Ran (B : A.System) (D : P.System) (O : R.OneDevice) (d : Device) (acts : List A.Act) : Type 0 where
-    pub sim : Sim rs (A.run image B acts) (P.run (planOf rs) D (map actOf acts))
-    pub seen : C.seen image B acts ≡ map seenOf (P.seen (planOf rs) D (map actOf acts))
-    pub device : C.deviceSeen image d (C.fed image B acts) ≡ map seenOf (P.deviceSeen (planOf rs) O (P.fed (planOf rs) D (map actOf acts)))
-    pub device-fits : deviceFits rs (C.deviceRun image d (C.fed image B acts)) ≡ true
+    pub sim : Sim rs (A.run image B acts) (P.run (planOf rs) D (actsOf image B acts))
+    pub seen : C.seen image B acts ≡ map seenOf (P.seen (planOf rs) D (actsOf image B acts))
+    pub device : C.deviceSeen image d (C.fed image B acts) ≡ map seenOf (P.deviceSeen (planOf rs) O (P.fed (planOf rs) D (actsOf image B acts)))
+    pub same : Same rs (C.deviceRun image d (C.fed image B acts)) (P.deviceRun (planOf rs) O (P.fed (planOf rs) D (actsOf image B acts)))
 
   pub ran : (acts : List A.Act) (B : A.System) (D : P.System) (O : R.OneDevice) (d : Device) → A.AllLent acts → Sim rs B D → Inv (planOf rs) D O → Same rs d O → Ran B D O d acts
-  unfolding A.run P.run C.seen P.seen C.deviceSeen P.deviceSeen C.fed P.fed
-  ran [] B D O d n s I e = record { sim = s; seen = refl; device = refl; device-fits = unfold C.deviceRun in (e .fits) }
+  unfolding actsOf A.run P.run C.seen P.seen C.deviceSeen P.deviceSeen C.fed P.fed
+  ran [] B D O d n s I e = record { sim = s; seen = refl; device = refl; same = unfold C.deviceRun P.deviceRun in e }
   ran (a ∷ l) B D O d n s I e =
       let c = act-done image plan L B D O s I a (n .0) in
-      let g = good (planOf rs) L D O I (actOf a) in
-      let os : List R.DeviceAct = P.actFed (planOf rs) D (actOf a) in
+      let g = good (planOf rs) L D O I (actOf (B .sent) a) in
+      let os : List R.DeviceAct = P.actFed (planOf rs) D (actOf (B .sent) a) in
       let fits : (m : ℕ) → m < modulesOf rs → ownFits rs m (P.deviceRun (planOf rs) O os .owns m) ≡ true = λ m k. sym (ap (ownFits rs m) (g .inv .owns m)) ∙ fits-here (g .inv) m k in
-      let h = fed-all d O os e (fed-one rs D a) fits in
-      let r = ran l (A.step image B a) (P.step (planOf rs) D (actOf a)) (P.deviceRun (planOf rs) O os) (C.deviceRun image d (map fedOf os)) (n .1) (c .sim) (g .inv) (h .same) in
+      let h = fed-all d O os e (fed-one rs D (B .sent) a) fits in
+      let r = ran l (A.step image B a) (P.step (planOf rs) D (actOf (B .sent) a)) (P.deviceRun (planOf rs) O os) (C.deviceRun image d (map fedOf os)) (n .1) (c .sim) (g .inv) (h .same) in
       record {
         sim = r .sim;
-        seen = ap₂ _++_ (c .seen) (r .seen) ∙ sym (map-append seenOf (P.actSeen (planOf rs) D (actOf a)) (P.seen (planOf rs) (P.step (planOf rs) D (actOf a)) (map actOf l)));
+        seen = ap₂ _++_ (c .seen) (r .seen) ∙ sym (map-append seenOf (P.actSeen (planOf rs) D (actOf (B .sent) a)) (P.seen (planOf rs) (P.step (planOf rs) D (actOf (B .sent) a)) (actsOf image (A.step image B a) l)));
         device =
             ap (λ (t : List C.DeviceAct). C.deviceSeen image d (t ++ C.fed image (A.step image B a) l)) (c .fed)
             ∙ seen-append image d (map fedOf os) (C.fed image (A.step image B a) l)
             ∙ ap₂ _++_ (h .seen) (r .device)
-            ∙ sym (map-append seenOf (P.deviceSeen (planOf rs) O os) (P.deviceSeen (planOf rs) (P.deviceRun (planOf rs) O os) (P.fed (planOf rs) (P.step (planOf rs) D (actOf a)) (map actOf l))))
-            ∙ ap (map seenOf) (sym (rules-append (planOf rs) O os (P.fed (planOf rs) (P.step (planOf rs) D (actOf a)) (map actOf l))));
-        device-fits =
-            ap (λ (t : List C.DeviceAct). deviceFits rs (C.deviceRun image d (t ++ C.fed image (A.step image B a) l))) (c .fed)
-            ∙ ap (deviceFits rs) (run-append image d (map fedOf os) (C.fed image (A.step image B a) l))
-            ∙ r .device-fits;
+            ∙ sym (map-append seenOf (P.deviceSeen (planOf rs) O os) (P.deviceSeen (planOf rs) (P.deviceRun (planOf rs) O os) (P.fed (planOf rs) (P.step (planOf rs) D (actOf (B .sent) a)) (actsOf image (A.step image B a) l))))
+            ∙ ap (map seenOf) (sym (rules-append (planOf rs) O os (P.fed (planOf rs) (P.step (planOf rs) D (actOf (B .sent) a)) (actsOf image (A.step image B a) l))));
+        same =
+            subst (λ (z : R.OneDevice). Same rs (C.deviceRun image d (C.fed image B (a ∷ l))) z) (sym (rules-run-append (planOf rs) O os (P.fed (planOf rs) (P.step (planOf rs) D (actOf (B .sent) a)) (actsOf image (A.step image B a) l))))
+            (subst (λ (z : Device). Same rs z (P.deviceRun (planOf rs) (P.deviceRun (planOf rs) O os) (P.fed (planOf rs) (P.step (planOf rs) D (actOf (B .sent) a)) (actsOf image (A.step image B a) l))))
+            (sym (ap (λ (t : List C.DeviceAct). C.deviceRun image d (t ++ C.fed image (A.step image B a) l)) (c .fed) ∙ run-append image d (map fedOf os) (C.fed image (A.step image B a) l)))
+            (r .same));
       }
     where
       fits-here : {D′ : P.System} {O′ : R.OneDevice} → Inv (planOf rs) D′ O′ → (m : ℕ) → m < modulesOf rs → ownFits rs m (D′ .moduleAt m .own) ≡ true

@@ -29,9 +29,8 @@ use Rattle.messages.specs.declared.Parsed.{Parsed}
 use Rattle.messages.specs.declared.Parsed.the-variants.{Whole, Misshapen}
 use Rattle.permits.specs.Module as M
 use Rattle.permits.specs.Supervisor as S
-use Rattle.protocol.specs.Generic.{Picked, pick}
 use Rattle.protocol.specs.System.{turnEvents}
-use Rattle.agreement.specs.System.{System, Act, moduleStep, supervisorStep, deliver, respond, tick, start, step}
+use Rattle.agreement.specs.System.{System, Act, moduleStep, supervisorStep, deliver, respond, tick, brought, step}
 
 -- "Equal are a turn's event, stray event or none, any refusal's number, and after each the module's state, queue, procedure, water and
 -- outputs."
@@ -112,37 +111,43 @@ recordOfEvents (turnSeen m t own ∷ l) = turnEvents t ++ recordOfEvents l
 recordOfEvents (refusalSeen m n own ∷ l) = recordOfEvents l
 recordOfEvents (callSeen m r own ∷ l) = recordOfEvents l
 
--- document 01's terms "out" and "home": "A permit is out from the step that sends it until its release is accepted, else home.": supervisor v's, by the
--- answers of the calls
-unfoldable pub afterServing : Served → Holder → Holder
-afterServing (Sends m n) h = Out m
+-- document 01's terms "out" and "home": "A permit is out from the step that sends it until its release is accepted, else home.": the module that
+-- supervisor v's permit is out to, none while it is home, by the answers of the calls
+unfoldable pub afterServing : Served → Option ℕ → Option ℕ
+afterServing (Sends m n) h = some m
 afterServing SupervisorWaits h = h
 afterServing (SupervisorRefused n o) h = h
 
-unfoldable pub afterRelease : Called → Holder → Holder
-afterRelease Done h = Home
+unfoldable pub afterRelease : Called → Option ℕ → Option ℕ
+afterRelease Done h = none
 afterRelease (CallRefused n o) h = h
 
-unfoldable pub afterMessage : List ℕ → System → ℕ → List ℕ → Parsed → Holder → Holder
+unfoldable pub afterMessage : List ℕ → System → ℕ → List ℕ → Parsed → Option ℕ → Option ℕ
 afterMessage image D v bytes (Whole (Bid m w)) h = h
 afterMessage image D v bytes (Whole (Permit w m k)) h = h
 afterMessage image D v bytes (Whole (Release m w e)) h = cond (eqb w v) (afterRelease (S.supervisorDeliver image w (D .supervisorAt w) bytes .answer) h) h
 afterMessage image D v bytes Misshapen h = h
 
-unfoldable pub afterDelivery : List ℕ → System → ℕ → Option (Picked (List ℕ)) → Holder → Holder
+unfoldable pub afterDelivery : List ℕ → System → ℕ → Option (List ℕ) → Option ℕ → Option ℕ
 afterDelivery image D v none h = h
-afterDelivery image D v (some q) h = afterMessage image D v (q .item) (parse (q .item)) h
+afterDelivery image D v (some bytes) h = afterMessage image D v bytes (parse bytes) h
 
-unfoldable pub actPermit : List ℕ → System → ℕ → Act → Holder → Holder
+unfoldable pub actPermit : List ℕ → System → ℕ → Act → Option ℕ → Option ℕ
 actPermit image D v (moduleStep m b) h = h
 actPermit image D v (supervisorStep w b) h = cond (eqb w v) (afterServing (S.supervisorStep image w (D .supervisorAt w) b .answer) h) h
-actPermit image D v (deliver k) h = afterDelivery image D v (pick k (D .underWay)) h
+actPermit image D v (deliver k) h = afterDelivery image D v (brought k (D .sent)) h
 actPermit image D v (respond m e) h = h
 actPermit image D v (tick m f) h = h
 
-unfoldable pub permitAfter : List ℕ → System → ℕ → List Act → Holder → Holder
+unfoldable pub permitAfter : List ℕ → System → ℕ → List Act → Option ℕ → Option ℕ
 permitAfter image D v [] h = h
 permitAfter image D v (a ∷ l) h = permitAfter image (step image D a) v l (actPermit image D v a h)
 
-abbrev pub permitOf : List ℕ → ℕ → List Act → Holder
-permitOf image v acts = permitAfter image (start image) v acts Home
+-- the same as a supervisor's state has it
+unfoldable pub holderOf : Holder → Option ℕ
+holderOf Home = none
+holderOf (Out m) = some m
+
+-- and after a list of calls: at its beginning the permits are where the states have them, at the start home
+abbrev pub permitOf : List ℕ → System → List Act → ℕ → Option ℕ
+permitOf image D acts v = permitAfter image D v acts (holderOf (D .supervisorAt v .holder))

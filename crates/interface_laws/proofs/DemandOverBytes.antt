@@ -32,15 +32,14 @@ over-bytes image bytes accepted acts lent =
     let h : SystemEncodable D = start-encodable image accepted in
     let k : DeviceEncodable d = all-encodable .deviceStart image in
     let calls = ap (λ (B : Memory). bytesRun image B acts) (start-same image accepted) ∙ run-same image accepted acts lent D h in
-    let same = ap (λ (B : Memory). bytesFed image B acts) (start-same image accepted) ∙ fed-same image accepted acts lent D h (λ l q. demand image bytes accepted l q .1 .module-steps) in
+    let same = ap (λ (B : Memory). bytesFed image B acts) (start-same image accepted) ∙ fed-same image accepted acts lent D h (λ l q. demand image bytes accepted l q .besides .module-steps) in
     let device-calls = ap₂ (λ (s : List ℕ) (l : List DeviceAct). deviceBytesRun image s l) (device-start image accepted) same ∙ device-run image accepted device d k in
     record {
-      equal = ap (λ (B : Memory). bytesSeen image B acts) (start-same image accepted) ∙ seen-same image accepted acts lent D h ∙ ap (map outcomeOf) (demand image bytes accepted acts lent .0 .equal)
+      equal = ap (λ (B : Memory). bytesSeen image B acts) (start-same image accepted) ∙ seen-same image accepted acts lent D h ∙ ap (map outcomeOf) (demand image bytes accepted acts lent .demand .equal)
           ∙ sym (ap₂ (λ (s : List ℕ) (l : List DeviceAct). deviceBytesSeen image s l) (device-start image accepted) same ∙ device-seen image accepted device (fed-below image accepted acts D) d k);
       calls = calls;
       states = ap (λ (r : Given Memory). decoded (r .memory)) calls ∙ decoded-encoded (run image D acts) (run-encodable image accepted acts lent D h);
-      demand = demand image bytes accepted acts lent .0;
-      besides = demand image bytes accepted acts lent .1;
+      demand = demand image bytes accepted acts lent;
       feeds = same;
       device-calls = device-calls;
       device-state = ap (λ (r : Given (List ℕ)). deviceOf (r .memory)) device-calls ∙ exact .device-again (deviceRun image d device) (device-run-encodable image accepted device d k);

@@ -1,6 +1,6 @@
 -- Lists of calls over bytes and the same lists on states by value, call by call, over states that can be encoded.
 use mathlib.Core.Path.{_≡_, refl, ap, ap₂, _∙_, fun-ext}
-use mathlib.Core.List.{List, [], _∷_, _++_}
+use mathlib.Core.List.{List, [], _∷_, _++_, map}
 use mathlib.Core.Option.{Option, none, some}
 use mathlib.Core.Bool.{Bool, true, false, cond}
 use Prim.Native.Nat.{ℕ, zero, suc}
@@ -23,8 +23,8 @@ use Rattle.permits.specs.Module as M
 use Rattle.permits.specs.Supervisor as S
 use Rattle.permits.specs.declared.Module.{Module}
 use Rattle.permits.specs.declared.Supervisor.{Supervisor}
-use Rattle.protocol.specs.Generic.{update, Picked, behind, pick}
-use Rattle.agreement.specs.System.{System, Act, moduleStep, supervisorStep, deliver, respond, tick, Lent, AllLent, sent, sentOut, withModule, withSupervisor, delivered, deliveredAt, step, run, start}
+use Rattle.protocol.specs.Generic.{update}
+use Rattle.agreement.specs.System.{Sent, System, Act, moduleStep, supervisorStep, deliver, respond, tick, Lent, AllLent, wrote, wroteOut, fresh, send, at, mark, once, brought, withModule, withSupervisor, delivered, deliveredAt, step, run, start}
 use Rattle.agreement.specs.Compared.{DeviceAct, deviceTurn, deviceRespond, deviceTick, deviceStep, deviceRun}
 use Rattle.party_bytes.specs.Module.{moduleBytes, ModuleEncodable}
 use Rattle.party_bytes.specs.Supervisor.{supervisorBytes, SupervisorEncodable}
@@ -35,18 +35,22 @@ use Rattle.packing.specs.Flow.{flowOf}
 use Rattle.device_interface.specs.Calls as DeviceCalls
 use Rattle.supervisor_interface.specs.Calls as SupervisorCalls
 use Rattle.interface_laws.specs.SameCalls.{moduleAnswer, stepAnswer, supervisorAnswer, serveAnswer, deviceAnswer}
-use Rattle.interface_laws.specs.Run.{Memory, Given, moduleSends, supervisorSends, sensorOf, litresOf, onModule, onSupervisor, bytesDelivered, bytesDeliveredAt, bytesStep, bytesRun, bytesStart, deviceBytesStep, deviceBytesRun, deviceBytesStart, encoded, decoded, deliveryAnswers, pickedAnswers, actAnswers, runAnswers, deviceActAnswer, deviceAnswers}
+use Rattle.interface_laws.specs.Run.{Memory, Given, moduleSends, supervisorSends, sensorOf, litresOf, onModule, onSupervisor, bytesDelivered, bytesDeliveredAt, bytesStep, bytesRun, bytesStart, deviceBytesStep, deviceBytesRun, deviceBytesStart, encoded, decoded, deliveryAnswers, broughtAnswers, actAnswers, runAnswers, deviceActAnswer, deviceAnswers}
 use Rattle.interface_laws.proofs.OwnParts.{choose}
 use Rattle.interface_laws.proofs.Exact.{exact}
 use Rattle.interface_laws.proofs.Encodable.{all-encodable}
 use Rattle.interface_laws.proofs.SameCalls.{in-zeros, same-calls}
 use Rattle.interface_laws.proofs.Sent.{AllBytes, module-sends, supervisor-sends, module-sent, supervisor-sent}
 
--- the states of all parties can be encoded, and the messages under way are bytes
+-- the states of all parties can be encoded, and the messages sent are bytes
+abbrev pub AllSentBytes : List Sent → Type 0
+AllSentBytes [] = Unit {0}
+AllSentBytes (g ∷ w) = Bytes (g .bytes) × AllSentBytes w
+
 pub record SystemEncodable (D : System) : Type 0 where
   pub modules : (m : ℕ) → ModuleEncodable (D .moduleAt m)
   pub supervisors : (v : ℕ) → SupervisorEncodable (D .supervisorAt v)
-  pub messages : AllBytes (D .underWay)
+  pub messages : AllSentBytes (D .sent)
 
 -- ---- the state of one party
 
@@ -63,40 +67,51 @@ update-each {A} {B} g f i v = fun-ext (λ j. go j (eqb i j))
     go j false = refl
 
 module _ (D : System) where
-  on-module : (m : ℕ) (x : Module) (n : ℕ) (b : List ℕ) (w : List (List ℕ))
+  on-module : (m : ℕ) (x : Module) (n : ℕ) (b : List ℕ) (w : List Sent)
       → onModule (encoded D) m (record { number = n; state = moduleBytes x; buffer = b }) w
       ≡ record { answers = record { number = n; state = moduleBytes x; buffer = b } ∷ []; memory = encoded (withModule D m x w) }
   on-module m x n b w =
-      ap (λ (f : ℕ → List ℕ). record { answers = record { number = n; state = moduleBytes x; buffer = b } ∷ []; memory = record { moduleAt = f; supervisorAt = λ v. supervisorBytes (D .supervisorAt v); underWay = w } })
+      ap (λ (f : ℕ → List ℕ). record { answers = record { number = n; state = moduleBytes x; buffer = b } ∷ []; memory = record { moduleAt = f; supervisorAt = λ v. supervisorBytes (D .supervisorAt v); sent = w } })
       (update-each moduleBytes (D .moduleAt) m x)
 
-  on-supervisor : (v : ℕ) (y : Supervisor) (n : ℕ) (b : List ℕ) (w : List (List ℕ))
+  on-supervisor : (v : ℕ) (y : Supervisor) (n : ℕ) (b : List ℕ) (w : List Sent)
       → onSupervisor (encoded D) v (record { number = n; state = supervisorBytes y; buffer = b }) w
       ≡ record { answers = record { number = n; state = supervisorBytes y; buffer = b } ∷ []; memory = encoded (withSupervisor D v y w) }
   on-supervisor v y n b w =
-      ap (λ (f : ℕ → List ℕ). record { answers = record { number = n; state = supervisorBytes y; buffer = b } ∷ []; memory = record { moduleAt = λ m. moduleBytes (D .moduleAt m); supervisorAt = f; underWay = w } })
+      ap (λ (f : ℕ → List ℕ). record { answers = record { number = n; state = supervisorBytes y; buffer = b } ∷ []; memory = record { moduleAt = λ m. moduleBytes (D .moduleAt m); supervisorAt = f; sent = w } })
       (update-each supervisorBytes (D .supervisorAt) v y)
 
 -- ---- messages
 
-all-joined : (a b : List (List ℕ)) → AllBytes a → AllBytes b → AllBytes (a ++ b)
-all-joined [] b h k = k
-all-joined (g ∷ a) b h k = (h .0, all-joined a b (h .1) k)
+all-fresh : (l : List (List ℕ)) → AllBytes l → AllSentBytes (map fresh l)
+all-fresh [] k = tt
+all-fresh (g ∷ l) k = (k .0, all-fresh l (k .1))
 
-abbrev PickedBytes : Option (Picked (List ℕ)) → Type 0
-PickedBytes none = Unit {0}
-PickedBytes (some q) = Bytes (q .item) × AllBytes (q .rest)
+all-sent : (w : List Sent) (l : List (List ℕ)) → AllSentBytes w → AllBytes l → AllSentBytes (send w l)
+all-sent [] l h k = all-fresh l k
+all-sent (g ∷ w) l h k = (h .0, all-sent w l (h .1) k)
 
-picked-bytes : (k : ℕ) (l : List (List ℕ)) → AllBytes l → PickedBytes (pick k l)
-unfolding pick behind
-picked-bytes zero [] h = tt
-picked-bytes (suc k) [] h = tt
-picked-bytes zero (g ∷ l) h = h
-picked-bytes (suc k) (g ∷ l) h = go (pick k l) (picked-bytes k l (h .1))
+all-marked : (k : ℕ) (w : List Sent) → AllSentBytes w → AllSentBytes (mark k w)
+unfolding mark
+all-marked zero [] h = tt
+all-marked (suc k) [] h = tt
+all-marked zero (g ∷ w) h = h
+all-marked (suc k) (g ∷ w) h = (h .0, all-marked k w (h .1))
+
+abbrev BroughtBytes : Option (List ℕ) → Type 0
+BroughtBytes none = Unit {0}
+BroughtBytes (some g) = Bytes g
+
+brought-bytes : (k : ℕ) (w : List Sent) → AllSentBytes w → BroughtBytes (brought k w)
+unfolding at once
+brought-bytes zero [] h = tt
+brought-bytes (suc k) [] h = tt
+brought-bytes zero (g ∷ w) h = go (g .delivered)
   where
-    go : (o : Option (Picked (List ℕ))) → PickedBytes o → PickedBytes (behind g o)
-    go none q = tt
-    go (some p) q = (q .0, (h .0, q .1))
+    go : (d : Bool) → BroughtBytes (cond d none (some (g .bytes)))
+    go true = tt
+    go false = h .0
+brought-bytes (suc k) (g ∷ w) h = brought-bytes k w (h .1)
 
 pub flow-back : (f : Flow) → flowOf (sensorOf f) (litresOf f) ≡ f
 unfolding flowOf sensorOf litresOf
@@ -106,18 +121,18 @@ flow-back NoSensor = refl
 -- ---- one call
 
 module _ (image : List ℕ) (D : System) (h : SystemEncodable D) where
-  with-module : (m : ℕ) (x : Module) (w : List (List ℕ)) → ModuleEncodable x → AllBytes w → SystemEncodable (withModule D m x w)
+  with-module : (m : ℕ) (x : Module) (w : List Sent) → ModuleEncodable x → AllSentBytes w → SystemEncodable (withModule D m x w)
   with-module m x w k b = record { modules = updated ModuleEncodable (D .moduleAt) m x (h .modules) k; supervisors = h .supervisors; messages = b }
 
-  with-supervisor : (v : ℕ) (y : Supervisor) (w : List (List ℕ)) → SupervisorEncodable y → AllBytes w → SystemEncodable (withSupervisor D v y w)
+  with-supervisor : (v : ℕ) (y : Supervisor) (w : List Sent) → SupervisorEncodable y → AllSentBytes w → SystemEncodable (withSupervisor D v y w)
   with-supervisor v y w k b = record { modules = h .modules; supervisors = updated SupervisorEncodable (D .supervisorAt) v y (h .supervisors) k; messages = b }
 
-  supervisor-got : (v : ℕ) (g : List ℕ) (w : List (List ℕ)) → onSupervisor (encoded D) v (SupervisorCalls.deliverBytes image (supervisorBytes (D .supervisorAt v)) v g) w
+  supervisor-got : (v : ℕ) (g : List ℕ) (w : List Sent) → onSupervisor (encoded D) v (SupervisorCalls.deliverBytes image (supervisorBytes (D .supervisorAt v)) v g) w
       ≡ record { answers = supervisorAnswer (S.supervisorDeliver image v (D .supervisorAt v) g) ∷ []; memory = encoded (withSupervisor D v (S.supervisorDeliver image v (D .supervisorAt v) g .state) w) }
   supervisor-got v g w =
       ap (λ (a : Answer). onSupervisor (encoded D) v a w) (same-calls .supervisorDeliver image v (D .supervisorAt v) g (h .supervisors v)) ∙ on-supervisor D v _ _ _ w
 
-  message-same : (g : List ℕ) (w : List (List ℕ)) → Bytes g → (p : Parsed)
+  message-same : (g : List ℕ) (w : List Sent) → Bytes g → (p : Parsed)
       → bytesDelivered image (encoded D) g w p ≡ record { answers = deliveryAnswers image D g p; memory = encoded (delivered image D g w p) }
   unfolding bytesDelivered deliveryAnswers delivered
   message-same g w b (Whole (Bid m v)) = supervisor-got v g w
@@ -126,54 +141,56 @@ module _ (image : List ℕ) (D : System) (h : SystemEncodable D) where
   message-same g w b (Whole (Release m v e)) = supervisor-got v g w
   message-same g w b Misshapen = refl
 
-  message-encodable : (g : List ℕ) (w : List (List ℕ)) → Bytes g → AllBytes w → (p : Parsed) → SystemEncodable (delivered image D g w p)
+  message-encodable : (g : List ℕ) (w : List Sent) → Bytes g → AllSentBytes w → (p : Parsed) → SystemEncodable (delivered image D g w p)
   unfolding delivered
   message-encodable g w b s (Whole (Bid m v)) = with-supervisor v _ w (all-encodable .supervisorDeliver image v (D .supervisorAt v) g (h .supervisors v)) s
   message-encodable g w b s (Whole (Permit v m k)) = with-module m _ w (all-encodable .moduleDeliver image m (D .moduleAt m) g b (h .modules m)) s
   message-encodable g w b s (Whole (Release m v e)) = with-supervisor v _ w (all-encodable .supervisorDeliver image v (D .supervisorAt v) g (h .supervisors v)) s
   message-encodable g w b s Misshapen = record { modules = h .modules; supervisors = h .supervisors; messages = s }
 
-  delivery-same : (o : Option (Picked (List ℕ))) → PickedBytes o
-      → bytesDeliveredAt image (encoded D) o ≡ record { answers = pickedAnswers image D o; memory = encoded (deliveredAt image D o) }
-  unfolding bytesDeliveredAt pickedAnswers deliveredAt
-  delivery-same none b = refl
-  delivery-same (some q) b = message-same (q .item) (q .rest) (b .0) (parse (q .item))
+  delivery-same : (k : ℕ) (o : Option (List ℕ)) → BroughtBytes o
+      → bytesDeliveredAt image (encoded D) k o ≡ record { answers = broughtAnswers image D o; memory = encoded (deliveredAt image D k o) }
+  unfolding bytesDeliveredAt broughtAnswers deliveredAt
+  delivery-same k none b = refl
+  delivery-same k (some g) b = message-same g (mark k (D .sent)) b (parse g)
 
-  delivery-encodable : (o : Option (Picked (List ℕ))) → PickedBytes o → SystemEncodable (deliveredAt image D o)
+  delivery-encodable : (k : ℕ) (o : Option (List ℕ)) → BroughtBytes o → SystemEncodable (deliveredAt image D k o)
   unfolding deliveredAt
-  delivery-encodable none b = h
-  delivery-encodable (some q) b = message-encodable (q .item) (q .rest) (b .0) (b .1) (parse (q .item))
+  delivery-encodable k none b = h
+  delivery-encodable k (some g) b = message-encodable g (mark k (D .sent)) b (all-marked k (D .sent) (h .messages)) (parse g)
 
   module _ (accepted : IsPlan image) where
     pub step-same : (a : Act) → Lent a → bytesStep image (encoded D) a ≡ record { answers = actAnswers image D a; memory = encoded (step image D a) }
     unfolding bytesStep actAnswers step
     step-same (moduleStep m b) l =
         let c : M.StepCall = M.moduleStep image m (D .moduleAt m) b in
-        ap (λ (a : Answer). onModule (encoded D) m a (D .underWay ++ moduleSends a)) (same-calls .moduleStep image m (D .moduleAt m) b (h .modules m))
-        ∙ ap (λ (w : List (List ℕ)). onModule (encoded D) m (stepAnswer c) (D .underWay ++ w)) (module-sends (moduleBytes (c .state)) (c .buffer) (c .answer) (module-sent image accepted m (D .moduleAt m) b l .0))
-        ∙ on-module D m (c .state) _ _ (D .underWay ++ sent (c .answer) (c .buffer))
+        ap (λ (a : Answer). onModule (encoded D) m a (send (D .sent) (moduleSends a))) (same-calls .moduleStep image m (D .moduleAt m) b (h .modules m))
+        ∙ ap (λ (w : List (List ℕ)). onModule (encoded D) m (stepAnswer c) (send (D .sent) w)) (module-sends (moduleBytes (c .state)) (c .buffer) (c .answer) (module-sent image accepted m (D .moduleAt m) b l .0))
+        ∙ on-module D m (c .state) _ _ (send (D .sent) (wrote (c .answer) (c .buffer)))
     step-same (supervisorStep v b) l =
         let c : S.ServeCall = S.supervisorStep image v (D .supervisorAt v) b in
-        ap (λ (a : Answer). onSupervisor (encoded D) v a (D .underWay ++ supervisorSends a)) (same-calls .supervisorStep image v (D .supervisorAt v) b (h .supervisors v))
-        ∙ ap (λ (w : List (List ℕ)). onSupervisor (encoded D) v (serveAnswer c) (D .underWay ++ w)) (supervisor-sends (supervisorBytes (c .state)) (c .buffer) (c .answer) (supervisor-sent image accepted v (D .supervisorAt v) b l .0))
-        ∙ on-supervisor D v (c .state) _ _ (D .underWay ++ sentOut (c .answer) (c .buffer))
-    step-same (deliver k) l = delivery-same (pick k (D .underWay)) (picked-bytes k (D .underWay) (h .messages))
+        ap (λ (a : Answer). onSupervisor (encoded D) v a (send (D .sent) (supervisorSends a))) (same-calls .supervisorStep image v (D .supervisorAt v) b (h .supervisors v))
+        ∙ ap (λ (w : List (List ℕ)). onSupervisor (encoded D) v (serveAnswer c) (send (D .sent) w)) (supervisor-sends (supervisorBytes (c .state)) (c .buffer) (c .answer) (supervisor-sent image accepted v (D .supervisorAt v) b l .0))
+        ∙ on-supervisor D v (c .state) _ _ (send (D .sent) (wroteOut (c .answer) (c .buffer)))
+    step-same (deliver k) l = delivery-same k (brought k (D .sent)) (brought-bytes k (D .sent) (h .messages))
     step-same (respond m e) l =
-        ap (λ (a : Answer). onModule (encoded D) m a (D .underWay)) (same-calls .moduleRespond image m (D .moduleAt m) e (h .modules m)) ∙ on-module D m _ _ _ (D .underWay)
+        ap (λ (a : Answer). onModule (encoded D) m a (D .sent)) (same-calls .moduleRespond image m (D .moduleAt m) e (h .modules m)) ∙ on-module D m _ _ _ (D .sent)
     step-same (tick m f) l =
-        ap (λ (a : Answer). onModule (encoded D) m a (D .underWay))
+        ap (λ (a : Answer). onModule (encoded D) m a (D .sent))
         (same-calls .moduleTick image m (D .moduleAt m) (sensorOf f) (litresOf f) (h .modules m) ∙ ap (λ (r : Flow). moduleAnswer (M.moduleTick image m (D .moduleAt m) r)) (flow-back f))
-        ∙ on-module D m _ _ _ (D .underWay)
+        ∙ on-module D m _ _ _ (D .sent)
 
     pub step-encodable : (a : Act) → Lent a → SystemEncodable (step image D a)
     unfolding step
     step-encodable (moduleStep m b) l =
-        with-module m _ _ (all-encodable .moduleStep image m (D .moduleAt m) b (h .modules m)) (all-joined (D .underWay) _ (h .messages) (module-sent image accepted m (D .moduleAt m) b l .1))
+        let c : M.StepCall = M.moduleStep image m (D .moduleAt m) b in
+        with-module m _ _ (all-encodable .moduleStep image m (D .moduleAt m) b (h .modules m)) (all-sent (D .sent) (wrote (c .answer) (c .buffer)) (h .messages) (module-sent image accepted m (D .moduleAt m) b l .1))
     step-encodable (supervisorStep v b) l =
-        with-supervisor v _ _ (all-encodable .supervisorStep image v (D .supervisorAt v) b (h .supervisors v)) (all-joined (D .underWay) _ (h .messages) (supervisor-sent image accepted v (D .supervisorAt v) b l .1))
-    step-encodable (deliver k) l = delivery-encodable (pick k (D .underWay)) (picked-bytes k (D .underWay) (h .messages))
-    step-encodable (respond m e) l = with-module m _ (D .underWay) (all-encodable .moduleRespond image m (D .moduleAt m) e (h .modules m)) (h .messages)
-    step-encodable (tick m f) l = with-module m _ (D .underWay) (all-encodable .moduleTick image m (D .moduleAt m) f (h .modules m)) (h .messages)
+        let c : S.ServeCall = S.supervisorStep image v (D .supervisorAt v) b in
+        with-supervisor v _ _ (all-encodable .supervisorStep image v (D .supervisorAt v) b (h .supervisors v)) (all-sent (D .sent) (wroteOut (c .answer) (c .buffer)) (h .messages) (supervisor-sent image accepted v (D .supervisorAt v) b l .1))
+    step-encodable (deliver k) l = delivery-encodable k (brought k (D .sent)) (brought-bytes k (D .sent) (h .messages))
+    step-encodable (respond m e) l = with-module m _ (D .sent) (all-encodable .moduleRespond image m (D .moduleAt m) e (h .modules m)) (h .messages)
+    step-encodable (tick m f) l = with-module m _ (D .sent) (all-encodable .moduleTick image m (D .moduleAt m) f (h .modules m)) (h .messages)
 
 -- ---- every list of calls
 
@@ -194,7 +211,7 @@ module _ (image : List ℕ) (accepted : IsPlan image) where
   pub start-same : bytesStart image ≡ encoded (start image)
   unfolding bytesStart start
   start-same =
-      ap₂ (λ (f g : ℕ → List ℕ). record { moduleAt = f; supervisorAt = g; underWay = [] })
+      ap₂ (λ (f g : ℕ → List ℕ). record { moduleAt = f; supervisorAt = g; sent = [] })
       (fun-ext (λ m. same-calls .moduleZeros image m)) (fun-ext (λ v. same-calls .supervisorZeros image v))
 
   pub start-encodable : SystemEncodable (start image)
@@ -243,5 +260,5 @@ module _ (image : List ℕ) (accepted : IsPlan image) where
 
 pub decoded-encoded : (D : System) → SystemEncodable D → decoded (encoded D) ≡ D
 decoded-encoded D h =
-    ap₂ (λ (f : ℕ → Module) (g : ℕ → Supervisor). record { moduleAt = f; supervisorAt = g; underWay = D .underWay })
+    ap₂ (λ (f : ℕ → Module) (g : ℕ → Supervisor). record { moduleAt = f; supervisorAt = g; sent = D .sent })
     (fun-ext (λ m. exact .module-again (D .moduleAt m) (h .modules m))) (fun-ext (λ v. exact .supervisor-again (D .supervisorAt v) (h .supervisors v)))

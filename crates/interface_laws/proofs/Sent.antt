@@ -47,7 +47,7 @@ use Rattle.refusals.specs.Refusals.{InTable}
 use Rattle.packing.specs.Answer.{packed, turnAnswer, steppedAnswer, servedAnswer}
 use Rattle.packing.specs.Parts.{Parts}
 use Rattle.packing.proofs.Parts.{unpacked}
-use Rattle.agreement.specs.System.{bufferLength, pieces, sent, sentOut}
+use Rattle.agreement.specs.System.{bufferLength, pieces, wrote, wroteOut}
 use Rattle.interface_laws.specs.Run.{moduleSends, supervisorSends}
 use Rattle.interface_laws.proofs.ByteLists.{bytes-none, bytes-more, bytes-joined, word-bytes}
 use Rattle.interface_laws.proofs.OwnParts.{choose, own-event}
@@ -112,15 +112,15 @@ module _ (s b : List ℕ) where
     unfolding supervisorSends
     none-by-supervisor = simp (its-number, not-taken)
 
-  pub module-sends : (a : Stepped) → StepSmall a → moduleSends (record { number = steppedAnswer a; state = s; buffer = b }) ≡ sent a b
-  unfolding steppedAnswer sent
+  pub module-sends : (a : Stepped) → StepSmall a → moduleSends (record { number = steppedAnswer a; state = s; buffer = b }) ≡ wrote a b
+  unfolding steppedAnswer wrote
   module-sends (Turned t n) h = turn-sends t n (h .0) (h .1)
   module-sends (Bids v n) h = by-module 4 v n (lit< tt) (h .0) (h .1)
   module-sends Waits h = by-module 6 0 0 (lit< tt) (lit< tt) (lit< tt) ∙ (unfold pieces in refl)
   module-sends (Refused n o) h = none-by-module n o h
 
-  pub supervisor-sends : (a : Served) → ServeSmall a → supervisorSends (record { number = servedAnswer a; state = s; buffer = b }) ≡ sentOut a b
-  unfolding servedAnswer sentOut
+  pub supervisor-sends : (a : Served) → ServeSmall a → supervisorSends (record { number = servedAnswer a; state = s; buffer = b }) ≡ wroteOut a b
+  unfolding servedAnswer wroteOut
   supervisor-sends (Sends m n) h = by-supervisor 5 m n (lit< tt) (h .0) (h .1)
   supervisor-sends ServedWaits h = by-supervisor 6 0 0 (lit< tt) (lit< tt) (lit< tt)
   supervisor-sends (ServeRefused n o) h = none-by-supervisor n o h
@@ -169,7 +169,7 @@ one-message g h = bytes-joined (messageBytes g) [] (message-bytes g h) bytes-non
 
 -- it has room in the answer's number, and what is sent are bytes
 abbrev Sendable : M.StepCall → Type 0
-Sendable c = StepSmall (c .answer) × AllBytes (sent (c .answer) (c .buffer))
+Sendable c = StepSmall (c .answer) × AllBytes (wrote (c .answer) (c .buffer))
 
 module _ (rs : List Record) (plan : Sound rs) (m : ℕ) where
   pub turn-small : (k : ℕ) (own : Own) → T (ownFits rs m own) → TurnSmall (turnOf rs m k own .turn)
@@ -231,8 +231,8 @@ module _ (rs : List Record) (plan : Sound rs) (m : ℕ) where
     module-bid v e = least-some (λ w. bit (neighbours rs m) w && not (bit (x .held) w)) 32 v (bid-to (M.missing rs m (x .held)) _ _ _ _ v e) .below
 
     chosen : T (ownFits rs m (x .own)) → Byte m → (c : M.Choice) → M.choice rs m x ≡ c → length (M.stepBytes rs m x c) ≤ 128
-        → StepSmall (M.answerBy rs m x c) × AllBytes (sent (M.answerBy rs m x c) (written (M.stepBytes rs m x c) b))
-    unfolding M.answerBy M.sentBy sent
+        → StepSmall (M.answerBy rs m x c) × AllBytes (wrote (M.answerBy rs m x c) (written (M.stepBytes rs m x c) b))
+    unfolding M.answerBy M.sentBy wrote
     chosen t h M.takesTurn e r =
         let u : TurnSmall (M.turnTaken rs m x .turn) = turn-small (x .received) (x .own) t in
         let g : Bytes (M.stepBytes rs m x M.takesTurn) = releases-bytes (M.turnTaken rs m x .turn) u h 32 (omega arith) in
@@ -244,7 +244,7 @@ module _ (rs : List Record) (plan : Sound rs) (m : ℕ) where
     chosen t h M.waits e r = (tt, tt)
 
     module-sent-in : Sendable (M.stepBy Accepted rs m x b)
-    unfolding M.stepBy M.stepIn sent
+    unfolding M.stepBy M.stepIn wrote
     module-sent-in =
         choose Sendable (ltb m (modulesOf rs)) _ _ (λ p. choose Sendable (M.moduleFits rs m x) _ _
         (λ f. choose Sendable (short (M.stepBytes rs m x (M.choice rs m x)) b) _ _ (λ q. ((omega arith, omega arith), tt))
@@ -258,12 +258,12 @@ module-sent image a m x b l =
 -- ---- a supervisor's step
 
 abbrev Servable : S.ServeCall → Type 0
-Servable c = ServeSmall (c .answer) × AllBytes (sentOut (c .answer) (c .buffer))
+Servable c = ServeSmall (c .answer) × AllBytes (wroteOut (c .answer) (c .buffer))
 
 module _ (rs : List Record) (plan : Sound rs) (v : ℕ) (y : Supervisor) (b : List ℕ) (l : length b ≡ bufferLength) where
   serves : Byte v → (o : Option ℕ) → S.served y ≡ o → length (S.stepBytes rs v y o) ≤ 128
-      → ServeSmall (S.answerBy (S.stepBytes rs v y o) o) × AllBytes (sentOut (S.answerBy (S.stepBytes rs v y o) o) (written (S.stepBytes rs v y o) b))
-  unfolding S.answerBy S.sentTo sentOut
+      → ServeSmall (S.answerBy (S.stepBytes rs v y o) o) × AllBytes (wroteOut (S.answerBy (S.stepBytes rs v y o) o) (written (S.stepBytes rs v y o) b))
+  unfolding S.answerBy S.sentTo wroteOut
   serves h none e r = (tt, tt)
   serves h (some m) e r =
       let k : m < 16 = served-small y m e in
@@ -272,7 +272,7 @@ module _ (rs : List Record) (plan : Sound rs) (v : ℕ) (y : Supervisor) (b : Li
       ((omega arith, omega arith), (taken (length p) (written p b) (first-written p b g), tt))
 
   supervisor-sent-in : Servable (S.stepBy Accepted rs v y b)
-  unfolding S.stepBy S.stepIn sentOut
+  unfolding S.stepBy S.stepIn wroteOut
   supervisor-sent-in =
       choose Servable (ltb v (supervisorsOf rs)) _ _ (λ p. choose Servable (S.supervisorFits rs v y) _ _
       (λ f. choose Servable (short (S.stepBytes rs v y (S.served y)) b) _ _ (λ q. ((omega arith, omega arith), tt))

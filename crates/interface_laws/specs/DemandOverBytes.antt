@@ -8,38 +8,56 @@ use lib.Ieee.{Float}
 use Rattle.roundtrip.specs.Fits.{Bytes}
 use Rattle.rules.specs.Check.{IsPlan}
 use Rattle.device.specs.Device.{startCall}
-use Rattle.agreement.specs.System.{Act, AllLent, start, run}
-use Rattle.agreement.specs.Compared.{fed, deviceRun}
-use Rattle.agreement.specs.Demand.{Demand3, Besides}
+use Rattle.device_states.specs.declared.Device.{Device}
+use Rattle.agreement.specs.System.{System, Act, AllLent, start, run}
+use Rattle.agreement.specs.Compared.{DeviceAct, fed, deviceRun}
+use Rattle.agreement.specs.Demand.{FromStart}
 use Rattle.device_bytes.specs.Device.{deviceBytes, deviceOf}
 use Rattle.packing.specs.Flow.{flowOf}
 use Rattle.device_interface.specs.Calls as DeviceCalls
 use Rattle.module_interface.specs.Calls as ModuleCalls
-use Rattle.interface_laws.specs.Run.{sensorOf, litresOf, bytesRun, bytesStart, encoded, decoded, runAnswers}
+use Rattle.interface_laws.specs.Run.{Memory, Given, sensorOf, litresOf, bytesRun, bytesStart, encoded, decoded, runAnswers}
 use Rattle.interface_laws.specs.Run.{deviceBytesRun, deviceBytesStart, deviceAnswers}
 use Rattle.interface_laws.specs.Compared.{bytesSeen, bytesFed, deviceBytesSeen}
 
-pub record OverBytes (image : List ℕ) (acts : List Act) : Type 0 where
-  -- demand 3: "each turn taken, response and tick gets the answer that the one-device controller gives for the same turns, responses and ticks in
-  -- the same order", all of it in numbers and bytes
-  pub equal : bytesSeen image (bytesStart image) acts ≡ deviceBytesSeen image (deviceBytesStart image) (bytesFed image (bytesStart image) acts)
-  -- every answer, and the bytes at the end, are those of the calls on states by value
-  pub calls : bytesRun image (bytesStart image) acts
-      ≡ record { answers = runAnswers image (start image) acts; memory = encoded (run image (start image) acts) }
-  -- and they are read as the states of which demand 3 holds
-  pub states : decoded (bytesRun image (bytesStart image) acts .memory) ≡ run image (start image) acts
-  pub demand : Demand3 image acts
-  pub besides : Besides image acts
-  -- the turns fed, told by the answers, are those that the rules take, so that `equal` leaves none out; the one device then gives the answers and the
-  -- bytes of its calls by value
-  pub feeds : bytesFed image (bytesStart image) acts ≡ fed image (start image) acts
-  pub device-calls : deviceBytesRun image (deviceBytesStart image) (bytesFed image (bytesStart image) acts)
-      ≡ record {
-        answers = deviceAnswers image (startCall image .device) (fed image (start image) acts);
-        memory = deviceBytes (deviceRun image (startCall image .device) (fed image (start image) acts));
-      }
-  pub device-state : deviceOf (deviceBytesRun image (deviceBytesStart image) (bytesFed image (bytesStart image) acts) .memory)
-      ≡ deviceRun image (startCall image .device) (fed image (start image) acts)
+module _ (image : List ℕ) (acts : List Act) where
+  -- the calls over bytes and what they give; the system at the list's end
+  abbrev memory : Memory
+  memory = bytesStart image
+
+  abbrev given : Given Memory
+  given = bytesRun image memory acts
+
+  abbrev end : System
+  end = run image (start image) acts
+
+  -- what the one-device controller is fed, told by the answers over bytes and by the rules; what it gives over bytes, and its state at the end
+  abbrev toldTurns : List DeviceAct
+  toldTurns = bytesFed image memory acts
+
+  abbrev turns : List DeviceAct
+  turns = fed image (start image) acts
+
+  abbrev deviceGiven : Given (List ℕ)
+  deviceGiven = deviceBytesRun image (deviceBytesStart image) toldTurns
+
+  abbrev deviceEnd : Device
+  deviceEnd = deviceRun image (startCall image .device) turns
+
+  pub record OverBytes : Type 0 where
+    -- demand 3: "each turn taken, response and tick gets the answer that the one-device controller gives for the same turns, responses and ticks in
+    -- the same order", all of it in numbers and bytes
+    pub equal : bytesSeen image memory acts ≡ deviceBytesSeen image (deviceBytesStart image) toldTurns
+    -- every answer, and the bytes at the end, are those of the calls on states by value
+    pub calls : given ≡ record { answers = runAnswers image (start image) acts; memory = encoded end }
+    -- and they are read as the states of which demand 3 holds
+    pub states : decoded (given .memory) ≡ end
+    pub demand : FromStart image acts
+    -- the turns fed, told by the answers, are those that the rules take, so that `equal` leaves none out; the one device then gives the answers and
+    -- the bytes of its calls by value
+    pub feeds : toldTurns ≡ turns
+    pub device-calls : deviceGiven ≡ record { answers = deviceAnswers image (startCall image .device) turns; memory = deviceBytes deviceEnd }
+    pub device-state : deviceOf (deviceGiven .memory) ≡ deviceEnd
 
 pub record DemandOverBytes : Type 0 where
   pub lists : (image : List ℕ) → Bytes image → IsPlan image → (acts : List Act) → AllLent acts → OverBytes image acts

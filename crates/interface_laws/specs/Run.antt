@@ -16,8 +16,8 @@ use Rattle.messages.specs.declared.Parsed.{Parsed}
 use Rattle.messages.specs.declared.Parsed.the-variants.{Whole, Misshapen}
 use Rattle.permits.specs.Module as M
 use Rattle.permits.specs.Supervisor as S
-use Rattle.protocol.specs.Generic.{update, Picked, pick}
-use Rattle.agreement.specs.System.{System, Act, moduleStep, supervisorStep, deliver, respond, tick, pieces, step}
+use Rattle.protocol.specs.Generic.{update}
+use Rattle.agreement.specs.System.{Sent, System, Act, moduleStep, supervisorStep, deliver, respond, tick, pieces, send, mark, brought, step}
 use Rattle.agreement.specs.Compared.{DeviceAct, deviceTurn, deviceRespond, deviceTick, deviceStep}
 use Rattle.device.specs.Device.{turnCall, respondCall, tickCall}
 use Rattle.device_states.specs.declared.Device.{Device}
@@ -30,11 +30,11 @@ use Rattle.supervisor_interface.specs.Calls as SupervisorCalls
 use Rattle.interface_laws.specs.Laws.{numberOf}
 use Rattle.interface_laws.specs.SameCalls.{moduleAnswer, stepAnswer, supervisorAnswer, serveAnswer, deviceAnswer, deviceTurnAnswer}
 
--- the state bytes of all modules and supervisors, and the messages under way
+-- the state bytes of all modules and supervisors, and every message sent so far, as crate agreement has them
 pub record Memory : Type 0 where
   pub moduleAt : ℕ → List ℕ
   pub supervisorAt : ℕ → List ℕ
-  pub underWay : List (List ℕ)
+  pub sent : List Sent
 
 -- what a list of calls gives: each call's answer, and the bytes after them
 pub record Given (A : Type 0) : Type 0 where
@@ -68,33 +68,34 @@ unfoldable pub litresOf : Flow → Float
 litresOf (Litres x) = x
 litresOf NoSensor = eighths 0
 
--- the answer of a call on module m or supervisor v, whose state bytes are those that it leaves, with the messages w under way
-abbrev pub onModule : Memory → ℕ → Answer → List (List ℕ) → Given Memory
+-- the answer of a call on module m or supervisor v, whose state bytes are those that it leaves, the messages sent being w after it
+abbrev pub onModule : Memory → ℕ → Answer → List Sent → Given Memory
 onModule B m a w =
-    record { answers = a ∷ []; memory = record { moduleAt = update (B .moduleAt) m (a .state); supervisorAt = B .supervisorAt; underWay = w } }
+    record { answers = a ∷ []; memory = record { moduleAt = update (B .moduleAt) m (a .state); supervisorAt = B .supervisorAt; sent = w } }
 
-abbrev pub onSupervisor : Memory → ℕ → Answer → List (List ℕ) → Given Memory
+abbrev pub onSupervisor : Memory → ℕ → Answer → List Sent → Given Memory
 onSupervisor B v a w =
-    record { answers = a ∷ []; memory = record { moduleAt = B .moduleAt; supervisorAt = update (B .supervisorAt) v (a .state); underWay = w } }
+    record { answers = a ∷ []; memory = record { moduleAt = B .moduleAt; supervisorAt = update (B .supervisorAt) v (a .state); sent = w } }
 
-unfoldable pub bytesDelivered : List ℕ → Memory → List ℕ → List (List ℕ) → Parsed → Given Memory
+unfoldable pub bytesDelivered : List ℕ → Memory → List ℕ → List Sent → Parsed → Given Memory
 bytesDelivered image B g w (Whole (Bid m v)) = onSupervisor B v (SupervisorCalls.deliverBytes image (B .supervisorAt v) v g) w
 bytesDelivered image B g w (Whole (Permit v m k)) = onModule B m (ModuleCalls.deliverBytes image (B .moduleAt m) m g) w
 bytesDelivered image B g w (Whole (Release m v e)) = onSupervisor B v (SupervisorCalls.deliverBytes image (B .supervisorAt v) v g) w
 bytesDelivered image B g w Misshapen =
-    record { answers = []; memory = record { moduleAt = B .moduleAt; supervisorAt = B .supervisorAt; underWay = w } }
+    record { answers = []; memory = record { moduleAt = B .moduleAt; supervisorAt = B .supervisorAt; sent = w } }
 
-unfoldable pub bytesDeliveredAt : List ℕ → Memory → Option (Picked (List ℕ)) → Given Memory
-bytesDeliveredAt image B none = record { answers = []; memory = B }
-bytesDeliveredAt image B (some q) = bytesDelivered image B (q .item) (q .rest) (parse (q .item))
+-- "at most once": where nothing is brought, nothing is called
+unfoldable pub bytesDeliveredAt : List ℕ → Memory → ℕ → Option (List ℕ) → Given Memory
+bytesDeliveredAt image B k none = record { answers = []; memory = B }
+bytesDeliveredAt image B k (some g) = bytesDelivered image B g (mark k (B .sent)) (parse g)
 
 unfoldable pub bytesStep : List ℕ → Memory → Act → Given Memory
-bytesStep image B (moduleStep m b) = let a = ModuleCalls.stepBytes image (B .moduleAt m) m b in onModule B m a (B .underWay ++ moduleSends a)
+bytesStep image B (moduleStep m b) = let a = ModuleCalls.stepBytes image (B .moduleAt m) m b in onModule B m a (send (B .sent) (moduleSends a))
 bytesStep image B (supervisorStep v b) =
-    let a = SupervisorCalls.stepBytes image (B .supervisorAt v) v b in onSupervisor B v a (B .underWay ++ supervisorSends a)
-bytesStep image B (deliver k) = bytesDeliveredAt image B (pick k (B .underWay))
-bytesStep image B (respond m e) = onModule B m (ModuleCalls.respondBytes image (B .moduleAt m) m e) (B .underWay)
-bytesStep image B (tick m f) = onModule B m (ModuleCalls.tickBytes image (B .moduleAt m) m (sensorOf f) (litresOf f)) (B .underWay)
+    let a = SupervisorCalls.stepBytes image (B .supervisorAt v) v b in onSupervisor B v a (send (B .sent) (supervisorSends a))
+bytesStep image B (deliver k) = bytesDeliveredAt image B k (brought k (B .sent))
+bytesStep image B (respond m e) = onModule B m (ModuleCalls.respondBytes image (B .moduleAt m) m e) (B .sent)
+bytesStep image B (tick m f) = onModule B m (ModuleCalls.tickBytes image (B .moduleAt m) m (sensorOf f) (litresOf f)) (B .sent)
 
 -- ---- lists of calls
 
@@ -110,7 +111,7 @@ bytesStart image =
     record {
       moduleAt = λ m. ModuleCalls.startBytes image m (replicate 48 0) .buffer;
       supervisorAt = λ v. SupervisorCalls.startBytes image v (replicate 6 0) .buffer;
-      underWay = [];
+      sent = [];
     }
 
 -- the one-device controller over bytes
@@ -130,10 +131,10 @@ deviceBytesStart image = DeviceCalls.startBytes image (replicate 592 0) .buffer
 -- ---- the same calls on states by value, with their answers as numbers and bytes
 
 abbrev pub encoded : System → Memory
-encoded D = record { moduleAt = λ m. moduleBytes (D .moduleAt m); supervisorAt = λ v. supervisorBytes (D .supervisorAt v); underWay = D .underWay }
+encoded D = record { moduleAt = λ m. moduleBytes (D .moduleAt m); supervisorAt = λ v. supervisorBytes (D .supervisorAt v); sent = D .sent }
 
 abbrev pub decoded : Memory → System
-decoded B = record { moduleAt = λ m. moduleOf (B .moduleAt m); supervisorAt = λ v. supervisorOf (B .supervisorAt v); underWay = B .underWay }
+decoded B = record { moduleAt = λ m. moduleOf (B .moduleAt m); supervisorAt = λ v. supervisorOf (B .supervisorAt v); sent = B .sent }
 
 unfoldable pub deliveryAnswers : List ℕ → System → List ℕ → Parsed → List Answer
 deliveryAnswers image D g (Whole (Bid m v)) = supervisorAnswer (S.supervisorDeliver image v (D .supervisorAt v) g) ∷ []
@@ -141,14 +142,14 @@ deliveryAnswers image D g (Whole (Permit v m k)) = moduleAnswer (M.moduleDeliver
 deliveryAnswers image D g (Whole (Release m v e)) = supervisorAnswer (S.supervisorDeliver image v (D .supervisorAt v) g) ∷ []
 deliveryAnswers image D g Misshapen = []
 
-unfoldable pub pickedAnswers : List ℕ → System → Option (Picked (List ℕ)) → List Answer
-pickedAnswers image D none = []
-pickedAnswers image D (some q) = deliveryAnswers image D (q .item) (parse (q .item))
+unfoldable pub broughtAnswers : List ℕ → System → Option (List ℕ) → List Answer
+broughtAnswers image D none = []
+broughtAnswers image D (some g) = deliveryAnswers image D g (parse g)
 
 unfoldable pub actAnswers : List ℕ → System → Act → List Answer
 actAnswers image D (moduleStep m b) = stepAnswer (M.moduleStep image m (D .moduleAt m) b) ∷ []
 actAnswers image D (supervisorStep v b) = serveAnswer (S.supervisorStep image v (D .supervisorAt v) b) ∷ []
-actAnswers image D (deliver k) = pickedAnswers image D (pick k (D .underWay))
+actAnswers image D (deliver k) = broughtAnswers image D (brought k (D .sent))
 actAnswers image D (respond m e) = moduleAnswer (M.moduleRespond image m (D .moduleAt m) e) ∷ []
 actAnswers image D (tick m f) = moduleAnswer (M.moduleTick image m (D .moduleAt m) f) ∷ []
 

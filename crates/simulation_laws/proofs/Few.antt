@@ -3,7 +3,7 @@ use Prim.Native.Nat.{ℕ, zero, suc, _+_, _≤_, _<_}
 use native.Mathlib.Decide.{ℕ-discrete}
 use native.Mathlib.Omega.{arith}
 use mathlib.Core.Path.{_≡_, refl, ap, _∙_}
-use mathlib.Core.List.{List, [], _∷_, map}
+use mathlib.Core.List.{List, [], _∷_}
 use mathlib.Core.Option.{Option, none, some}
 use lib.ListN.{length, length-map}
 use lib.Dec.{eqb}
@@ -15,17 +15,15 @@ use Rattle.device.specs.Device.{startCall}
 use Rattle.turn_laws.specs.Laws.{TurnLaws}
 use Rattle.protocol.specs.Plan.{Plan, Laws}
 use Rattle.protocol.specs.Rules as R
-use Rattle.protocol.specs.System.{System, startSystem, startDevice, run}
+use Rattle.protocol.specs.System.{System}
 use Rattle.protocol.proofs.Tools.{digit, oneAt, oneAt-most, count, count-cons, All, nil, cons}
 use Rattle.protocol.proofs.Neighbours.{neighbour-below, neighbour-module}
 use Rattle.protocol.proofs.Invariant.{pair-self, bidOf, permitOf, releaseOf, Names, Inv}
-use Rattle.protocol.proofs.Theorem.{start-inv, whole}
 use Rattle.agreement.specs.PlanOf.{planOf}
 use Rattle.agreement.specs.System as A
-use Rattle.agreement.proofs.Simulation.{bytesOf, actOf}
+use Rattle.agreement.proofs.Simulation.{bytesOf}
 use Rattle.agreement.proofs.Laws.{laws}
-use Rattle.agreement.proofs.Start.{start-sim, start-same}
-use Rattle.agreement.proofs.Whole.{ran}
+use Rattle.agreement.proofs.Demand.{stands-on, start-together}
 
 -- ---- sums
 
@@ -140,14 +138,10 @@ module _ (P : Plan) (L : Laws P) where
 
 -- ---- of the calls
 module _ (image : List ℕ) (plan : IsPlan image) (T : TurnLaws (recordsOf image)) where
-  pub few-under-way : (acts : List A.Act) → A.AllLent acts → length (A.run image (A.start image) acts .underWay) ≤ 48
+  pub few-under-way : (acts : List A.Act) → A.AllLent acts → length (A.underWay (A.run image (A.start image) acts .sent)) ≤ 48
   unfolding planOf
   few-under-way acts n =
       let rs : List Record = recordsOf image in
       let L : Laws (planOf rs) = laws rs T in
-      let I = start-inv (planOf rs) L in
-      let r = ran image plan L acts (A.start image) (startSystem (planOf rs)) (startDevice (planOf rs)) (startCall image .device) n (start-sim image plan L) I (start-same image plan L) in
-      let w = whole (planOf rs) L (map actOf acts) (startSystem (planOf rs)) (startDevice (planOf rs)) I in
-      let e : length (A.run image (A.start image) acts .underWay) ≡ length (run (planOf rs) (startSystem (planOf rs)) (map actOf acts) .underWay) =
-      ap length (r .sim .wire) ∙ length-map (run (planOf rs) (startSystem (planOf rs)) (map actOf acts) .underWay) bytesOf in
-      omega (arith, e, few-messages (planOf rs) L _ _ (w .inv), T .few-modules, T .few-supervisors)
+      let t = stands-on image plan L (A.start image) (startCall image .device) _ (start-together image plan L) acts n in
+      omega (arith, ap length (t .sim .wire) ∙ length-map (t .system .underWay) bytesOf, few-messages (planOf rs) L (t .system) (t .device) (t .inv), T .few-modules, T .few-supervisors)

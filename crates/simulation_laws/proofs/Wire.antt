@@ -39,8 +39,8 @@ use Rattle.protocol.specs.Generic.{Picked, pick, behind}
 use Rattle.agreement.specs.System as A
 use Rattle.agreement.proofs.Bytes.{parse-bytes}
 use Rattle.agreement.proofs.Steps.{releases-most, sent-is, served-bytes}
-use Rattle.agreement.proofs.Simulation.{map-append}
-use Rattle.simulation_laws.specs.Calls.{bytesOf}
+use Rattle.agreement.proofs.Simulation.{map-append, broughtWith, behind-brought}
+use Rattle.simulation_laws.specs.Calls.{bytesOf, indexSent}
 
 -- ---- messages put under way
 
@@ -107,7 +107,7 @@ at-start : (bytes b : List ℕ) → take (length bytes) (written bytes b) ≡ by
 at-start bytes b = take-at bytes (drop (length bytes) b) (length bytes) refl
 
 module _ (rs : List Record) (m : ℕ) (x : Module) (b : List ℕ) where
-  choice-put : (c : M.Choice) → Same (putBy (M.answerBy rs m x c) (written (M.stepBytes rs m x c) b)) (A.sent (M.answerBy rs m x c) (written (M.stepBytes rs m x c) b))
+  choice-put : (c : M.Choice) → Same (putBy (M.answerBy rs m x c) (written (M.stepBytes rs m x c) b)) (A.wrote (M.answerBy rs m x c) (written (M.stepBytes rs m x c) b))
   choice-put c = record { messages = M.sentBy rs m x c; put = put c; bytes = sent-is rs m x c b; few = few c }
     where
       put : (c : M.Choice) → putBy (M.answerBy rs m x c) (written (M.stepBytes rs m x c) b) ≡ map W.sent (M.sentBy rs m x c)
@@ -121,10 +121,10 @@ module _ (rs : List Record) (m : ℕ) (x : Module) (b : List ℕ) where
       few (M.bidsTo v) = unfold M.sentBy in (omega arith)
 
   abbrev Put : M.StepCall → Type 0
-  Put c = Same (putBy (c .answer) (c .buffer)) (A.sent (c .answer) (c .buffer))
+  Put c = Same (putBy (c .answer) (c .buffer)) (A.wrote (c .answer) (c .buffer))
 
   refused-put : (n o : ℕ) → Put (M.stepRefused x b n o)
-  unfolding putBy A.sent
+  unfolding putBy A.wrote
   refused-put n o = none-put
 
   pub module-put : (w : Verdict) → Put (M.stepBy w rs m x b)
@@ -152,7 +152,7 @@ module _ (rs : List Record) (v : ℕ) (x : Supervisor) (b : List ℕ) (small : s
   abbrev bytesFor : Option ℕ → List ℕ
   bytesFor t = S.stepBytes rs v x t
 
-  permit-put : (t : Option ℕ) → Same (putOut (S.answerBy (bytesFor t) t) (written (bytesFor t) b)) (A.sentOut (S.answerBy (bytesFor t) t) (written (bytesFor t) b))
+  permit-put : (t : Option ℕ) → Same (putOut (S.answerBy (bytesFor t) t) (written (bytesFor t) b)) (A.wroteOut (S.answerBy (bytesFor t) t) (written (bytesFor t) b))
   permit-put t = record { messages = S.sentTo rs v x t; put = put t; bytes = served-bytes rs v x t b; few = few t }
     where
       put : (t : Option ℕ) → putOut (S.answerBy (bytesFor t) t) (written (bytesFor t) b) ≡ map W.sent (S.sentTo rs v x t)
@@ -166,10 +166,10 @@ module _ (rs : List Record) (v : ℕ) (x : Supervisor) (b : List ℕ) (small : s
       few (some m) = unfold S.sentTo in (omega arith)
 
   abbrev PutOut : S.ServeCall → Type 0
-  PutOut c = Same (putOut (c .answer) (c .buffer)) (A.sentOut (c .answer) (c .buffer))
+  PutOut c = Same (putOut (c .answer) (c .buffer)) (A.wroteOut (c .answer) (c .buffer))
 
   refused-out : (n o : ℕ) → PutOut (S.stepRefused x b n o)
-  unfolding putOut A.sentOut
+  unfolding putOut A.wroteOut
   refused-out n o = none-put
 
   pub supervisor-put : (w : Verdict) → PutOut (S.stepBy w rs v x b)
@@ -220,3 +220,45 @@ rest-is (suc k) (s ∷ l) = go (pick k l) (rest-is k l)
 pub pick-rest : (k : ℕ) (l : List Sent) (q : Picked Sent) → pick k l ≡ some q → W.dropNth k l ≡ q .rest
 unfolding restOr
 pick-rest k l q e = sym (rest-is k l) ∙ ap (restOr (W.dropNth k l)) e
+
+-- ---- the call of a delivery: the index of its message among all sent
+
+abbrev Found : ℕ → ℕ → List A.Sent → Type 0
+Found k j w = pick k (A.underWay w) ≡ broughtWith (A.brought j w) (A.underWay (A.mark j w))
+
+found-past : (k j : ℕ) (g : A.Sent) (w : List A.Sent) → g .delivered ≡ true → Found k j w → Found k (suc j) (g ∷ w)
+unfolding A.at A.mark A.underWay
+found-past k j g w e h = rw e h
+
+found-here : (g : A.Sent) (w : List A.Sent) → g .delivered ≡ false → Found zero zero (g ∷ w)
+unfolding A.at A.mark A.underWay A.once pick broughtWith
+found-here g w e = rw e
+
+found-behind : (k j : ℕ) (g : A.Sent) (w : List A.Sent) → g .delivered ≡ false → Found k j w → Found (suc k) (suc j) (g ∷ w)
+unfolding A.at A.mark A.underWay pick
+found-behind k j g w e h = rw e (ap (behind (g .bytes)) h ∙ behind-brought (g .bytes) (A.brought j w) (A.underWay (A.mark j w)))
+
+pub pick-under-way : (k : ℕ) (w : List A.Sent) → Found k (indexSent k w) w
+unfolding indexSent
+pick-under-way k [] = unfold pick broughtWith A.at A.mark A.underWay A.once in refl
+pick-under-way zero (g ∷ w) = go (g .delivered) refl (pick-under-way zero w)
+  where
+    go : (d : Bool) → g .delivered ≡ d → Found zero (indexSent zero w) w → Found zero (cond d (suc (indexSent zero w)) 0) (g ∷ w)
+    go true e h = found-past zero (indexSent zero w) g w e h
+    go false e h = found-here g w e
+pick-under-way (suc k) (g ∷ w) = go (g .delivered) refl (pick-under-way (suc k) w) (pick-under-way k w)
+  where
+    go : (d : Bool) → g .delivered ≡ d → Found (suc k) (indexSent (suc k) w) w → Found k (indexSent k w) w
+        → Found (suc k) (suc (cond d (indexSent (suc k) w) (indexSent k w))) (g ∷ w)
+    go true e h f = found-past (suc k) (indexSent (suc k) w) g w e h
+    go false e h f = found-behind k (indexSent k w) g w e f
+
+-- a delivery that brings bytes is that of a message under way
+pub brought-open : (o : Option A.Sent) (b : List ℕ) → A.once o ≡ some b → (g : A.Sent) × (o ≡ some g) × (g .delivered ≡ false) × (g .bytes ≡ b)
+unfolding A.once
+brought-open none b e = let z : _≡_ {A = ℕ} 0 1 = cc in absurd (omega arith)
+brought-open (some g) b e = go (g .delivered) refl e
+  where
+    go : (d : Bool) → g .delivered ≡ d → cond d none (some (g .bytes)) ≡ some b → (h : A.Sent) × (some g ≡ some h) × (h .delivered ≡ false) × (h .bytes ≡ b)
+    go true f q = let z : _≡_ {A = ℕ} 0 1 = cc in absurd (omega arith)
+    go false f q = (g, refl, f, cc)
