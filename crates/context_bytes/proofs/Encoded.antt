@@ -10,10 +10,10 @@ use lib.Dec.{lit<}
 use lib.Seq.{getD-drop, drop-drop, drop-at}
 use Rattle.roundtrip.specs.Fits.{Byte, Word, Bytes}
 use Rattle.words.specs.Word.{quadAt, quadBytes, wordAt, wordBytes}
-use Rattle.words.proofs.Laws.{length-word, word-drop, word-read}
+use Rattle.words.proofs.Laws.{length-word, quad-drop, quad-read, word-drop, word-read}
 use Rattle.context.specs.declared.Context.{Context}
 use Rattle.fields.specs.Fields.{bytesFrom, flagByte, flagOf}
-use Rattle.fields.proofs.Back.{flag-read, quad-drop, quad-read}
+use Rattle.fields.proofs.Back.{flag-read}
 use Rattle.context_bytes.specs.Encoding.{keyBytes, countsBytes, eventsBytes, modulesBytes, wordsBytes, supervisorsBytes, contextBytes}
 use Rattle.context_bytes.specs.Encoding.{keyAt, countsAt, eventsAt, modulesAt, wordsFrom, supervisorsAt, contextAt, Words, ContextEncodable}
 use Rattle.context_bytes.proofs.Writing.{headBytes, context-size}

@@ -3,12 +3,11 @@ use mathlib.Core.Path.{_≡_, refl, sym, ap, ap₂, _∙_, subst}
 use mathlib.Core.List.{List, [], _∷_, _++_}
 use mathlib.Core.Bool.{Bool, true, false, not, _&&_, true≢false}
 use Prim.Native.Nat.{ℕ, zero, suc, _+_, _*_, _/_, _%_, _^_, _<_}
-use native.Mathlib.Nat.{add-zero, add-suc, add-assoc, suc-add, zero-add}
+use native.Mathlib.Nat.{add-zero, add-suc, suc-add, zero-add}
 use native.Mathlib.Numerals.{towards-suc}
 use native.Mathlib.Omega.{arith}
-use lib.ListN.{length, getD, drop}
+use lib.ListN.{length, getD}
 use lib.Dec.{T}
-use lib.Seq.{getD-drop}
 use lib.Ieee.{Float, binary64, isNan, toBits, ofBits, nanBits}
 use lib.Ieee.Bits.{ofBits-toBits, toBits-ofBits, toBits-lt, nanBits-is}
 use borrow.Author.Tests.{ltb-true, not-true}
@@ -97,19 +96,6 @@ flag-is false = refl
 pub half-read : (x : ℕ) (t : List ℕ) → x < 2 ^ 16 → halfAt (halfBytes x ++ t) 0 ≡ x
 unfolding halfAt halfBytes
 half-read x t h = omega arith
-
-pub quad-drop : (b : ℕ) (s : List ℕ) (o : ℕ) → quadAt (drop b s) o ≡ quadAt s (b + o)
-unfolding quadAt
-quad-drop b s o = simp (getD-drop, add-assoc)
-
-pub quad-read : (x : ℕ) (t : List ℕ) → x < 2 ^ 32 → quadAt (quadBytes x ++ t) 0 ≡ x
-unfolding quadAt quadBytes
-quad-read x t h =
-    let a : x / 0x1000000 % 256 ≡ x / 0x1000000 = omega arith in
-    let b : x / 0x1000000 * 256 + x / 0x10000 % 256 ≡ x / 0x10000 = omega arith in
-    let c : x / 0x10000 * 256 + x / 0x100 % 256 ≡ x / 0x100 = omega arith in
-    let d : x / 0x100 * 256 + x % 256 ≡ x = omega arith in
-    simp (a, b, c) d
 
 module _ (x : Float) (n : Number x) where
   float-word : (t : List ℕ) → wordAt (floatBytes x ++ t) 0 ≡ toBits binary64 x

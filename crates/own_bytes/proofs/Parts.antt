@@ -7,6 +7,7 @@ use lib.ListN.{getD}
 use lib.Ieee.{Float}
 use Rattle.roundtrip.specs.Fits.{Bytes}
 use Rattle.words.specs.Word.{quadAt, quadBytes, wordAt, wordBytes}
+use Rattle.words.proofs.Laws.{quad-read}
 use Rattle.records.specs.declared.Record.{Record}
 use Rattle.rules.specs.LookUp.{moduleState}
 use Rattle.modules.specs.Procedure.{idle}
@@ -14,7 +15,7 @@ use Rattle.modules.specs.Fits.{queueFits, procedureFits, ownFits, ownEmpty}
 use Rattle.modules.specs.declared.Own.{Own}
 use Rattle.modules.specs.declared.Procedure.{Procedure}
 use Rattle.fields.specs.Fields.{bytesFrom, halfBytes, halfAt, flagByte, flagOf, isFlag, floatBytes, isFloat}
-use Rattle.fields.proofs.Back.{and-left, and-right, from-all, flag-written, half-written, quad-written, float-written, flag-read, flag-is, half-read, quad-read, float-read, float-is}
+use Rattle.fields.proofs.Back.{and-left, and-right, from-all, flag-written, half-written, quad-written, float-written, flag-read, flag-is, half-read, float-read, float-is}
 use Rattle.own_bytes.specs.Own.{procedureBytes, ownBytes, procedureOf, ownOf, isOwn, unfitOwn, OwnEncodable, OwnRead, OwnWritten, OwnParts}
 use Rattle.own_bytes.proofs.Writing.{length-own}
 

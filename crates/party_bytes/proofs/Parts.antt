@@ -9,7 +9,7 @@ use lib.Dec.{eqb}
 use lib.Seq.{getD-drop, drop-at}
 use borrow.Author.Tests.{eq-eqb, eqb-true, ltb-true}
 use Rattle.words.specs.Word.{quadAt, quadBytes, wordAt, wordBytes}
-use Rattle.words.proofs.Laws.{length-quad, word-drop, word-read, length-word}
+use Rattle.words.proofs.Laws.{length-quad, quad-drop, quad-read, word-drop, word-read, length-word}
 use Rattle.records.specs.declared.Record.{Record}
 use Rattle.roundtrip.specs.Fits.{Bytes}
 use Rattle.rules.specs.LookUp.{supervisorState}
@@ -23,7 +23,7 @@ use Rattle.permits.specs.declared.Module.{Module}
 use Rattle.permits.specs.declared.Holder.{Holder}
 use Rattle.permits.specs.declared.Holder.the-variants.{Home, Out}
 use Rattle.fields.specs.Fields.{bytesFrom, halfBytes, halfAt, flagByte, flagOf, isFlag}
-use Rattle.fields.proofs.Back.{and-left, and-right, from-all, flag-written, half-written, quad-written, word-from, flag-read, flag-is, half-read, quad-drop, quad-read}
+use Rattle.fields.proofs.Back.{and-left, and-right, from-all, flag-written, half-written, quad-written, word-from, flag-read, flag-is, half-read}
 use Rattle.own_bytes.specs.Own.{ownBytes, ownOf, isOwn}
 use Rattle.own_bytes.proofs.Writing.{length-own}
 use Rattle.own_bytes.proofs.Parts.{own-parts}

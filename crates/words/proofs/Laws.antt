@@ -1,4 +1,4 @@
--- Laws of bytes put into a list, and of the number that eight bytes are.
+-- Laws of bytes put into a list, and of the number that four or eight bytes are.
 use mathlib.Core.Path.{_≡_, refl, sym, ap, _∙_}
 use mathlib.Core.List.{List, _∷_, _++_, map}
 use mathlib.Core.Bool.{true, false}
@@ -54,7 +54,7 @@ module _ (o : ℕ) (q l : List ℕ) where
   pub put-done : (s : List ℕ) (i : ℕ) → length q ≡ i → sets s (o + i) (drop i q) ≡ sets l o q → s ≡ sets l o q
   put-done s i e w = sym (ap (λ (r : List ℕ). sets s (o + i) r) (ap (λ (k : ℕ). drop k q) (sym e) ∙ drop-length q)) ∙ w
 
--- ---- numbers of eight bytes
+-- ---- numbers of four and of eight bytes
 
 -- past the end
 quad-zero : (s : List ℕ) (o : ℕ) → length s ≤ o → quadAt s o ≡ 0
@@ -88,6 +88,10 @@ pub word-drop : (b : ℕ) (s : List ℕ) (o : ℕ) → wordAt (drop b s) o ≡ w
 unfolding wordAt
 word-drop b s o = simp (getD-drop, add-assoc)
 
+pub quad-drop : (b : ℕ) (s : List ℕ) (o : ℕ) → quadAt (drop b s) o ≡ quadAt s (b + o)
+unfolding quadAt
+quad-drop b s o = simp (getD-drop, add-assoc)
+
 -- the bytes of a number put, if there is room for them
 pub put-room : (s : List ℕ) (o x : ℕ) → o + 8 ≤ length s → putAt (wordBytes x) o s ≡ sets s o (wordBytes x)
 unfolding wordBytes
@@ -107,6 +111,15 @@ digits x h =
 pub word-read : (x : ℕ) (t : List ℕ) → x < 2 ^ 64 → wordAt (wordBytes x ++ t) 0 ≡ x
 unfolding wordAt wordBytes
 word-read x t h = digits x h
+
+pub quad-read : (x : ℕ) (t : List ℕ) → x < 2 ^ 32 → quadAt (quadBytes x ++ t) 0 ≡ x
+unfolding quadAt quadBytes
+quad-read x t h =
+    let a : x / 0x1000000 % 256 ≡ x / 0x1000000 = omega arith in
+    let b : x / 0x1000000 * 256 + x / 0x10000 % 256 ≡ x / 0x10000 = omega arith in
+    let c : x / 0x10000 * 256 + x / 0x100 % 256 ≡ x / 0x100 = omega arith in
+    let d : x / 0x100 * 256 + x % 256 ≡ x = omega arith in
+    simp (a, b, c) d
 
 pub length-quad : (x : ℕ) → length (quadBytes x) ≡ 4
 unfolding quadBytes
