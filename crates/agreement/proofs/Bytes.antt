@@ -7,12 +7,11 @@ use lib.ListN.{length, take, drop, length-append}
 use lib.Seq.{take-at, drop-at}
 use Rattle.words.specs.Word.{wordAt, wordBytes}
 use Rattle.words.proofs.Laws.{word-read, word-drop, length-word}
-use Rattle.messages.specs.Message.{messageBytes, parse}
+use Rattle.messages.specs.Message.{releaseSize, messageBytes, parse, pieces}
 use Rattle.messages.specs.declared.Message.{Message}
 use Rattle.messages.specs.declared.Message.the-variants.{Bid, Permit, Release}
 use Rattle.messages.specs.declared.Parsed.the-variants.{Whole}
 use Rattle.permits.specs.Step.{bytesOfMessages}
-use Rattle.agreement.specs.System.{pieces}
 
 -- a permit's mask has 64 bits
 abbrev pub Sized : Message → Type 0
@@ -28,20 +27,20 @@ parse-bytes (Permit v m k) h =
     simp (length-word k, e)
 parse-bytes (Release m v e) h = refl
 
--- messages of four bytes each
-abbrev pub Fours : List Message → Type 0
-Fours [] = Unit {0}
-Fours (g ∷ gs) = (length (messageBytes g) ≡ 4) × Fours gs
+-- messages of the length of a release
+abbrev pub AsReleases : List Message → Type 0
+AsReleases [] = Unit {0}
+AsReleases (g ∷ gs) = (length (messageBytes g) ≡ releaseSize) × AsReleases gs
 
-pub pieces-of : (gs : List Message) (rest : List ℕ) → Fours gs → pieces (length gs) (bytesOfMessages gs ++ rest) ≡ map messageBytes gs
+pub pieces-of : (gs : List Message) (rest : List ℕ) → AsReleases gs → pieces releaseSize (length gs) (bytesOfMessages gs ++ rest) ≡ map messageBytes gs
 unfolding pieces bytesOfMessages
 pieces-of [] rest h = refl
 pieces-of (g ∷ gs) rest h =
     ap₂ (λ (a : List ℕ) (b : List (List ℕ)). a ∷ b)
-    (ap (take 4) (append-assoc (messageBytes g) (bytesOfMessages gs) rest) ∙ take-at (messageBytes g) (bytesOfMessages gs ++ rest) 4 (h .0))
-    (ap (λ (l : List ℕ). pieces (length gs) l) (ap (drop 4) (append-assoc (messageBytes g) (bytesOfMessages gs) rest) ∙ drop-at (messageBytes g) (bytesOfMessages gs ++ rest) 4 (h .0)) ∙ pieces-of gs rest (h .1))
+    (ap (take releaseSize) (append-assoc (messageBytes g) (bytesOfMessages gs) rest) ∙ take-at (messageBytes g) (bytesOfMessages gs ++ rest) releaseSize (h .0))
+    (ap (λ (l : List ℕ). pieces releaseSize (length gs) l) (ap (drop releaseSize) (append-assoc (messageBytes g) (bytesOfMessages gs) rest) ∙ drop-at (messageBytes g) (bytesOfMessages gs ++ rest) releaseSize (h .0)) ∙ pieces-of gs rest (h .1))
 
-pub length-fours : (gs : List Message) → Fours gs → length (bytesOfMessages gs) ≡ length gs * 4
+pub length-releases : (gs : List Message) → AsReleases gs → length (bytesOfMessages gs) ≡ length gs * releaseSize
 unfolding bytesOfMessages
-length-fours [] h = refl
-length-fours (g ∷ gs) h = length-append (messageBytes g) (bytesOfMessages gs) ∙ omega (arith, h .0, length-fours gs (h .1))
+length-releases [] h = refl
+length-releases (g ∷ gs) h = length-append (messageBytes g) (bytesOfMessages gs) ∙ omega (arith, h .0, length-releases gs (h .1))

@@ -16,7 +16,7 @@ use Rattle.accepted.proofs.Accepted.{every-plan}
 use Rattle.modules.specs.declared.Called.the-variants.{Done as Accepted}
 use Rattle.device.specs.Device.{startCall}
 use Rattle.device_states.specs.declared.Device.{Device}
-use Rattle.messages.specs.Message.{parse}
+use Rattle.messages.specs.Message.{bufferLength, parse}
 use Rattle.messages.specs.declared.Parsed.{Parsed}
 use Rattle.messages.specs.declared.Parsed.the-variants.{Whole}
 use Rattle.permits.specs.declared.Module.{Module}
@@ -206,22 +206,22 @@ module _ (image : List ℕ) (plan : IsPlan image) (L : Laws (planOf (recordsOf i
   act-changes a n ch =
       changes-same rs D (P.step (planOf rs) D (actOf (B .sent) a)) O _ I (good (planOf rs) L D O I (actOf (B .sent) a) .inv) image refl B (A.step image B a) s (act-done image plan L B D O s I a n .sim) ch
 
-  lent : length (replicate {A = ℕ} 128 0) ≡ 128
-  lent = length-replicate {A = ℕ} 128 0
+  lent : length (replicate {A = ℕ} bufferLength 0) ≡ bufferLength
+  lent = length-replicate {A = ℕ} bufferLength 0
 
   delivery-changes : (k j : ℕ) → indexUnderWay k (B .sent) ≡ j → P.Changes (planOf rs) D (P.step (planOf rs) D (P.deliver j)) → Changes image B (A.step image B (A.deliver k))
   unfolding actOf
   delivery-changes k j e ch = act-changes (A.deliver k) tt (subst (λ (i : ℕ). P.Changes (planOf rs) D (P.step (planOf rs) D (P.deliver i))) (sym e) ch)
 
   module-changes : (m : ℕ) → P.Changes (planOf rs) D (P.step (planOf rs) D (P.moduleStep m))
-      → (m < modulesOf rs) × (M.moduleStep image m (B .moduleAt m) (replicate 128 0) .state ≢ B .moduleAt m)
+      → (m < modulesOf rs) × (M.moduleStep image m (B .moduleAt m) (replicate bufferLength 0) .state ≢ B .moduleAt m)
   unfolding actOf A.step
-  module-changes m ch = module-only image B m _ _ (act-changes (A.moduleStep m (replicate 128 0)) lent ch)
+  module-changes m ch = module-only image B m _ _ (act-changes (A.moduleStep m (replicate bufferLength 0)) lent ch)
 
   supervisor-changes : (v : ℕ) → P.Changes (planOf rs) D (P.step (planOf rs) D (P.supervisorStep v))
-      → (v < supervisorsOf rs) × (S.supervisorStep image v (B .supervisorAt v) (replicate 128 0) .state ≢ B .supervisorAt v)
+      → (v < supervisorsOf rs) × (S.supervisorStep image v (B .supervisorAt v) (replicate bufferLength 0) .state ≢ B .supervisorAt v)
   unfolding actOf A.step
-  supervisor-changes v ch = supervisor-only image B v _ _ (act-changes (A.supervisorStep v (replicate 128 0)) lent ch)
+  supervisor-changes v ch = supervisor-only image B v _ _ (act-changes (A.supervisorStep v (replicate bufferLength 0)) lent ch)
 
   pub progress-same : P.Progress (planOf rs) D → Progress image B
   unfolding pickedOf
@@ -231,8 +231,8 @@ module _ (image : List ℕ) (plan : IsPlan image) (L : Laws (planOf (recordsOf i
       let c : Changes image B (A.step image B (A.deliver (r .0))) = delivery-changes (r .0) j (r .1) ch in
       let g = changing image B (r .0) c in
       Progress.by-delivery (r .0) (g .0) (g .1) (g .2) (all-taken (r .0) (g .0) (g .1) (g .2)) c
-  progress-same (P.by-module-step m ch) = let c = module-changes m ch in Progress.by-module-step m (replicate 128 0) (c .0) lent (c .1)
-  progress-same (P.by-supervisor-step v ch) = let c = supervisor-changes v ch in Progress.by-supervisor-step v (replicate 128 0) (c .0) lent (c .1)
+  progress-same (P.by-module-step m ch) = let c = module-changes m ch in Progress.by-module-step m (replicate bufferLength 0) (c .0) lent (c .1)
+  progress-same (P.by-supervisor-step v ch) = let c = supervisor-changes v ch in Progress.by-supervisor-step v (replicate bufferLength 0) (c .0) lent (c .1)
 
 -- ---- the theorem
 

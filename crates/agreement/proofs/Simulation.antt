@@ -17,7 +17,7 @@ use Rattle.water.specs.declared.Flow.{Flow}
 use Rattle.modules.specs.declared.Own.{Own}
 use Rattle.modules.specs.declared.Replied.{Replied}
 use Rattle.modules.specs.Procedure.{calledBy, tickOf, respondOf}
-use Rattle.messages.specs.Message.{messageBytes, parse, written}
+use Rattle.messages.specs.Message.{bufferLength, messageBytes, parse, written}
 use Rattle.messages.specs.declared.Message.the-variants.{Bid, Permit, Release}
 use Rattle.messages.specs.declared.Parsed.{Parsed}
 use Rattle.messages.specs.declared.Parsed.the-variants.{Whole}
@@ -227,7 +227,7 @@ module _ (image : List ℕ) (plan : IsPlan image) (L : Laws (planOf (recordsOf i
   module-fed m (R.bidsTo v) = refl
 
   -- the call's whole answer, by the rules' choice
-  pub module-call : (m : ℕ) (b : List ℕ) → m < modulesOf rs → length b ≡ 128
+  pub module-call : (m : ℕ) (b : List ℕ) → m < modulesOf rs → length b ≡ bufferLength
       → M.moduleStep image m (B .moduleAt m) b
       ≡ record { answer = M.answerBy rs m (B .moduleAt m) (choiceOf (R.choice (planOf rs) m (D .moduleAt m))); state = M.stateBy rs m (B .moduleAt m) (choiceOf (R.choice (planOf rs) m (D .moduleAt m))); buffer = written (M.stepBytes rs m (B .moduleAt m) (choiceOf (R.choice (planOf rs) m (D .moduleAt m)))) b }
   module-call m b l n =
@@ -235,7 +235,7 @@ module _ (image : List ℕ) (plan : IsPlan image) (L : Laws (planOf (recordsOf i
       ∙ ap (λ (c : M.Choice). record { answer = M.answerBy rs m (B .moduleAt m) c; state = M.stateBy rs m (B .moduleAt m) c; buffer = written (M.stepBytes rs m (B .moduleAt m) c) b })
       (choice-is rs L m (B .moduleAt m) (D .moduleAt m) (s .modules m l))
 
-  pub module-done : (m : ℕ) (b : List ℕ) → length b ≡ 128 → Done image B D (A.moduleStep m b)
+  pub module-done : (m : ℕ) (b : List ℕ) → length b ≡ bufferLength → Done image B D (A.moduleStep m b)
   module-done m b n = go (ltb m (modulesOf rs)) refl
     where
       there : m < modulesOf rs → ltb m (modulesOf rs) ≡ true → Done image B D (A.moduleStep m b)
@@ -277,7 +277,7 @@ module _ (image : List ℕ) (plan : IsPlan image) (L : Laws (planOf (recordsOf i
       none-sent : A.send (B .sent) (map messageBytes (S.sentTo rs v (B .supervisorAt v) none)) ≡ B .sent
       none-sent = unfold S.sentTo in (append-nil (B .sent))
 
-  pub supervisor-call : (v : ℕ) (b : List ℕ) → v < supervisorsOf rs → length b ≡ 128
+  pub supervisor-call : (v : ℕ) (b : List ℕ) → v < supervisorsOf rs → length b ≡ bufferLength
       → S.supervisorStep image v (B .supervisorAt v) b
       ≡ record { answer = S.answerBy (S.stepBytes rs v (B .supervisorAt v) (R.served (D .supervisorAt v))) (R.served (D .supervisorAt v)); state = S.stateAfter (B .supervisorAt v) (R.served (D .supervisorAt v)); buffer = written (S.stepBytes rs v (B .supervisorAt v) (R.served (D .supervisorAt v))) b }
   supervisor-call v b l n =
@@ -285,7 +285,7 @@ module _ (image : List ℕ) (plan : IsPlan image) (L : Laws (planOf (recordsOf i
       ∙ ap (λ (t : Option ℕ). record { answer = S.answerBy (S.stepBytes rs v (B .supervisorAt v) t) t; state = S.stateAfter (B .supervisorAt v) t; buffer = written (S.stepBytes rs v (B .supervisorAt v) t) b })
       (served-is rs v (B .supervisorAt v) (D .supervisorAt v) (s .supervisors v l))
 
-  pub supervisor-done : (v : ℕ) (b : List ℕ) → length b ≡ 128 → Done image B D (A.supervisorStep v b)
+  pub supervisor-done : (v : ℕ) (b : List ℕ) → length b ≡ bufferLength → Done image B D (A.supervisorStep v b)
   supervisor-done v b n = record { sim = go (ltb v (supervisorsOf rs)) refl; seen = unfold C.actSeen P.actSeen actOf in refl; fed = unfold C.actFed P.actFed actOf in refl }
     where
       there : v < supervisorsOf rs → ltb v (supervisorsOf rs) ≡ true → Sim rs (A.step image B (A.supervisorStep v b)) (P.step (planOf rs) D (actOf (B .sent) (A.supervisorStep v b)))

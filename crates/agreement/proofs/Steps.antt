@@ -1,4 +1,4 @@
--- Module and supervisor steps do what the rules say, in states that fit and with 128 bytes lent.
+-- Module and supervisor steps do what the rules say, in states that fit and with the buffer lent.
 use mathlib.Core.Path.{_≡_, refl, ap, ap₂, _∙_}
 use mathlib.Core.Bool.{Bool, true, false, cond}
 use mathlib.Core.List.{List, [], _∷_, _++_, map, append-nil}
@@ -18,7 +18,7 @@ use Rattle.rules.specs.declared.Verdict.the-variants.{Accepted}
 use Rattle.plan.specs.Plan.{neighbours, shown}
 use Rattle.modules.specs.declared.Turn.{Turn}
 use Rattle.modules.specs.Turn.{turnOf}
-use Rattle.messages.specs.Message.{messageBytes, written}
+use Rattle.messages.specs.Message.{releaseSize, bufferLength, messageBytes, written, pieces}
 use Rattle.messages.specs.declared.Message.{Message}
 use Rattle.messages.specs.declared.Message.the-variants.{Bid, Permit, Release}
 use Rattle.permits.specs.declared.Module.{Module}
@@ -32,24 +32,24 @@ use Rattle.permits.proofs.Stepping.{bytes-one}
 use Rattle.protocol.specs.Plan.{Plan, Laws}
 use Rattle.protocol.specs.Rules as R
 use Rattle.agreement.specs.PlanOf.{planOf}
-use Rattle.agreement.specs.System.{pieces, wrote, wroteOut}
+use Rattle.agreement.specs.System.{wrote, wroteOut}
 use Rattle.agreement.specs.Compared.{holderOf}
 use Rattle.agreement.proofs.Names.{messageOf, choiceOf, choice-same, releases-same}
-use Rattle.agreement.proofs.Bytes.{Fours, pieces-of, length-fours}
+use Rattle.agreement.proofs.Bytes.{AsReleases, pieces-of, length-releases}
 use Rattle.agreement.proofs.Fit.{SameModule, SameSupervisor, few, watched}
 
 -- ---- a module step
 
-fours-append : (l r : List Message) → Fours l → Fours r → Fours (l ++ r)
-fours-append [] r h k = k
-fours-append (g ∷ l) r h k = (h .0, fours-append l r (h .1) k)
+as-append : (l r : List Message) → AsReleases l → AsReleases r → AsReleases (l ++ r)
+as-append [] r h k = k
+as-append (g ∷ l) r h k = (h .0, as-append l r (h .1) k)
 
-releases-fours : (rs : List Record) (m : ℕ) (t : Turn) (n : ℕ) → Fours (M.releases rs m t n)
+pub releases-as : (rs : List Record) (m : ℕ) (t : Turn) (n : ℕ) → AsReleases (M.releases rs m t n)
 unfolding M.releasesIn
-releases-fours rs m t zero = tt
-releases-fours rs m t (suc n) = fours-append (M.releases rs m t n) _ (releases-fours rs m t n) (one (bit (neighbours rs m) n))
+releases-as rs m t zero = tt
+releases-as rs m t (suc n) = as-append (M.releases rs m t n) _ (releases-as rs m t n) (one (bit (neighbours rs m) n))
   where
-    one : (b : Bool) → Fours (cond b (Release m n (M.eventFor rs n t) ∷ []) [])
+    one : (b : Bool) → AsReleases (cond b (Release m n (M.eventFor rs n t) ∷ []) [])
     one true = unfold messageBytes in (refl, tt)
     one false = tt
 
@@ -66,14 +66,14 @@ module _ (rs : List Record) (m : ℕ) (x : Module) where
   abbrev turnMessages : List Message
   turnMessages = M.releases rs m (M.turnTaken rs m x .turn) 32
 
-  step-room : (c : M.Choice) → length (M.stepBytes rs m x c) ≤ 128
+  step-room : (c : M.Choice) → length (M.stepBytes rs m x c) ≤ bufferLength
   unfolding M.sentBy
-  step-room M.takesTurn = omega (arith, length-fours turnMessages (releases-fours rs m (M.turnTaken rs m x .turn) 32), releases-most rs m (M.turnTaken rs m x .turn) 32)
+  step-room M.takesTurn = omega (arith, length-releases turnMessages (releases-as rs m (M.turnTaken rs m x .turn) 32), releases-most rs m (M.turnTaken rs m x .turn) 32)
   step-room M.waits = unfold bytesOfMessages in (omega arith)
   step-room (M.bidsTo v) = unfold bytesOfMessages messageBytes in (omega arith)
 
   -- the whole answer of an accepted step
-  pub step-is : (w : Verdict) (b : List ℕ) → w ≡ Accepted → m < modulesOf rs → M.moduleFits rs m x ≡ true → length b ≡ 128
+  pub step-is : (w : Verdict) (b : List ℕ) → w ≡ Accepted → m < modulesOf rs → M.moduleFits rs m x ≡ true → length b ≡ bufferLength
       → M.stepBy w rs m x b
       ≡ record { answer = M.answerBy rs m x (M.choice rs m x); state = M.stateBy rs m x (M.choice rs m x); buffer = written (M.stepBytes rs m x (M.choice rs m x)) b }
   unfolding M.stepBy M.stepIn
@@ -90,9 +90,9 @@ module _ (rs : List Record) (m : ℕ) (x : Module) where
   pub sent-is : (c : M.Choice) (b : List ℕ) → wrote (M.answerBy rs m x c) (written (M.stepBytes rs m x c) b) ≡ map messageBytes (M.sentBy rs m x c)
   unfolding M.sentBy M.answerBy wrote
   sent-is M.takesTurn b =
-      let n = length-fours turnMessages (releases-fours rs m (M.turnTaken rs m x .turn) 32) in
-      let e : length (bytesOfMessages turnMessages) / 4 ≡ length turnMessages = omega arith in
-      ap (λ (k : ℕ). pieces k (written (bytesOfMessages turnMessages) b)) e ∙ pieces-of turnMessages (drop (length (bytesOfMessages turnMessages)) b) (releases-fours rs m (M.turnTaken rs m x .turn) 32)
+      let n = length-releases turnMessages (releases-as rs m (M.turnTaken rs m x .turn) 32) in
+      let e : length (bytesOfMessages turnMessages) / releaseSize ≡ length turnMessages = omega arith in
+      ap (λ (k : ℕ). pieces releaseSize k (written (bytesOfMessages turnMessages) b)) e ∙ pieces-of turnMessages (drop (length (bytesOfMessages turnMessages)) b) (releases-as rs m (M.turnTaken rs m x .turn) 32)
   sent-is M.waits b = refl
   sent-is (M.bidsTo v) b =
       ap (λ (l : List ℕ). l ∷ []) (take-at (bytesOfMessages (Bid m v ∷ [])) (drop (length (bytesOfMessages (Bid m v ∷ []))) b) (length (bytesOfMessages (Bid m v ∷ []))) refl ∙ (unfold bytesOfMessages in (append-nil (messageBytes (Bid m v)))))
@@ -130,12 +130,12 @@ module _ (rs : List Record) (L : Laws (planOf rs)) (m : ℕ) (x : Module) (y : R
 -- ---- a supervisor step
 
 module _ (rs : List Record) (v : ℕ) (x : Supervisor) where
-  serve-room : (t : Option ℕ) → length (S.stepBytes rs v x t) ≤ 128
+  serve-room : (t : Option ℕ) → length (S.stepBytes rs v x t) ≤ bufferLength
   unfolding bytesOfMessages S.sentTo messageBytes
   serve-room none = omega arith
   serve-room (some m) = omega (arith, ap length (bytes-one (Permit v m (shown rs v (x .state)))), length-word (shown rs v (x .state)))
 
-  pub serve-is : (w : Verdict) (b : List ℕ) → w ≡ Accepted → v < supervisorsOf rs → S.supervisorFits rs v x ≡ true → length b ≡ 128
+  pub serve-is : (w : Verdict) (b : List ℕ) → w ≡ Accepted → v < supervisorsOf rs → S.supervisorFits rs v x ≡ true → length b ≡ bufferLength
       → S.stepBy w rs v x b
       ≡ record { answer = S.answerBy (S.stepBytes rs v x (S.served x)) (S.served x); state = S.stateAfter x (S.served x); buffer = written (S.stepBytes rs v x (S.served x)) b }
   unfolding S.stepBy S.stepIn

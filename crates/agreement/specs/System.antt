@@ -5,9 +5,9 @@ use mathlib.Core.Bool.{Bool, true, false, cond}
 use mathlib.Core.Path.{_≡_}
 use mathlib.Core.List.{List, [], _∷_, _++_, map}
 use mathlib.Core.Option.{Option, none, some}
-use lib.ListN.{length, take, drop}
+use lib.ListN.{length, take}
 use Rattle.water.specs.declared.Flow.{Flow}
-use Rattle.messages.specs.Message.{parse}
+use Rattle.messages.specs.Message.{parse, releaseSize}
 use Rattle.messages.specs.declared.Message.the-variants.{Bid, Permit, Release}
 use Rattle.messages.specs.declared.Parsed.{Parsed}
 use Rattle.messages.specs.declared.Parsed.the-variants.{Whole, Misshapen}
@@ -20,6 +20,9 @@ use Rattle.permits.specs.declared.Served.the-variants.{Sends, Waits as Supervis
 use Rattle.permits.specs.Module as M
 use Rattle.permits.specs.Supervisor as S
 use Rattle.protocol.specs.Generic.{update}
+-- the buffer that a step is lent, and how the releases in it are cut, passed on
+pub use Rattle.messages.specs.Message.{bufferLength}
+unfoldable pub use Rattle.messages.specs.Message.{pieces}
 
 -- a message sent: its bytes, and whether it has been delivered; document 01's term: "under way until delivered"
 pub record Sent : Type 0 where
@@ -40,10 +43,6 @@ pub data Act : Type 0 where
   respond : ℕ → ℕ → Act
   tick : ℕ → Flow → Act
 
--- "128-byte output buffers"
-abbrev pub bufferLength : ℕ
-bufferLength = 128
-
 abbrev pub Lent : Act → Type 0
 Lent (moduleStep m b) = length b ≡ bufferLength
 Lent (supervisorStep v b) = length b ≡ bufferLength
@@ -55,14 +54,9 @@ abbrev pub AllLent : List Act → Type 0
 AllLent [] = Unit {0}
 AllLent (a ∷ l) = Lent a × AllLent l
 
--- k pieces of four bytes
-unfoldable pub pieces : ℕ → List ℕ → List (List ℕ)
-pieces zero b = []
-pieces (suc k) b = take 4 b ∷ pieces k (drop 4 b)
-
 -- "A message is sent by the accepted step that writes it"; "each release is sent as a message by itself"
 unfoldable pub wrote : Stepped → List ℕ → List (List ℕ)
-wrote (Turned t n) b = pieces (n / 4) b
+wrote (Turned t n) b = pieces releaseSize (n / releaseSize) b
 wrote (Bids v n) b = take n b ∷ []
 wrote Waits b = []
 wrote (Refused n o) b = []

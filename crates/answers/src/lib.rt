@@ -22,11 +22,11 @@ pub struct Row {
 
 // ---- lines
 
-// `sent BYTES`.
+// `sent BYTES`; a permit is the longest message.
 pub fn sent_line(g: Message) -> Text
     ensures { λ r. ⌜ r ≡ textOf (sentLine (messageBytes g)) ⌝ }
 {
-    let mut bytes = [0u8; 11];
+    let mut bytes = [0u8; messages::PERMIT_SIZE];
     messages::write(g, &mut bytes, 0);
     let n = messages::length_of(g);
     script::sent_line(&bytes[..n])
@@ -35,7 +35,7 @@ pub fn sent_line(g: Message) -> Text
 fn delivered_line(g: Message) -> Text
     ensures { λ r. ⌜ r ≡ textOf (deliveredLine (messageBytes g)) ⌝ }
 {
-    let mut bytes = [0u8; 11];
+    let mut bytes = [0u8; messages::PERMIT_SIZE];
     messages::write(g, &mut bytes, 0);
     let n = messages::length_of(g);
     script::delivered_line(&bytes[..n])

@@ -28,7 +28,7 @@ use Rattle.accepted.specs.Plan.{Sound}
 use Rattle.accepted.proofs.Accepted.{every-plan}
 use Rattle.roundtrip.specs.Fits.{Byte, Bytes}
 use Rattle.roundtrip.proofs.Shape.{word-small}
-use Rattle.messages.specs.Message.{noEvent, short, shaped, parse}
+use Rattle.messages.specs.Message.{bidSize, permitSize, releaseSize, noEvent, short, shaped, parse}
 use Rattle.messages.specs.declared.Message.{Message}
 use Rattle.messages.specs.declared.Message.the-variants.{Bid, Permit, Release}
 use Rattle.messages.specs.declared.Parsed.{Parsed}
@@ -77,8 +77,8 @@ MaskSmall Misshapen = Unit {0}
 mask-small : (g : List ℕ) → Bytes g → MaskSmall (parse g)
 unfolding parse
 mask-small g h =
-    choose MaskSmall (shaped 0x01 2 g) _ _ (λ a. tt)
-    (λ a. choose MaskSmall (shaped 0x02 10 g) _ _ (λ b. word-small g 3 h) (λ b. choose MaskSmall (shaped 0x03 3 g) _ _ (λ c. tt) (λ c. tt)))
+    choose MaskSmall (shaped 0x01 bidSize g) _ _ (λ a. tt)
+    (λ a. choose MaskSmall (shaped 0x02 permitSize g) _ _ (λ b. word-small g 3 h) (λ b. choose MaskSmall (shaped 0x03 releaseSize g) _ _ (λ c. tt) (λ c. tt)))
 
 -- ---- modules
 

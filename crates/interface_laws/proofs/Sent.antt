@@ -22,7 +22,7 @@ use Rattle.plan.specs.Plan.{moduleMove, neighbours, inAlphabet, shown}
 use Rattle.accepted.specs.Plan.{Sound}
 use Rattle.accepted.proofs.Accepted.{every-plan}
 use Rattle.roundtrip.specs.Fits.{Byte, Bytes}
-use Rattle.messages.specs.Message.{messageBytes, short, written}
+use Rattle.messages.specs.Message.{releaseSize, messageBytes, short, written}
 use Rattle.messages.specs.declared.Message.{Message}
 use Rattle.messages.specs.declared.Message.the-variants.{Bid, Permit, Release}
 use Rattle.modules.specs.Queue.{queueOf, withQueue}
@@ -83,7 +83,7 @@ module _ (s b : List ℕ) where
     size : p / 4294967296 ≡ n
     size = its .size ∙ omega arith
 
-    by-module : moduleSends (record { number = p; state = s; buffer = b }) ≡ cond (eqb d 4) (take n b ∷ []) (pieces (n / 4) b)
+    by-module : moduleSends (record { number = p; state = s; buffer = b }) ≡ cond (eqb d 4) (take n b ∷ []) (pieces releaseSize (n / releaseSize) b)
     unfolding moduleSends
     by-module = simp (its .number, its .did, size)
 
@@ -91,7 +91,7 @@ module _ (s b : List ℕ) where
     unfolding supervisorSends
     by-supervisor = simp (its .number, its .did, size)
 
-  turn-sends : (t : Turn) (n : ℕ) → TurnSmall t → n < 2 ^ 32 → moduleSends (record { number = turnAnswer t n; state = s; buffer = b }) ≡ pieces (n / 4) b
+  turn-sends : (t : Turn) (n : ℕ) → TurnSmall t → n < 2 ^ 32 → moduleSends (record { number = turnAnswer t n; state = s; buffer = b }) ≡ pieces releaseSize (n / releaseSize) b
   unfolding turnAnswer
   turn-sends (Event e) n h l = by-module 1 e n (lit< tt) h l
   turn-sends (Stray e) n h l = by-module 2 e n (lit< tt) h l
@@ -140,11 +140,11 @@ taken zero b h = bytes-none
 taken (suc n) [] h = bytes-none
 taken (suc n) (x ∷ b) h = bytes-more x (take n b) (h 0 (omega arith)) (taken n b (λ j l. h (suc j) (omega arith)))
 
-in-pieces : (k : ℕ) (b : List ℕ) → First (k * 4) b → AllBytes (pieces k b)
+in-pieces : (k : ℕ) (b : List ℕ) → First (k * releaseSize) b → AllBytes (pieces releaseSize k b)
 unfolding pieces
 in-pieces zero b h = tt
 in-pieces (suc k) b h =
-    (taken 4 b (λ j l. h j (omega arith)), in-pieces k (drop 4 b) (λ j l. subst Byte (sym (getD-drop 4 b j 0)) (h (4 + j) (omega arith))))
+    (taken releaseSize b (λ j l. h j (omega arith)), in-pieces k (drop releaseSize b) (λ j l. subst Byte (sym (getD-drop releaseSize b j 0)) (h (releaseSize + j) (omega arith))))
 
 first-written : (bytes b : List ℕ) → Bytes bytes → First (length bytes) (written bytes b)
 first-written bytes b h j l = subst Byte (sym (List·getD-append bytes (drop (length bytes) b) 0 j l)) (h j)
@@ -230,13 +230,13 @@ module _ (rs : List Record) (plan : Sound rs) (m : ℕ) where
     unfolding M.choice M.missingIn
     module-bid v e = least-some (λ w. bit (neighbours rs m) w && not (bit (x .held) w)) 32 v (bid-to (M.missing rs m (x .held)) _ _ _ _ v e) .below
 
-    chosen : T (ownFits rs m (x .own)) → Byte m → (c : M.Choice) → M.choice rs m x ≡ c → length (M.stepBytes rs m x c) ≤ 128
+    chosen : T (ownFits rs m (x .own)) → Byte m → (c : M.Choice) → M.choice rs m x ≡ c → length (M.stepBytes rs m x c) ≤ bufferLength
         → StepSmall (M.answerBy rs m x c) × AllBytes (wrote (M.answerBy rs m x c) (written (M.stepBytes rs m x c) b))
     unfolding M.answerBy M.sentBy wrote
     chosen t h M.takesTurn e r =
         let u : TurnSmall (M.turnTaken rs m x .turn) = turn-small (x .received) (x .own) t in
         let g : Bytes (M.stepBytes rs m x M.takesTurn) = releases-bytes (M.turnTaken rs m x .turn) u h 32 (omega arith) in
-        ((u, omega arith), in-pieces (length (M.stepBytes rs m x M.takesTurn) / 4) (written (M.stepBytes rs m x M.takesTurn) b) (λ j k. first-written (M.stepBytes rs m x M.takesTurn) b g j (omega arith)))
+        ((u, omega arith), in-pieces (length (M.stepBytes rs m x M.takesTurn) / releaseSize) (written (M.stepBytes rs m x M.takesTurn) b) (λ j k. first-written (M.stepBytes rs m x M.takesTurn) b g j (omega arith)))
     chosen t h (M.bidsTo v) e r =
         let k : v < 32 = module-bid v e in
         let g : Bytes (M.stepBytes rs m x (M.bidsTo v)) = one-message (Bid m v) (h, omega arith) in
@@ -261,7 +261,7 @@ abbrev Servable : S.ServeCall → Type 0
 Servable c = ServeSmall (c .answer) × AllBytes (wroteOut (c .answer) (c .buffer))
 
 module _ (rs : List Record) (plan : Sound rs) (v : ℕ) (y : Supervisor) (b : List ℕ) (l : length b ≡ bufferLength) where
-  serves : Byte v → (o : Option ℕ) → S.served y ≡ o → length (S.stepBytes rs v y o) ≤ 128
+  serves : Byte v → (o : Option ℕ) → S.served y ≡ o → length (S.stepBytes rs v y o) ≤ bufferLength
       → ServeSmall (S.answerBy (S.stepBytes rs v y o) o) × AllBytes (wroteOut (S.answerBy (S.stepBytes rs v y o) o) (written (S.stepBytes rs v y o) b))
   unfolding S.answerBy S.sentTo wroteOut
   serves h none e r = (tt, tt)

@@ -10,7 +10,7 @@ use lib.Ieee.{Float}
 use Rattle.litres.specs.Eighths.{eighths}
 use Rattle.water.specs.declared.Flow.{Flow}
 use Rattle.water.specs.declared.Flow.the-variants.{Litres, NoSensor}
-use Rattle.messages.specs.Message.{parse}
+use Rattle.messages.specs.Message.{parse, releaseSize}
 use Rattle.messages.specs.declared.Message.the-variants.{Bid, Permit, Release}
 use Rattle.messages.specs.declared.Parsed.{Parsed}
 use Rattle.messages.specs.declared.Parsed.the-variants.{Whole, Misshapen}
@@ -53,7 +53,9 @@ lengthOf a = a .number / 4294967296
 -- what is sent after an accepted step of a module: a bid (4), or, as docs/EMBEDDING.md says, "releases of 4 bytes, each a message by itself; or
 -- waits, and nothing was written"
 unfoldable pub moduleSends : Answer → List (List ℕ)
-moduleSends a = cond (eqb (numberOf a) 0) (cond (eqb (didOf a) 4) (take (lengthOf a) (a .buffer) ∷ []) (pieces (lengthOf a / 4) (a .buffer))) []
+moduleSends a =
+    cond (eqb (numberOf a) 0)
+    (cond (eqb (didOf a) 4) (take (lengthOf a) (a .buffer) ∷ []) (pieces releaseSize (lengthOf a / releaseSize) (a .buffer))) []
 
 -- and of a supervisor, there: "send the permit if one was written" (5)
 unfoldable pub supervisorSends : Answer → List (List ℕ)

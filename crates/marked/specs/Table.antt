@@ -35,7 +35,7 @@ use Rattle.device_states.specs.States.{ownSlotFits, stateSlotFits, startSlot, s
 use Rattle.device.specs.Device.{turned, afterTurn, turnIn, turnBy, turnCall, replyIn, replyBy, respondCall, tickCall, startBy, startCall}
 use Rattle.device_states.specs.declared.Device.{Device}
 use Rattle.device.specs.declared.Turning.the-variants.{Turned}
-use Rattle.messages.specs.Message.{messageBytes, parse}
+use Rattle.messages.specs.Message.{bufferLength, messageBytes, parse}
 use Rattle.permits.specs.Names.{named}
 use Rattle.permits.specs.Module as M
 use Rattle.permits.specs.Supervisor as S
@@ -65,9 +65,9 @@ d4 = respondCall planP d3 1 3 .device
 unfoldable pub d5 : Device
 d5 = turnCall planP d4 1 .device
 
--- a buffer of 128 bytes, and module 0 and supervisor 0 on two devices: the bid, its note, the permit, its arrival
+-- a buffer, and module 0 and supervisor 0 on two devices: the bid, its note, the permit, its arrival
 abbrev pub buffer : List ℕ
-buffer = replicate 128 0xaa
+buffer = replicate bufferLength 0xaa
 
 unfoldable pub m0 : Module
 m0 = M.moduleStart planP 0 .state

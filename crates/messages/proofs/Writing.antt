@@ -11,7 +11,7 @@ use lib.Seq.{sets, sets-eq, length-sets}
 use borrow.Author.Tests.{ltb-true, ltb-false}
 use Rattle.words.specs.Word.{wordBytes}
 use Rattle.words.proofs.Laws.{put-room}
-use Rattle.messages.specs.Message.{messageBytes, fitsAt, putAt, short, written}
+use Rattle.messages.specs.Message.{permitSize, messageBytes, fitsAt, putAt, short, written}
 use Rattle.messages.specs.Write.{Wrote}
 use Rattle.messages.specs.declared.Message.{Message}
 use Rattle.messages.specs.declared.Message.the-variants.{Permit}
@@ -57,7 +57,7 @@ pub permit-put : (g : Message) (at : ℕ) (b : List ℕ) {v m k : ℕ} {s t : Li
     → s ≡ putAt (0x02 ∷ v ∷ m ∷ []) at b → t ≡ putAt (wordBytes k) (at + 3) s → t ≡ sets b at (messageBytes g)
 unfolding messageBytes wordBytes
 permit-put g at b {v} {m} {k} {s} e room w f =
-    let l : length (messageBytes g) ≡ 11 = length-as e in
+    let l : length (messageBytes g) ≡ permitSize = length-as e in
     let z : s ≡ sets b at (0x02 ∷ v ∷ m ∷ []) = w ∙ put-sets (0x02 ∷ v ∷ m ∷ []) at b (omega arith) in
     let n : length s ≡ length b = ap length z ∙ length-sets b at (0x02 ∷ v ∷ m ∷ []) in
     f ∙ put-room s (at + 3) k (omega arith) ∙ ap (λ (x : List ℕ). sets x (at + 3) (wordBytes k)) z

@@ -6,6 +6,15 @@ ghost use lib.Seq.{sets};
 ghost use Rattle.messages.specs.Message.{messageBytes, ParsedAs};
 ghost use Rattle.messages.specs.Write.{Wrote};
 
+// The bytes of each message, and of the buffer that a step is lent: `bidSize`, `permitSize`, `releaseSize` and `bufferLength` of the specs.
+pub const BID_SIZE: usize = 3;
+
+pub const PERMIT_SIZE: usize = 11;
+
+pub const RELEASE_SIZE: usize = 4;
+
+pub const BUFFER_LENGTH: usize = 32 * RELEASE_SIZE;
+
 // Document 01's terms: a bid of a module to a supervisor, the supervisor's permit with its shown mask, and the module's release with the event
 // that fired, or 255 for no event.
 pub enum Message {
@@ -39,13 +48,13 @@ pub fn read(bytes: &[u8]) -> Parsed
     let kind = words::byte_at(bytes, 0);
     let f1 = words::byte_at(bytes, 1);
     let f2 = words::byte_at(bytes, 2);
-    if (kind == 0x01) & (n == 3) {
+    if (kind == 0x01) & (n == BID_SIZE) {
         return Parsed::Whole(Message::Bid {
             owner: f1,
             supervisor: f2,
         });
     }
-    if (kind == 0x02) & (n == 11) {
+    if (kind == 0x02) & (n == PERMIT_SIZE) {
         let mask = words::word_at(bytes, 3);
         return Parsed::Whole(Message::Permit {
             supervisor: f1,
@@ -53,7 +62,7 @@ pub fn read(bytes: &[u8]) -> Parsed
             mask,
         });
     }
-    if (kind == 0x03) & (n == 4) {
+    if (kind == 0x03) & (n == RELEASE_SIZE) {
         let f3 = words::byte_at(bytes, 3);
         return Parsed::Whole(Message::Release {
             owner: f1,
@@ -69,9 +78,9 @@ pub fn length_of(g: Message) -> usize
     ensures { λ r. ⌜ r ≡ length (messageBytes g) ⌝ }
 {
     match g {
-        Message::Bid { .. } => 3,
-        Message::Permit { .. } => 11,
-        Message::Release { .. } => 4,
+        Message::Bid { .. } => BID_SIZE,
+        Message::Permit { .. } => PERMIT_SIZE,
+        Message::Release { .. } => RELEASE_SIZE,
     }
 }
 

@@ -22,7 +22,7 @@ use Rattle.plan.specs.Plan.{neighbours}
 use Rattle.modules.specs.declared.Turn.{Turn}
 use Rattle.modules.specs.declared.Turned.{Turned}
 use Rattle.modules.specs.Turn.{turnOf}
-use Rattle.messages.specs.Message.{messageBytes, short, written}
+use Rattle.messages.specs.Message.{releaseSize, messageBytes, short, written}
 use Rattle.messages.specs.Write.{Wrote}
 use Rattle.messages.specs.declared.Message.the-variants.{Bid}
 use Rattle.messages.proofs.Writing.{turned-round, start-fits, put-start, put-short}
@@ -62,7 +62,7 @@ module _ (rs : List Record) (m adjacent : ℕ) (x : Module) (b : List ℕ) {t : 
   wrote : after ≡ cond f (written released b) b
   wrote = w .buffer ∙ ap (λ (l : List ℕ). cond f (written l b) b) bytes-are
 
-  count : length released ≡ 4 * ones (neighbours rs m)
+  count : length released ≡ releaseSize * ones (neighbours rs m)
   count = sent-count rs m (neighbours rs m) (turnTaken rs m x .turn) (mask-small _ 32 32 (lit≤ tt))
 
   pub turn-short : {r : ModuleStepped} → f ≡ false → r ≡ (record { answer = StepRefused 15 0; state = x }) → Gave (stepIn rs m x b takesTurn) (r .answer) (r .state) after
@@ -71,13 +71,13 @@ module _ (rs : List Record) (m adjacent : ℕ) (x : Module) (b : List ℕ) {t : 
       simp (room ∙ ap not h)
       (subst (Gave (stepRefused x b 15 0) (r .answer) (r .state)) (sym (wrote ∙ ap (λ (y : Bool). cond y (written released b) b) h)) (refuses x b 15 0 g))
 
-  pub turn-taken : {n : ℕ} → f ≡ true → n ≡ 4 * ones adjacent
+  pub turn-taken : {n : ℕ} → f ≡ true → n ≡ releaseSize * ones adjacent
       → Gave (stepIn rs m x b takesTurn) (Turns (t .turn) n) (record { own = t .own; held = 0; received = 0; bid = x .bid }) after
   unfolding stepIn sentBy answerBy stateBy
   turn-taken h g =
       simp (room ∙ ap not h)
       (record {
-        answer = ap₂ (λ (y : Turn) (k : ℕ). Turns y k) did (g ∙ ap (λ (k : ℕ). 4 * ones k) q ∙ sym count);
+        answer = ap₂ (λ (y : Turn) (k : ℕ). Turns y k) did (g ∙ ap (λ (k : ℕ). releaseSize * ones k) q ∙ sym count);
         state = ap (λ (y : Turned). afterTurn x (y .own)) e;
         buffer = wrote ∙ ap (λ (y : Bool). cond y (written released b) b) h;
       })

@@ -20,7 +20,7 @@ use Rattle.plan.specs.Plan.{inAlphabet}
 use Rattle.modules.specs.declared.Turn.{Turn}
 use Rattle.modules.specs.declared.Turn.the-variants.{Event, Stray, Nothing}
 use Rattle.modules.proofs.Turn.{the-type}
-use Rattle.messages.specs.Message.{noEvent, messageBytes, written, fitsAt, putAt}
+use Rattle.messages.specs.Message.{noEvent, releaseSize, messageBytes, written, fitsAt, putAt}
 use Rattle.messages.specs.Write.{Wrote}
 use Rattle.messages.specs.declared.Message.the-variants.{Release}
 use Rattle.messages.proofs.Writing.{fits}
@@ -85,23 +85,22 @@ module _ (rs : List Record) (m mask : ℕ) (t : Turn) where
       go true = append-nil (one v)
       go false = refl
 
-  -- each is of 4 bytes
-  sent-length : (v : ℕ) → length (sent v) ≡ 4 * onesIn v mask
+  sent-length : (v : ℕ) → length (sent v) ≡ releaseSize * onesIn v mask
   sent-length zero = unfold releasesIn bytesOfMessages onesIn in refl
   sent-length (suc v) =
       ap length (sent-next v) ∙ length-append (sent v) (cond b (one v) []) ∙ ap₂ _+_ (sent-length v) (go b)
-      ∙ (let e : 4 * onesIn v mask + 4 * cond b 1 0 ≡ 4 * (onesIn v mask + cond b 1 0) = omega arith in e)
-      ∙ ap (λ (k : ℕ). 4 * k) (sym (ones-top v mask))
+      ∙ (let e : releaseSize * onesIn v mask + releaseSize * cond b 1 0 ≡ releaseSize * (onesIn v mask + cond b 1 0) = omega arith in e)
+      ∙ ap (λ (k : ℕ). releaseSize * k) (sym (ones-top v mask))
     where
       b : Bool
       b = bit mask v
 
-      go : (c : Bool) → length (cond c (one v) []) ≡ 4 * cond c 1 0
+      go : (c : Bool) → length (cond c (one v) []) ≡ releaseSize * cond c 1 0
       go true = unfold messageBytes in refl
       go false = refl
 
-  pub sent-count : mask < 2 ^ 32 → length (sent 32) ≡ 4 * ones mask
-  sent-count h = sent-length 32 ∙ ap (λ (k : ℕ). 4 * k) (ones-in 32 mask h)
+  pub sent-count : mask < 2 ^ 32 → length (sent 32) ≡ releaseSize * ones mask
+  sent-count h = sent-length 32 ∙ ap (λ (k : ℕ). releaseSize * k) (ones-in 32 mask h)
 
   sent-le : (v k : ℕ) → v ≤ k → length (sent v) ≤ length (sent k)
   sent-le v k h =
@@ -143,21 +142,21 @@ module _ (rs : List Record) (m mask : ℕ) (t : Turn) where
         more : sent (v + 1) ≡ sent v ++ one v
         more = next ∙ ap (λ (c : Bool). sent v ++ cond c (one v) []) h
 
-        four : length (sent v ++ one v) ≡ length (sent v) + 4
-        four = length-append (sent v) (one v) ∙ (unfold messageBytes in refl)
+        longer : length (sent v ++ one v) ≡ length (sent v) + releaseSize
+        longer = length-append (sent v) (one v) ∙ (unfold messageBytes in refl)
 
-        pub room-by : at + 4 ≤ length b₀
-        room-by = omega (arith, four, ap length more, sent-le (v + 1) 32 (omega arith))
+        pub room-by : at + releaseSize ≤ length b₀
+        room-by = omega (arith, longer, ap length more, sent-le (v + 1) 32 (omega arith))
 
-        pub on-by : {after last : List ℕ} {to : ℕ} → after ≡ putAt (one v) at b → last ≡ after → to ≡ at + 4 → Going b₀ last to (v + 1)
+        pub on-by : {after last : List ℕ} {to : ℕ} → after ≡ putAt (one v) at b → last ≡ after → to ≡ at + releaseSize → Going b₀ last to (v + 1)
         on-by w p q =
             record {
               below = omega arith;
               room = g .room;
-              place = q ∙ ap (λ (i : ℕ). i + 4) (g .place) ∙ sym (ap length more ∙ four);
+              place = q ∙ ap (λ (i : ℕ). i + releaseSize) (g .place) ∙ sym (ap length more ∙ longer);
               bytes =
                   p ∙ w ∙ ap₂ (λ (i : ℕ) (l : List ℕ). putAt (one v) i l) (g .place) (g .bytes)
-                  ∙ written-more (sent v) (one v) b₀ (omega (arith, four, length-append (sent v) (one v), room-by)) ∙ ap (λ (l : List ℕ). written l b₀) (sym more);
+                  ∙ written-more (sent v) (one v) b₀ (omega (arith, longer, length-append (sent v) (one v), room-by)) ∙ ap (λ (l : List ℕ). written l b₀) (sym more);
             }
 
       pub off-by : {last : List ℕ} {to : ℕ} → a ≡ false → last ≡ b → to ≡ at → Going b₀ last to (v + 1)
@@ -170,8 +169,8 @@ module _ (rs : List Record) (m mask : ℕ) (t : Turn) where
             bytes = p ∙ g .bytes ∙ ap (λ (l : List ℕ). written l b₀) (sym n);
           }
 
--- the room for all releases: n is 4 bytes for each
-module _ (rs : List Record) (m mask : ℕ) (t : Turn) (b : List ℕ) {n : ℕ} (s : mask < 2 ^ 32) (f : n ≡ 4 * ones mask) where
+-- the room for all releases: n is their bytes
+module _ (rs : List Record) (m mask : ℕ) (t : Turn) (b : List ℕ) {n : ℕ} (s : mask < 2 ^ 32) (f : n ≡ releaseSize * ones mask) where
   long : length (sent rs m mask t 32) ≡ n
   long = sent-count rs m mask t s ∙ sym f
 

@@ -3,7 +3,7 @@ ghost use mathlib.Core.Path.{_≡_};
 ghost use Prim.Native.Nat.{_*_, _≤_};
 ghost use lib.ListN.{length};
 ghost use Rattle.places.specs.Places.{recordsBy};
-ghost use Rattle.messages.specs.Message.{messageBytes, written, putAt};
+ghost use Rattle.messages.specs.Message.{releaseSize, messageBytes, written, putAt};
 ghost use Rattle.messages.specs.declared.Message.the-variants.{Release};
 ghost use Rattle.plan.specs.Plan.{neighbourCount};
 ghost use Rattle.permits.specs.Module.{eventFor};
@@ -54,17 +54,17 @@ fn release_all(image: &[u8], places: Places, m: u8, mask: u32, t: Turn, buffer: 
         }
         if bits::has(mask_bits, v) {
             release_to(image, places, m, v, t, &mut *buffer, at);
-            at += 4;
+            at += messages::RELEASE_SIZE;
         }
         v += 1;
     }
 }
 
-// The bytes of the releases to the neighbours of a mask, 4 each.
+// The bytes of the releases to the neighbours of a mask.
 pub fn length_of(mask: u32) -> usize
-    ensures { λ r. ⌜ r ≡ 4 * neighbourCount mask ⌝ }
+    ensures { λ r. ⌜ r ≡ releaseSize * neighbourCount mask ⌝ }
 {
-    4 * u32::count_ones(mask) as usize
+    messages::RELEASE_SIZE * u32::count_ones(mask) as usize
 }
 
 // The releases of a module's turn to the supervisors of a mask into the buffer, if there is room for them.

@@ -16,7 +16,7 @@ use Rattle.water.specs.declared.Flow.the-variants.{Litres, NoSensor}
 use Rattle.modules.specs.declared.Turn.{Turn}
 use Rattle.modules.specs.declared.Called.{Called}
 use Rattle.modules.specs.declared.Called.the-variants.{Done, Refused as CallRefused}
-use Rattle.messages.specs.Message.{messageBytes, putAt}
+use Rattle.messages.specs.Message.{permitSize, bufferLength, messageBytes, putAt}
 use Rattle.messages.specs.declared.Message.{Message}
 use Rattle.messages.specs.declared.Message.the-variants.{Bid, Permit, Release}
 use Rattle.messages.proofs.Writing.{put-start}
@@ -46,7 +46,7 @@ use Rattle.parties.specs.declared.Parties.{Parties}
 use Rattle.parties.specs.Parties.{moduleAt, supervisorAt, withModule, withSupervisor, withWire, withDevice}
 use Rattle.simulation.specs.declared.Answer.the-variants.{Module as ModuleGot, Supervisor as SupervisorGot, Delivery, NoMessage, Response, Tick, Misshapen}
 use Rattle.simulation.specs.declared.Played.{Played}
-use Rattle.simulation.specs.Play.{read, inFours, lentFor, afterStep, moduleStepped, afterServing, supervisorStepped, wireAfter, toModule, toSupervisor, deliveredBy, delivered, responded, ticked, played}
+use Rattle.simulation.specs.Play.{read, releasesOf, lentFor, afterStep, moduleStepped, afterServing, supervisorStepped, wireAfter, toModule, toSupervisor, deliveredBy, delivered, responded, ticked, played}
 use Rattle.simulation.specs.Numbers.{answerNumber, deliveryNumber, callNumber, PlayedAs}
 use Rattle.simulation.proofs.Sending.{part}
 
@@ -58,12 +58,12 @@ part-count b n {k} e = sym (length-take-le k b (omega arith))
 -- ---- the state after a step
 
 module _ (image : List ℕ) (p : Parties) (m : ℕ) (b : List ℕ) {a : Stepped} where
-  pub step-turned : {t : Turn} {n k : ℕ} {w : Wire} {d : DeviceTurned} {q r : Parties} → a ≡ Turned t n → k ≡ min n (length b) → w ≡ withMessages (p .wire) (inFours (take k b))
+  pub step-turned : {t : Turn} {n k : ℕ} {w : Wire} {d : DeviceTurned} {q r : Parties} → a ≡ Turned t n → k ≡ min n (length b) → w ≡ withMessages (p .wire) (releasesOf (take k b))
       → d ≡ turnCall image (p .device) m → q ≡ withWire p w → r ≡ withDevice q (d .device) → r ≡ afterStep image p m a b
   unfolding afterStep
   step-turned {n = n} e f g h i j =
       j
-      ∙ ap₂ (λ (x : Parties) (y : DeviceTurned). withDevice x (y .device)) (i ∙ ap (withWire p) (g ∙ ap (λ (l : List ℕ). withMessages (p .wire) (inFours l)) (part b n f))) h
+      ∙ ap₂ (λ (x : Parties) (y : DeviceTurned). withDevice x (y .device)) (i ∙ ap (withWire p) (g ∙ ap (λ (l : List ℕ). withMessages (p .wire) (releasesOf l)) (part b n f))) h
       ∙ ap (λ (x : Stepped). afterStep image p m x b) (sym e)
 
   pub step-bids : {v n k : ℕ} {w : Wire} {r : Parties} → a ≡ Bids v n → k ≡ min n (length b) → w ≡ withMessages (p .wire) (read (take k b)) → r ≡ withWire p w → r ≡ afterStep image p m a b
@@ -123,13 +123,13 @@ supervisor-stepped image p v b {s = s} {after} e g h i =
 
 -- the buffer lent
 module _ (w : Wire) (n : ℕ) {t : Bool} (e : t ≡ leb (w .count + n) 96) where
-  pub lent : t ≡ true → replicate 128 0 ≡ lentFor w n
+  pub lent : t ≡ true → replicate bufferLength 0 ≡ lentFor w n
   unfolding lentFor
-  lent q = ap (λ (x : Bool). cond x (replicate 128 0) []) (sym q ∙ e)
+  lent q = ap (λ (x : Bool). cond x (replicate bufferLength 0) []) (sym q ∙ e)
 
   pub unlent : t ≡ false → [] ≡ lentFor w n
   unfolding lentFor
-  unlent q = ap (λ (x : Bool). cond x (replicate 128 0) []) (sym q ∙ e)
+  unlent q = ap (λ (x : Bool). cond x (replicate bufferLength 0) []) (sym q ∙ e)
 
 -- ---- deliveries
 
@@ -175,16 +175,16 @@ module _ (image : List ℕ) (p : Parties) (k : ℕ) {g : Message} {r : Played} w
   unfolding deliveredBy
   party-release e h = h ∙ ap (λ (y : Message). deliveredBy image p k (It y)) (sym e)
 
--- a message's bytes, written from the start of eleven
-pub message-length : (g : Message) → length (messageBytes g) ≤ 11
+-- a message's bytes, written from the start of the longest
+pub message-length : (g : Message) → length (messageBytes g) ≤ permitSize
 unfolding messageBytes
 message-length (Bid m v) = omega arith
 message-length (Permit v m k) = omega (arith, length-word k)
 message-length (Release m v e) = omega arith
 
-module _ (g : Message) {n : ℕ} {b : List ℕ} (e : n ≡ length (messageBytes g)) (f : b ≡ putAt (messageBytes g) 0 (replicate 11 0)) where
-  written-is : b ≡ messageBytes g ++ drop (length (messageBytes g)) (replicate 11 0)
-  written-is = f ∙ put-start (messageBytes g) (replicate 11 0) (le-ltb _ _ (message-length g))
+module _ (g : Message) {n : ℕ} {b : List ℕ} (e : n ≡ length (messageBytes g)) (f : b ≡ putAt (messageBytes g) 0 (replicate permitSize 0)) where
+  written-is : b ≡ messageBytes g ++ drop (length (messageBytes g)) (replicate permitSize 0)
+  written-is = f ∙ put-start (messageBytes g) (replicate permitSize 0) (le-ltb _ _ (message-length g))
 
   pub bytes-within : n ≤ length b
   bytes-within = rw (written-is, length-append) (omega arith)

@@ -1,17 +1,17 @@
 -- The simulation of document 01's "What demand 3 compares": "Each call gets the state that the last call on its module or supervisor left, at
 -- first the starting state"; "The one-device controller, from its start, is fed each response and tick as called, and a turn for each module
 -- step that by the rules above takes one; nothing else."
-use Prim.Native.Nat.{ℕ, _+_}
+use Prim.Native.Nat.{ℕ, _+_, _/_}
 use mathlib.Core.List.{List, [], _∷_, _++_}
 use mathlib.Core.Bool.{cond}
-use lib.ListN.{take, replicate}
+use lib.ListN.{length, take, replicate}
 use lib.Dec.{leb}
 use Rattle.litres.specs.Eighths.{eighths}
 use Rattle.water.specs.declared.Flow.{Flow}
 use Rattle.water.specs.declared.Flow.the-variants.{Litres, NoSensor}
 use Rattle.modules.specs.declared.Called.{Called}
 use Rattle.modules.specs.declared.Called.the-variants.{Done, Refused as CallRefused}
-use Rattle.messages.specs.Message.{parse, messageBytes}
+use Rattle.messages.specs.Message.{releaseSize, bufferLength, parse, messageBytes, pieces}
 use Rattle.messages.specs.declared.Message.{Message}
 use Rattle.messages.specs.declared.Message.the-variants.{Bid, Permit, Release}
 use Rattle.messages.specs.declared.Parsed.{Parsed}
@@ -45,20 +45,20 @@ readBy NoMessageBytes = []
 abbrev pub read : List ℕ → List Sent
 read bytes = readBy (parse bytes)
 
--- "each release is sent as a message by itself": the messages in pieces of four bytes
-unfoldable pub inFours : List ℕ → List Sent
-inFours [] = []
-inFours (a ∷ []) = []
-inFours (a ∷ b ∷ []) = []
-inFours (a ∷ b ∷ c ∷ []) = []
-inFours (a ∷ b ∷ c ∷ d ∷ bytes) = read (a ∷ b ∷ c ∷ d ∷ []) ++ inFours bytes
+unfoldable pub readAll : List (List ℕ) → List Sent
+readAll [] = []
+readAll (g ∷ gs) = read g ++ readAll gs
+
+-- "each release is sent as a message by itself"
+unfoldable pub releasesOf : List ℕ → List Sent
+releasesOf bytes = readAll (pieces releaseSize (length bytes / releaseSize) bytes)
 
 -- "128-byte output buffers"; where n messages more have no places the step is lent no buffer, and refuses by itself what it cannot write
 unfoldable pub lentFor : Wire → ℕ → List ℕ
-lentFor w n = cond (leb (w .count + n) 96) (replicate 128 0) []
+lentFor w n = cond (leb (w .count + n) 96) (replicate bufferLength 0) []
 
 unfoldable pub afterStep : List ℕ → Parties → ℕ → Stepped → List ℕ → Parties
-afterStep image p m (Turned t n) b = withDevice (withWire p (withMessages (p .wire) (inFours (take n b)))) (turnCall image (p .device) m .device)
+afterStep image p m (Turned t n) b = withDevice (withWire p (withMessages (p .wire) (releasesOf (take n b)))) (turnCall image (p .device) m .device)
 afterStep image p m (Bids v n) b = withWire p (withMessages (p .wire) (read (take n b)))
 afterStep image p m Waits b = p
 afterStep image p m (StepRefused n o) b = p

@@ -4,7 +4,7 @@ ghost use Prim.Native.Nat.{min};
 ghost use Rattle.litres.specs.Eighths.{eighths};
 ghost use Rattle.messages.specs.Message.{messageBytes};
 ghost use Rattle.wire.specs.Wire.{withMessages};
-ghost use Rattle.simulation.specs.Play.{read, inFours, afterStep, afterServing, moduleStepped, supervisorStepped, lentFor, wireAfter, toModule, toSupervisor, deliveredBy, delivered, responded, ticked};
+ghost use Rattle.simulation.specs.Play.{read, releasesOf, afterStep, afterServing, moduleStepped, supervisorStepped, lentFor, wireAfter, toModule, toSupervisor, deliveredBy, delivered, responded, ticked};
 ghost use Rattle.simulation.specs.Numbers.{PlayedAs};
 use acts::Act;
 use messages::Message;
@@ -46,15 +46,15 @@ fn send(w: Wire, bytes: &[u8]) -> Wire
 
 // Each release is a message by itself.
 fn send_releases(w: Wire, s: &[u8]) -> Wire
-    ensures { λ r. ⌜ r ≡ withMessages w (inFours (now (s .entry))) ⌝ }
+    ensures { λ r. ⌜ r ≡ withMessages w (releasesOf (now (s .entry))) ⌝ }
 {
     let mut next = w;
     let mut at: usize = 0;
     while at < s.len() {
-        if s.len() - at < 4 {
+        if s.len() - at < messages::RELEASE_SIZE {
             return next;
         }
-        let end = at + 4;
+        let end = at + messages::RELEASE_SIZE;
         next = send(next, &s[at..end]);
         at = end;
     }
@@ -111,7 +111,7 @@ fn step_module(image: &[u8], p: Parties, m: u8, buffer: &mut [u8]) -> Played
 fn module_step(image: &[u8], p: Parties, m: u8) -> Played
     ensures { λ r. ⌜ r ≡ moduleStepped (now (image .entry)) p m (lentFor (p .wire) 32) ⌝ }
 {
-    let mut buffer = [0u8; 128];
+    let mut buffer = [0u8; messages::BUFFER_LENGTH];
     let w = p.wire;
     if wire::has_places(w, 32) {
         step_module(image, p, m, &mut buffer)
@@ -153,7 +153,7 @@ fn step_supervisor(image: &[u8], p: Parties, v: u8, buffer: &mut [u8]) -> Played
 fn supervisor_step(image: &[u8], p: Parties, v: u8) -> Played
     ensures { λ r. ⌜ r ≡ supervisorStepped (now (image .entry)) p v (lentFor (p .wire) 1) ⌝ }
 {
-    let mut buffer = [0u8; 128];
+    let mut buffer = [0u8; messages::BUFFER_LENGTH];
     let w = p.wire;
     if wire::has_places(w, 1) {
         step_supervisor(image, p, v, &mut buffer)
@@ -238,7 +238,8 @@ fn delivery(image: &[u8], p: Parties, k: usize) -> Played
             play: p,
         };
     };
-    let mut bytes = [0u8; 11];
+    // A permit is the longest message.
+    let mut bytes = [0u8; messages::PERMIT_SIZE];
     messages::write(g, &mut bytes, 0);
     let n = messages::length_of(g);
     to_party(image, p, k, g, &bytes[..n])

@@ -287,7 +287,7 @@ module _ (image : List ℕ) (plan : IsPlan image) (T : TurnLaws (recordsOf image
           ≡ C.deviceRun image (p .device) (cond b (C.choiceFed m (M.choice rs m (P.moduleAt p m))) [] ++ [])
       go true q =
           let l : m < modulesOf rs = ltb-true m (modulesOf rs) q in
-          ap (λ k. turnedBy image (p .device) m (k .answer)) (step-is rs m (P.moduleAt p m) (verdictOf image) buffer plan l (f l) (length-replicate {A = ℕ} 128 0))
+          ap (λ k. turnedBy image (p .device) m (k .answer)) (step-is rs m (P.moduleAt p m) (verdictOf image) buffer plan l (f l) (length-replicate {A = ℕ} A.bufferLength 0))
           ∙ choice-fed m (M.choice rs m (P.moduleAt p m))
       go false q =
           ap (λ k. turnedBy image (p .device) m (k .answer)) (step-absent rs m (P.moduleAt p m) (verdictOf image) buffer plan (ltb-false m (modulesOf rs) q)) ∙ (unfold turnedBy C.deviceRun in refl)

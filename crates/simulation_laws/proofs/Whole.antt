@@ -60,7 +60,7 @@ lent-append [] r h k = k
 lent-append (a ∷ l) r h k = (h .0, lent-append l r (h .1) k)
 
 lent-buffer : length buffer ≡ A.bufferLength
-lent-buffer = length-replicate {A = ℕ} 128 0
+lent-buffer = length-replicate {A = ℕ} A.bufferLength 0
 
 call-lent : (w : List A.Sent) (a : Line) → A.AllLent (callOf w a)
 unfolding callOf

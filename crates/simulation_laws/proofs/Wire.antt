@@ -1,7 +1,7 @@
 -- The messages under way: what a step wrote, and what a delivery leaves.
-use Prim.Native.Nat.{ℕ, zero, suc, _+_, _^_, _≤_, _<_}
+use Prim.Native.Nat.{ℕ, zero, suc, _+_, _/_, _^_, _≤_, _<_}
 use native.Mathlib.Omega.{arith}
-use mathlib.Core.Path.{_≡_, refl, sym, ap, _∙_}
+use mathlib.Core.Path.{_≡_, refl, sym, ap, ap₂, _∙_}
 use mathlib.Core.Bool.{Bool, true, false, cond}
 use mathlib.Core.List.{List, [], _∷_, _++_, map, append-assoc, append-nil}
 use mathlib.Core.Option.{Option, none, some}
@@ -15,7 +15,7 @@ use Rattle.rules.specs.declared.Verdict.{Verdict}
 use Rattle.rules.specs.declared.Verdict.the-variants.{Accepted, Refused as PlanRefused}
 use Rattle.rules.specs.LookUp.{modulesOf, supervisorsOf}
 use Rattle.modules.specs.declared.Turn.{Turn}
-use Rattle.messages.specs.Message.{messageBytes, parse, short, written}
+use Rattle.messages.specs.Message.{releaseSize, messageBytes, parse, pieces, short, written}
 use Rattle.messages.specs.declared.Message.{Message}
 use Rattle.messages.specs.declared.Message.the-variants.{Permit, Release}
 use Rattle.permits.specs.declared.Module.{Module}
@@ -27,18 +27,18 @@ use Rattle.permits.specs.declared.Served.the-variants.{Sends, Waits as ServedWa
 use Rattle.permits.specs.Module as M
 use Rattle.permits.specs.Supervisor as S
 use Rattle.permits.specs.Step.{bytesOfMessages}
-use Rattle.permits.proofs.Stepping.{bytes-append, bytes-one}
+use Rattle.permits.proofs.Stepping.{bytes-one}
 use Rattle.wire.specs.declared.Sent.{Sent}
 use Rattle.wire.specs.declared.Wire.{Wire}
 use Rattle.wire.specs.declared.Place.{Place}
 use Rattle.wire.specs.declared.Place.the-variants.{It, Missing}
 use Rattle.wire.specs.Wire as W
 use Rattle.wire.proofs.Lists.{all-are}
-use Rattle.simulation.specs.Play.{readBy, read, inFours}
+use Rattle.simulation.specs.Play.{readBy, read, readAll, releasesOf}
 use Rattle.protocol.specs.Generic.{Picked, pick, behind}
 use Rattle.agreement.specs.System as A
-use Rattle.agreement.proofs.Bytes.{parse-bytes}
-use Rattle.agreement.proofs.Steps.{releases-most, sent-is, served-bytes}
+use Rattle.agreement.proofs.Bytes.{pieces-of, length-releases, parse-bytes}
+use Rattle.agreement.proofs.Steps.{releases-as, releases-most, sent-is, served-bytes}
 use Rattle.agreement.proofs.Simulation.{map-append, broughtWith, behind-brought}
 use Rattle.simulation_laws.specs.Calls.{bytesOf, indexSent}
 
@@ -68,36 +68,42 @@ wire-grows w l out s h e =
 
 -- ---- what a module step wrote
 
--- releases are read back, four bytes each
+read-append : (p q : List (List ℕ)) → readAll (p ++ q) ≡ readAll p ++ readAll q
+unfolding readAll
+read-append [] q = refl
+read-append (g ∷ p) q = ap (λ (k : List Sent). read g ++ k) (read-append p q) ∙ sym (append-assoc (read g) (readAll p) (readAll q))
+
+-- releases are read back, each by itself
 module _ (rs : List Record) (m : ℕ) (t : Turn) where
   abbrev ReadBack : List Message → Type 0
-  ReadBack gs = (rest : List ℕ) → inFours (bytesOfMessages gs ++ rest) ≡ map W.sent gs ++ inFours rest
+  ReadBack gs = readAll (map messageBytes gs) ≡ map W.sent gs
 
   both-read : (l r : List Message) → ReadBack l → ReadBack r → ReadBack (l ++ r)
-  both-read l r e f rest =
-      ap inFours (ap (λ (k : List ℕ). k ++ rest) (bytes-append l r) ∙ append-assoc (bytesOfMessages l) (bytesOfMessages r) rest)
-      ∙ e (bytesOfMessages r ++ rest)
-      ∙ ap (λ (k : List Sent). map W.sent l ++ k) (f rest)
-      ∙ sym (append-assoc (map W.sent l) (map W.sent r) (inFours rest))
-      ∙ ap (λ (k : List Sent). k ++ inFours rest) (sym (map-append W.sent l r))
+  both-read l r e f =
+      ap readAll (map-append messageBytes l r) ∙ read-append (map messageBytes l) (map messageBytes r) ∙ ap₂ _++_ e f ∙ sym (map-append W.sent l r)
 
   one-read : (v e : ℕ) (b : Bool) → ReadBack (cond b (Release m v e ∷ []) [])
-  unfolding bytesOfMessages messageBytes inFours readBy parse
-  one-read v e true rest = refl
-  one-read v e false rest = refl
+  unfolding messageBytes readAll readBy parse
+  one-read v e true = refl
+  one-read v e false = refl
 
   releases-read : (n : ℕ) → ReadBack (M.releases rs m t n)
   unfolding M.releasesIn
-  releases-read zero = λ rest. unfold bytesOfMessages in refl
+  releases-read zero = unfold readAll in refl
   releases-read (suc n) = both-read (M.releases rs m t n) _ (releases-read n) (one-read n (M.eventFor rs n t) (bit (neighbours rs m) n))
 
-  pub releases-put : (n : ℕ) → inFours (bytesOfMessages (M.releases rs m t n)) ≡ map W.sent (M.releases rs m t n)
+  pub releases-put : (n : ℕ) → releasesOf (bytesOfMessages (M.releases rs m t n)) ≡ map W.sent (M.releases rs m t n)
+  unfolding releasesOf
   releases-put n =
-      ap inFours (sym (append-nil (bytesOfMessages (M.releases rs m t n)))) ∙ releases-read n [] ∙ (unfold inFours in (append-nil (map W.sent (M.releases rs m t n))))
+      let gs : List Message = M.releases rs m t n in
+      let each = releases-as rs m t n in
+      let k : length (bytesOfMessages gs) / releaseSize ≡ length gs = omega (arith, length-releases gs each) in
+      ap₂ (λ (i : ℕ) (l : List ℕ). readAll (pieces releaseSize i l)) k (sym (append-nil (bytesOfMessages gs)))
+      ∙ ap readAll (pieces-of gs [] each) ∙ releases-read n
 
 -- what the simulation puts under way
 unfoldable pub putBy : Stepped → List ℕ → List Sent
-putBy (Turned t n) b = inFours (take n b)
+putBy (Turned t n) b = releasesOf (take n b)
 putBy (Bids v n) b = read (take n b)
 putBy Waits b = []
 putBy (Refused n o) b = []
@@ -111,7 +117,7 @@ module _ (rs : List Record) (m : ℕ) (x : Module) (b : List ℕ) where
   choice-put c = record { messages = M.sentBy rs m x c; put = put c; bytes = sent-is rs m x c b; few = few c }
     where
       put : (c : M.Choice) → putBy (M.answerBy rs m x c) (written (M.stepBytes rs m x c) b) ≡ map W.sent (M.sentBy rs m x c)
-      put M.takesTurn = unfold M.answerBy M.sentBy putBy in (ap inFours (at-start (M.stepBytes rs m x M.takesTurn) b) ∙ releases-put rs m (M.turnTaken rs m x .turn) 32)
+      put M.takesTurn = unfold M.answerBy M.sentBy putBy in (ap releasesOf (at-start (M.stepBytes rs m x M.takesTurn) b) ∙ releases-put rs m (M.turnTaken rs m x .turn) 32)
       put M.waits = unfold M.answerBy M.sentBy putBy in refl
       put (M.bidsTo v) = unfold M.answerBy M.sentBy putBy in (ap read (at-start (M.stepBytes rs m x (M.bidsTo v)) b) ∙ (unfold bytesOfMessages messageBytes readBy parse in refl))
 

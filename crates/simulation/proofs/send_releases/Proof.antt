@@ -3,13 +3,13 @@ use Prim.Native.Nat.{_-_}
 use mathlib.Core.Path.{_≡_, refl}
 use lib.ListN.{length, drop}
 use Rattle.wire.specs.Wire.{withMessages}
-use Rattle.simulation.specs.Play.{inFours}
-use Rattle.simulation.proofs.Sending.{fours-again, fours-end, fours-done}
+use Rattle.simulation.specs.Play.{releasesOf}
+use Rattle.simulation.proofs.Sending.{releases-again, releases-end, releases-done}
 use Rattle.simulation.proofs.send_releases.Statement.{statement}
 use Rattle.simulation.proofs.send_releases.Tie as tie
 
 abbrev Inv-loop : tie.InvT-loop
-Inv-loop s next₀ at₀ next at = withMessages next (inFours (drop at s)) ≡ withMessages next₀ (inFours s)
+Inv-loop s next₀ at₀ next at = withMessages next (releasesOf (drop at s)) ≡ withMessages next₀ (releasesOf s)
 
 abbrev μ-loop : tie.MeasureT-loop
 μ-loop s next₀ at₀ next at = length s - at
@@ -21,7 +21,7 @@ sub-if1 : tie.Need-sub-if1 Inv-loop μ-loop
 sub-if1 c = search needs
 
 returns : tie.Need-returns Inv-loop μ-loop
-returns c = search fours-end
+returns c = search releases-end
 
 add-end : tie.Need-add-end Inv-loop μ-loop
 add-end c = search needs
@@ -42,10 +42,10 @@ loop-less : tie.Need-loop-less Inv-loop μ-loop
 loop-less c = search needs
 
 loop-again : tie.Need-loop-again Inv-loop μ-loop
-loop-again c = search fours-again
+loop-again c = search releases-again
 
 returns-2 : tie.Need-returns-2 Inv-loop μ-loop
-returns-2 c = search fours-done
+returns-2 c = search releases-done
 
 pub send-releases-spec : {M : Type 1} → statement M
 send-releases-spec =
