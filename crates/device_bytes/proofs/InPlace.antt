@@ -24,11 +24,11 @@ use Rattle.modules.specs.Fits.{ownFits, ownEmpty}
 use Rattle.words.specs.Lists.{listFrom}
 use Rattle.device_states.specs.States.{ownAt, ownSlotFits, stateSlotFits, deviceFits, withOwn}
 use Rattle.words.proofs.Lists.{from-length}
-use Rattle.own_bytes.specs.Own.{ownBytes, ownOf}
+use Rattle.own_bytes.specs.Own.{ownSize, ownBytes, ownOf}
 use Rattle.own_bytes.proofs.Writing.{length-own}
 use Rattle.fields.specs.Fields.{bytesFrom}
 use Rattle.fields.proofs.Back.{and-left}
-use Rattle.device_bytes.specs.Device.{ownsBytes, deviceBytes, devicePut, slotOf, stateByte, deviceAt, isSlot, isDevice, deviceOf, slotFits, statesIn, ownIn, slotPut}
+use Rattle.device_bytes.specs.Device.{slotsSize, deviceSize, ownsBytes, deviceBytes, devicePut, slotOf, stateByte, deviceAt, isSlot, isDevice, deviceOf, slotFits, statesIn, ownIn, slotPut}
 use Rattle.device_bytes.proofs.Laws.{slot-at}
 use Rattle.device_bytes.proofs.Back.{device-written, device-unfit}
 
@@ -60,10 +60,10 @@ sets-whole l b e =
 -- ---- one slot
 
 module _ (b : List ℕ) (own : Own) (q : length (own .queue) ≡ 8) where
-  slot-size : (i : ℕ) → length (ownBytes (slotOf b i)) ≡ 35
+  slot-size : (i : ℕ) → length (ownBytes (slotOf b i)) ≡ ownSize
   slot-size i = length-own (slotOf b i) (unfold slotOf ownOf bytesFrom in refl)
 
-  owns-set : (n i m : ℕ) → m < n → ownsBytes (set (listFrom (slotOf b) i n) m own) ≡ sets (ownsBytes (listFrom (slotOf b) i n)) (m * 35) (ownBytes own)
+  owns-set : (n i m : ℕ) → m < n → ownsBytes (set (listFrom (slotOf b) i n) m own) ≡ sets (ownsBytes (listFrom (slotOf b) i n)) (m * ownSize) (ownBytes own)
   unfolding ownsBytes listFrom
   owns-set zero i m h = absurd (omega arith)
   owns-set (suc n) i zero h =
@@ -76,20 +76,20 @@ module _ (b : List ℕ) (own : Own) (q : length (own .queue) ≡ 8) where
       let x : List ℕ = ownBytes (slotOf b i) in
       let rest : List ℕ = ownsBytes (listFrom (slotOf b) (suc i) n) in
       ap (λ (l : List ℕ). x ++ l) (owns-set n (suc i) m (omega arith))
-      ∙ sym (sets-behind x rest (m * 35) (suc m * 35) (ownBytes own) (omega (arith, slot-size i)))
+      ∙ sym (sets-behind x rest (m * ownSize) (suc m * ownSize) (ownBytes own) (omega (arith, slot-size i)))
 
 -- ---- the bytes of the device after a call
 
 module _ (b : List ℕ) (g : Bytes b) (d : isDevice b ≡ true) where
-  size : length b ≡ 592
+  size : length b ≡ deviceSize
   unfolding isDevice
-  size = eqb-true (length b) 592 (and-left (eqb (length b) 592) (allBelow (isSlot b) 16) d)
+  size = eqb-true (length b) deviceSize (and-left (eqb (length b) deviceSize) (allBelow (isSlot b) 16) d)
 
   before : ownsBytes (deviceAt b .modules) ++ deviceAt b .supervisors ≡ b
   unfolding deviceBytes
   before = device-written b g d
 
-  owns-size : length (ownsBytes (deviceAt b .modules)) ≡ 560
+  owns-size : length (ownsBytes (deviceAt b .modules)) ≡ slotsSize
   owns-size =
       let A : List ℕ = ownsBytes (deviceAt b .modules) in
       omega (arith, size, ap length before, length-append A (deviceAt b .supervisors), from-length (stateByte b) 0 32)
@@ -101,7 +101,7 @@ module _ (b : List ℕ) (g : Bytes b) (d : isDevice b ≡ true) where
     -- the slots with the new one, and the states as they were
     record Put : Type 0 where
       bytes : after ++ deviceAt b .supervisors ≡ slotPut own m b
-      sized : length after ≡ 560
+      sized : length after ≡ slotsSize
 
     slot : Put
     unfolding slotPut
@@ -113,15 +113,15 @@ module _ (b : List ℕ) (g : Bytes b) (d : isDevice b ≡ true) where
         go : (t : Bool) → ltb m 16 ≡ t → Put
         go true e =
             let h : m < 16 = ltb-true m 16 e in
-            let n : length (ownBytes own) ≡ 35 = length-own own q in
-            let is : after ≡ sets A (m * 35) (ownBytes own) = owns-set b own q 16 0 m h in
-            let room : m * 35 + length (ownBytes own) ≤ length A = omega (arith, owns-size) in
-            let fit : m * 35 + length (ownBytes own) ≤ length b = omega (arith, size) in
+            let n : length (ownBytes own) ≡ ownSize = length-own own q in
+            let is : after ≡ sets A (m * ownSize) (ownBytes own) = owns-set b own q 16 0 m h in
+            let room : m * ownSize + length (ownBytes own) ≤ length A = omega (arith, owns-size) in
+            let fit : m * ownSize + length (ownBytes own) ≤ length b = omega (arith, size) in
             record {
               bytes =
-                  ap (λ (l : List ℕ). l ++ deviceAt b .supervisors) is ∙ sym (sets-within A (deviceAt b .supervisors) (m * 35) (ownBytes own) room)
-                  ∙ ap (λ (l : List ℕ). sets l (m * 35) (ownBytes own)) before ∙ sym (put-sets (ownBytes own) (m * 35) b fit) ∙ simp e;
-              sized = ap length is ∙ length-sets A (m * 35) (ownBytes own) ∙ owns-size;
+                  ap (λ (l : List ℕ). l ++ deviceAt b .supervisors) is ∙ sym (sets-within A (deviceAt b .supervisors) (m * ownSize) (ownBytes own) room)
+                  ∙ ap (λ (l : List ℕ). sets l (m * ownSize) (ownBytes own)) before ∙ sym (put-sets (ownBytes own) (m * ownSize) b fit) ∙ simp e;
+              sized = ap length is ∙ length-sets A (m * ownSize) (ownBytes own) ∙ owns-size;
             }
         go false e =
             let h : 16 ≤ m = ltb-false m 16 e in
@@ -131,24 +131,24 @@ module _ (b : List ℕ) (g : Bytes b) (d : isDevice b ≡ true) where
               sized = ap (λ (l : List Own). length (ownsBytes l)) is ∙ owns-size;
             }
 
-    whole : (x : List ℕ) → length x ≡ 592 → x ++ drop (length x) b ≡ x
+    whole : (x : List ℕ) → length x ≡ deviceSize → x ++ drop (length x) b ≡ x
     whole x e = ap (λ (k : ℕ). x ++ drop k b) (e ∙ sym size) ∙ ap (λ (r : List ℕ). x ++ r) (drop-length b) ∙ append-nil x
 
     module _ (states : List ℕ) (n : length states ≡ 32) where
       device-put : devicePut (record { modules = set (deviceAt b .modules) m own; supervisors = states }) b ≡ after ++ states
       unfolding devicePut deviceBytes
       device-put =
-          let l : 592 ≤ length b = omega (arith, size) in
-          simp (le-leb 592 (length b) l) (whole (after ++ states) (omega (arith, length-append after states, slot .sized)))
+          let l : deviceSize ≤ length b = omega (arith, size) in
+          simp (le-leb deviceSize (length b) l) (whole (after ++ states) (omega (arith, length-append after states, slot .sized)))
 
-      pub device-moved : devicePut (record { modules = set (deviceAt b .modules) m own; supervisors = states }) b ≡ putAt states 560 (slotPut own m b)
+      pub device-moved : devicePut (record { modules = set (deviceAt b .modules) m own; supervisors = states }) b ≡ putAt states slotsSize (slotPut own m b)
       device-moved =
           let S : List ℕ = deviceAt b .supervisors in
           let k : length S ≡ 32 = from-length (stateByte b) 0 32 in
-          let at : 560 ≡ length after + 0 = omega (arith, slot .sized) in
-          let room : 560 + length states ≤ length (after ++ S) = omega (arith, slot .sized, length-append after S) in
-          device-put ∙ ap (λ (l : List ℕ). after ++ l) (sym (sets-whole S states (n ∙ sym k))) ∙ sym (sets-behind after S 0 560 states at)
-          ∙ sym (put-sets states 560 (after ++ S) room) ∙ ap (putAt states 560) (slot .bytes)
+          let at : slotsSize ≡ length after + 0 = omega (arith, slot .sized) in
+          let room : slotsSize + length states ≤ length (after ++ S) = omega (arith, slot .sized, length-append after S) in
+          device-put ∙ ap (λ (l : List ℕ). after ++ l) (sym (sets-whole S states (n ∙ sym k))) ∙ sym (sets-behind after S 0 slotsSize states at)
+          ∙ sym (put-sets states slotsSize (after ++ S) room) ∙ ap (putAt states slotsSize) (slot .bytes)
 
     pub device-kept : devicePut (withOwn (deviceAt b) m own) b ≡ slotPut own m b
     device-kept = device-put (deviceAt b .supervisors) (from-length (stateByte b) 0 32) ∙ slot .bytes
@@ -160,10 +160,10 @@ module _ (rs : List Record) (b : List ℕ) where
   unfolding deviceOf
   stands-not e = sym (simp e (device-unfit rs))
 
-  pub fits-other : (length b ≡ 592 → ⊥) → false ≡ deviceFits rs (deviceOf b)
-  fits-other h = stands-not (unfold isDevice in ap (λ (t : Bool). t && allBelow (isSlot b) 16) (ne-eqb (length b) 592 h))
+  pub fits-other : (length b ≡ deviceSize → ⊥) → false ≡ deviceFits rs (deviceOf b)
+  fits-other h = stands-not (unfold isDevice in ap (λ (t : Bool). t && allBelow (isSlot b) 16) (ne-eqb (length b) deviceSize h))
 
-  module _ (n : ℕ) (e : n ≡ modulesOf rs) (l : length b ≡ 592) where
+  module _ (n : ℕ) (e : n ≡ modulesOf rs) (l : length b ≡ deviceSize) where
     own-fits : (m : ℕ) → m < 16 → ownSlotFits rs (deviceAt b) m ≡ cond (ltb m n) (ownFits rs m (slotOf b m)) (ownEmpty (slotOf b m))
     unfolding ownSlotFits
     own-fits m h = ap₂ (λ (o : Own) (k : ℕ). cond (ltb m k) (ownFits rs m o) (ownEmpty o)) (slot-at b m h) (sym e)
@@ -184,7 +184,7 @@ module _ (rs : List Record) (b : List ℕ) where
 
     is-device : {t : Bool} → allBelow (isSlot b) 16 ≡ t → isDevice b ≡ t
     unfolding isDevice
-    is-device w = ap₂ _&&_ (eq-eqb (length b) 592 l) w
+    is-device w = ap₂ _&&_ (eq-eqb (length b) deviceSize l) w
 
     module _ {a : Bool} (w : a ≡ allBelow (slotFits rs n b) 16) where
       pub fits-by : {x : Bool} {states : List ℕ} → a ≡ true → states ≡ listFrom (stateByte b) 0 32 → x ≡ allBelow (stateSlotFits rs states) 32 → x ≡ deviceFits rs (deviceOf b)
@@ -217,9 +217,9 @@ module _ (rs : List Record) (b : List ℕ) where
 
 -- what a call takes of bytes that stand for a device is that device's
 module _ (b : List ℕ) (d : isDevice b ≡ true) where
-  long : eqb (length b) 592 ≡ true
+  long : eqb (length b) deviceSize ≡ true
   unfolding isDevice
-  long = and-left (eqb (length b) 592) (allBelow (isSlot b) 16) d
+  long = and-left (eqb (length b) deviceSize) (allBelow (isSlot b) 16) d
 
   pub states-taken : {r : List ℕ} → r ≡ statesIn b → r ≡ deviceAt b .supervisors
   unfolding statesIn

@@ -15,7 +15,14 @@ use Rattle.modules.specs.Fits.{ownFits, ownEmpty}
 use Rattle.modules.specs.Turn.{emptyOwn}
 use Rattle.device_states.specs.States.{ownAt, deviceFits, withOwn}
 use Rattle.device_states.specs.declared.Device.{Device}
-use Rattle.own_bytes.specs.Own.{ownBytes, ownOf, isOwn, unfitOwn, OwnEncodable}
+use Rattle.own_bytes.specs.Own.{ownSize, ownBytes, ownOf, isOwn, unfitOwn, OwnEncodable}
+
+-- the bytes of the slots, and of all
+abbrev pub slotsSize : ℕ
+slotsSize = 16 * ownSize
+
+abbrev pub deviceSize : ℕ
+deviceSize = slotsSize + 32
 
 -- own parts one after another
 unfoldable pub ownsBytes : List Own → List ℕ
@@ -27,24 +34,24 @@ deviceBytes d = ownsBytes (d .modules) ++ d .supervisors
 
 -- a slice with the bytes of a device from its start, if it has room for them
 unfoldable pub devicePut : Device → List ℕ → List ℕ
-devicePut d s = cond (leb 592 (length s)) (written (deviceBytes d) s) s
+devicePut d s = cond (leb deviceSize (length s)) (written (deviceBytes d) s) s
 
 -- the device that the bytes are, by their places
 unfoldable pub slotOf : List ℕ → ℕ → Own
-slotOf b m = ownOf (drop (m * 35) b)
+slotOf b m = ownOf (drop (m * ownSize) b)
 
 unfoldable pub stateByte : List ℕ → ℕ → ℕ
-stateByte b v = getD b (560 + v) 0
+stateByte b v = getD b (slotsSize + v) 0
 
 abbrev pub deviceAt : List ℕ → Device
 deviceAt b = record { modules = listFrom (slotOf b) 0 16; supervisors = listFrom (stateByte b) 0 32 }
 
 -- the header: "Bytes of another length, a flag other than 0 and 1, .. and f64 bits of a NaN stand for no state"
 unfoldable pub isSlot : List ℕ → ℕ → Bool
-isSlot b m = isOwn (drop (m * 35) b)
+isSlot b m = isOwn (drop (m * ownSize) b)
 
 unfoldable pub isDevice : List ℕ → Bool
-isDevice b = eqb (length b) 592 && allBelow (isSlot b) 16
+isDevice b = eqb (length b) deviceSize && allBelow (isSlot b) 16
 
 -- a device that fits no plan
 abbrev pub unfitDevice : Device
@@ -60,14 +67,14 @@ slotFits rs n b m = isSlot b m && cond (ltb m n) (ownFits rs m (slotOf b m)) (ow
 
 -- what a call takes of the bytes: the supervisors' states, and a module's own part; bytes of another length have none
 unfoldable pub statesIn : List ℕ → List ℕ
-statesIn b = cond (eqb (length b) 592) (deviceAt b .supervisors) (replicate 32 0)
+statesIn b = cond (eqb (length b) deviceSize) (deviceAt b .supervisors) (replicate 32 0)
 
 unfoldable pub ownIn : List ℕ → ℕ → Own
-ownIn b m = cond (eqb (length b) 592) (ownAt (deviceAt b) m) emptyOwn
+ownIn b m = cond (eqb (length b) deviceSize) (ownAt (deviceAt b) m) emptyOwn
 
 -- the bytes with another own part of a module; past the last slot they stay
 unfoldable pub slotPut : Own → ℕ → List ℕ → List ℕ
-slotPut own m b = cond (ltb m 16) (putAt (ownBytes own) (m * 35) b) b
+slotPut own m b = cond (ltb m 16) (putAt (ownBytes own) (m * ownSize) b) b
 
 -- ---- what is proved of them
 
@@ -88,11 +95,11 @@ pub record DeviceParts : Type 0 where
   pub back : (d : Device) → DeviceEncodable d → deviceAt (deviceBytes d) ≡ d
   -- and bytes that stand for a device are those of that device
   pub written : (b : List ℕ) → Bytes b → isDevice b ≡ true → deviceBytes (deviceAt b) ≡ b
-  pub size : (d : Device) → DeviceEncodable d → length (deviceBytes d) ≡ 592
+  pub size : (d : Device) → DeviceEncodable d → length (deviceBytes d) ≡ deviceSize
   -- a call puts one slot, and a turn that fires an event also the supervisors' states behind the slots
   pub put : (b : List ℕ) (m : ℕ) (own : Own) → Bytes b → isDevice b ≡ true → length (own .queue) ≡ 8
       → devicePut (withOwn (deviceAt b) m own) b ≡ slotPut own m b
   pub moved : (b : List ℕ) (m : ℕ) (own : Own) (states : List ℕ)
       → Bytes b → isDevice b ≡ true → length (own .queue) ≡ 8 → length states ≡ 32
-      → devicePut (record { modules = set (deviceAt b .modules) m own; supervisors = states }) b ≡ putAt states 560 (slotPut own m b)
+      → devicePut (record { modules = set (deviceAt b .modules) m own; supervisors = states }) b ≡ putAt states slotsSize (slotPut own m b)
   pub unfit : (rs : List Record) → deviceFits rs unfitDevice ≡ false

@@ -43,7 +43,7 @@ use Rattle.device.specs.declared.DeviceCalled.{DeviceCalled}
 use Rattle.device.specs.declared.DeviceTurned.{DeviceTurned}
 use Rattle.device.specs.declared.Turning.the-variants.{Turned as Turns}
 use Rattle.device_bytes.specs.Device as bytes
-use Rattle.device_bytes.specs.Device.{deviceBytes, devicePut, isDevice, deviceAt, deviceOf, statesIn, ownIn, slotPut}
+use Rattle.device_bytes.specs.Device.{slotsSize, deviceSize, deviceBytes, devicePut, isDevice, deviceAt, deviceOf, statesIn, ownIn, slotPut}
 use Rattle.device_bytes.proofs.InPlace.{device-moved, device-kept, fits-stands, states-taken, own-taken}
 use Rattle.packing.specs.Answer.{Answered, packed, calledAnswer, turningAnswer, lentAfter, startAnswer}
 use Rattle.packing.proofs.Accepted.{after-yes, after-no}
@@ -95,11 +95,11 @@ stands-at s d = simp d
 
 module _ (s : List ℕ) (m : ℕ) (g : Bytes s) (d : isDevice s ≡ true) where
   module _ (rs : List Record) (t : Turned) (q : length (t .own .queue) ≡ 8) {s1 : List ℕ} (w : s1 ≡ slotPut (t .own) m s) where
-    pub after-event : {s2 l states : List ℕ} {e : ℕ} → t .turn ≡ Event e → states ≡ deviceAt s .supervisors → l ≡ statesAfter rs states (Event e) → s2 ≡ putAt l 560 s1 → s2 ≡ devicePut (afterTurn rs (deviceAt s) m t) s
+    pub after-event : {s2 l states : List ℕ} {e : ℕ} → t .turn ≡ Event e → states ≡ deviceAt s .supervisors → l ≡ statesAfter rs states (Event e) → s2 ≡ putAt l slotsSize s1 → s2 ≡ devicePut (afterTurn rs (deviceAt s) m t) s
     after-event {l = l} {states} {e} x v h k =
         let is : l ≡ statesAfter rs (deviceAt s .supervisors) (Event e) = h ∙ ap (λ (y : List ℕ). statesAfter rs y (Event e)) v in
         let n : length l ≡ 32 = ap length is ∙ from-length (λ u. stateAfterTurn rs u (stateOf (deviceAt s .supervisors) u) (Event e)) 0 32 in
-        k ∙ ap (putAt l 560) w ∙ sym (device-moved s g d m (t .own) q l n)
+        k ∙ ap (putAt l slotsSize) w ∙ sym (device-moved s g d m (t .own) q l n)
         ∙ ap (λ (y : Device). devicePut y s) (turn-event rs (deviceAt s) m t refl x is)
 
     pub after-none : OneOf (1 ∷ 2 ∷ []) (tagOf the-type (t .turn)) → s1 ≡ devicePut (afterTurn rs (deviceAt s) m t) s
@@ -206,22 +206,22 @@ module _ (image s : List ℕ) (m : ℕ) {v : Examined} (e : v ≡ examinedOf ima
 -- ---- a start
 
 module _ (c : DeviceCalled) (b : List ℕ) {r : ℕ} where
-  pub give-short : c .answer ≡ Done → length b < 592 → r ≡ packed 15 0 0 0 → Answered (startAnswer 592 (c .answer) (deviceBytes (c .device)) b) r [] b
+  pub give-short : c .answer ≡ Done → length b < deviceSize → r ≡ packed 15 0 0 0 → Answered (startAnswer deviceSize (c .answer) (deviceBytes (c .device)) b) r [] b
   unfolding startAnswer
-  give-short e h w = rw e (simp (lt-ltb (length b) 592 h) (record { answer = w; state = refl; buffer = refl }))
+  give-short e h w = rw e (simp (lt-ltb (length b) deviceSize h) (record { answer = w; state = refl; buffer = refl }))
 
-  pub give-done : {after : List ℕ} → c .answer ≡ Done → 592 ≤ length b → after ≡ devicePut (c .device) b → r ≡ packed 0 0 0 592
-      → Answered (startAnswer 592 (c .answer) (deviceBytes (c .device)) b) r [] after
+  pub give-done : {after : List ℕ} → c .answer ≡ Done → deviceSize ≤ length b → after ≡ devicePut (c .device) b → r ≡ packed 0 0 0 deviceSize
+      → Answered (startAnswer deviceSize (c .answer) (deviceBytes (c .device)) b) r [] after
   unfolding startAnswer devicePut
   give-done e h w z =
-      let put : devicePut (c .device) b ≡ written (deviceBytes (c .device)) b = ap (λ (y : Bool). cond y (written (deviceBytes (c .device)) b) b) (le-leb 592 (length b) h) in
-      rw e (simp (le-ltb (length b) 592 h) (record { answer = z; state = refl; buffer = w ∙ put }))
+      let put : devicePut (c .device) b ≡ written (deviceBytes (c .device)) b = ap (λ (y : Bool). cond y (written (deviceBytes (c .device)) b) b) (le-leb deviceSize (length b) h) in
+      rw e (simp (le-ltb (length b) deviceSize h) (record { answer = z; state = refl; buffer = w ∙ put }))
 
-  pub give-refused : {n o : ℕ} → c .answer ≡ CallRefused n o → r ≡ packed n 0 0 o → Answered (startAnswer 592 (c .answer) (deviceBytes (c .device)) b) r [] b
+  pub give-refused : {n o : ℕ} → c .answer ≡ CallRefused n o → r ≡ packed n 0 0 o → Answered (startAnswer deviceSize (c .answer) (deviceBytes (c .device)) b) r [] b
   unfolding startAnswer
   give-refused e w = rw e (record { answer = w; state = refl; buffer = refl })
 
 module _ (image : List ℕ) {r : ℕ} {after : List ℕ} where
-  pub start-by : (b : List ℕ) {c : DeviceCalled} → c ≡ startCall image → Answered (startAnswer 592 (c .answer) (deviceBytes (c .device)) b) r [] after → Answered (startBytes image b) r [] after
+  pub start-by : (b : List ℕ) {c : DeviceCalled} → c ≡ startCall image → Answered (startAnswer deviceSize (c .answer) (deviceBytes (c .device)) b) r [] after → Answered (startBytes image b) r [] after
   unfolding startBytes
-  start-by b e a = subst (λ (c : DeviceCalled). Answered (startAnswer 592 (c .answer) (deviceBytes (c .device)) b) r [] after) e a
+  start-by b e a = subst (λ (c : DeviceCalled). Answered (startAnswer deviceSize (c .answer) (deviceBytes (c .device)) b) r [] after) e a

@@ -8,7 +8,7 @@ use Rattle.device.specs.Device.{startCall, turnCall, respondCall, tickCall}
 use Rattle.device_states.specs.declared.Device.{Device}
 use Rattle.device.specs.declared.DeviceCalled.{DeviceCalled}
 use Rattle.device.specs.declared.DeviceTurned.{DeviceTurned}
-use Rattle.device_bytes.specs.Device.{deviceBytes, devicePut, deviceOf}
+use Rattle.device_bytes.specs.Device.{deviceSize, deviceBytes, devicePut, deviceOf}
 use Rattle.packing.specs.Answer.{Answer, calledAnswer, turningAnswer, lentAfter, startAnswer}
 use Rattle.packing.specs.Flow.{flowOf}
 
@@ -23,7 +23,7 @@ abbrev pub turnedOn : DeviceTurned → List ℕ → Answer
 turnedOn c s = record { number = turningAnswer (c .answer); state = deviceAfter (turningNumber (c .answer)) (c .device) s; buffer = [] }
 
 unfoldable pub startBytes : List ℕ → List ℕ → Answer
-startBytes image b = startAnswer 592 (startCall image .answer) (deviceBytes (startCall image .device)) b
+startBytes image b = startAnswer deviceSize (startCall image .answer) (deviceBytes (startCall image .device)) b
 
 unfoldable pub turnBytes : List ℕ → List ℕ → ℕ → Answer
 turnBytes image s m = turnedOn (turnCall image (deviceOf s) m) s

@@ -7,7 +7,7 @@ ghost use Rattle.places.specs.Places.{recordsBy};
 ghost use Rattle.modules.specs.Procedure.{respondOf, tickOf};
 ghost use Rattle.device_states.specs.States.{ownAt};
 ghost use Rattle.device.specs.Device.{afterTurn, deviceNumber, turnIn, replyIn};
-ghost use Rattle.device_bytes.specs.Device.{deviceBytes, devicePut, isDevice, deviceAt, deviceOf};
+ghost use Rattle.device_bytes.specs.Device.{deviceSize, deviceBytes, devicePut, isDevice, deviceAt, deviceOf};
 ghost use Rattle.packing.specs.Answer.{Answered, startAnswer};
 ghost use Rattle.device_interface.specs.Calls.{calledOn, turnedOn, startBytes, turnBytes, respondBytes, tickBytes};
 use checker::Examined;
@@ -49,7 +49,7 @@ fn keep_turn(image: &[u8], places: Places, state: &mut [u8], m: u8, states: [u8;
         return;
     };
     let moved = device_states::states_after(image, places, states, e);
-    words::put_bytes(&mut *state, 560, &moved);
+    words::put_bytes(&mut *state, device_bytes::SLOTS_SIZE, &moved);
 }
 
 fn turn_in(image: &[u8], places: Places, state: &mut [u8], m: u8) -> u64
@@ -141,17 +141,17 @@ pub fn tick(image: &[u8], state: &mut [u8], m: u8, sensor: u8, litres: f64) -> u
 
 // The state at a start.
 fn give(buffer: &mut [u8], c: DeviceCalled) -> u64
-    ensures { λ r. ⌜ Answered (startAnswer 592 (c .answer) (deviceBytes (c .device)) (now (buffer .entry))) r [] (now (buffer .exit)) ⌝ }
+    ensures { λ r. ⌜ Answered (startAnswer deviceSize (c .answer) (deviceBytes (c .device)) (now (buffer .entry))) r [] (now (buffer .exit)) ⌝ }
 {
     let answer = c.answer;
     let d = c.device;
     match answer {
         Called::Done => {
-            if buffer.len() < 592 {
+            if buffer.len() < device_bytes::DEVICE_SIZE {
                 return packing::pack(15, 0, 0, 0);
             }
             device_bytes::put_device(&mut *buffer, d);
-            packing::pack(0, 0, 0, 592)
+            packing::pack(0, 0, 0, device_bytes::DEVICE_SIZE)
         }
         Called::Refused(n, o) => packing::pack(n, 0, 0, o),
     }

@@ -39,7 +39,7 @@ use Rattle.refusals.specs.Refusals.{InTable, CallAnswer}
 use Rattle.refusals.proofs.Refusals.{refusals}
 use Rattle.agreement.specs.System.{System, Act, moduleStep, supervisorStep, deliver, respond, tick, bufferLength, Lent, AllLent, step, run}
 use Rattle.agreement.specs.Compared.{Seen, turnSeen, refusalSeen, callSeen, stepSeen, actSeen, seen, DeviceAct, deviceTurn, deviceRespond, deviceTick, choiceFed, actFed, fed, deviceStep, turningSeen, deviceActSeen, deviceSeen}
-use Rattle.own_bytes.specs.Own.{ownBytes}
+use Rattle.own_bytes.specs.Own.{ownSize, ownBytes}
 use Rattle.own_bytes.proofs.Parts.{own-parts}
 use Rattle.party_bytes.specs.Module.{moduleBytes, ModuleEncodable}
 use Rattle.device_bytes.specs.Device.{ownsBytes, deviceBytes, OwnsEncodable, DeviceEncodable}
@@ -130,14 +130,14 @@ module _ (m : ℕ) (s b own : List ℕ) where
 
 -- ---- modules
 
-own-first : (x : Module) → ModuleEncodable x → take 35 (moduleBytes x) ≡ ownBytes (x .own)
+own-first : (x : Module) → ModuleEncodable x → take ownSize (moduleBytes x) ≡ ownBytes (x .own)
 unfolding moduleBytes
 own-first x h =
     let o : List ℕ = ownBytes (x .own) in
     let q : List ℕ = quadBytes (x .held) in
     let w : List ℕ = wordBytes (x .received) in
     let f : List ℕ = flagByte (x .bid) ∷ [] in
-    ap (take 35) (append-assoc (o ++ q) w f ∙ append-assoc o q (w ++ f)) ∙ take-at o (q ++ (w ++ f)) 35 (own-parts .size (x .own) (h .own .places))
+    ap (take ownSize) (append-assoc (o ++ q) w f ∙ append-assoc o q (w ++ f)) ∙ take-at o (q ++ (w ++ f)) ownSize (own-parts .size (x .own) (h .own .places))
 
 compared : (b : Bool) (x : Seen) (y : Outcome) → y ≡ outcomeOf x → cond b (y ∷ []) [] ≡ map outcomeOf (cond b (x ∷ []) [])
 compared true x y e = ap (λ (o : Outcome). o ∷ []) e
@@ -173,7 +173,7 @@ module _ (image : List ℕ) (accepted : IsPlan image) where
     act-seen (moduleStep m b) l =
         let c : M.StepCall = M.moduleStep image m (D .moduleAt m) b in
         ap (λ (a : Answer). cond (tookTurn a) (moduleOutcome m a ∷ []) []) (same-calls .moduleStep image m (D .moduleAt m) b (h .modules m))
-        ∙ step-outcomes m (moduleBytes (c .state)) (c .buffer) (take 35 (moduleBytes (c .state))) (c .answer) (c .state .own) (module-sent image accepted m (D .moduleAt m) b l .0)
+        ∙ step-outcomes m (moduleBytes (c .state)) (c .buffer) (take ownSize (moduleBytes (c .state))) (c .answer) (c .state .own) (module-sent image accepted m (D .moduleAt m) b l .0)
         (own-first (c .state) (all-encodable .moduleStep image m (D .moduleAt m) b (h .modules m)))
     act-seen (supervisorStep v b) l = refl
     act-seen (deliver k) l = refl
@@ -182,14 +182,14 @@ module _ (image : List ℕ) (accepted : IsPlan image) where
         let z : Module = M.moduleRespond image m x e .state in
         compared (ltb m (modulesOf (recordsOf image))) _ _
         (ap (moduleOutcome m) (same-calls .moduleRespond image m x e (h .modules m))
-        ∙ call-outcome m (moduleBytes z) [] (take 35 (moduleBytes z)) (M.moduleRespond image m x e .answer) (refusals .modules .respond image m x e .answer)
+        ∙ call-outcome m (moduleBytes z) [] (take ownSize (moduleBytes z)) (M.moduleRespond image m x e .answer) (refusals .modules .respond image m x e .answer)
         ∙ ap (callOutcome m (M.moduleRespond image m x e .answer)) (own-first z (all-encodable .moduleRespond image m x e (h .modules m))))
     act-seen (tick m f) l =
         let x : Module = D .moduleAt m in
         let z : Module = M.moduleTick image m x f .state in
         compared (ltb m (modulesOf (recordsOf image))) _ _
         (ap (moduleOutcome m) (same-calls .moduleTick image m x (sensorOf f) (litresOf f) (h .modules m) ∙ ap (λ (r : Flow). moduleAnswer (M.moduleTick image m x r)) (flow-back f))
-        ∙ call-outcome m (moduleBytes z) [] (take 35 (moduleBytes z)) (M.moduleTick image m x f .answer) (refusals .modules .tick image m x f .answer)
+        ∙ call-outcome m (moduleBytes z) [] (take ownSize (moduleBytes z)) (M.moduleTick image m x f .answer) (refusals .modules .tick image m x f .answer)
         ∙ ap (callOutcome m (M.moduleTick image m x f .answer)) (own-first z (all-encodable .moduleTick image m x f (h .modules m))))
 
     act-fed : NeverRefused image D → (a : Act) → Lent a → actBytesFed image (encoded D) a ≡ actFed (recordsOf image) D a
@@ -226,18 +226,18 @@ module _ (image : List ℕ) (accepted : IsPlan image) where
 
 -- ---- one device
 
-owns-slot : (l : List Own) (rest : List ℕ) (m : ℕ) → OwnsEncodable l → m < length l → take 35 (drop (m * 35) (ownsBytes l ++ rest)) ≡ ownBytes (getD l m emptyOwn)
+owns-slot : (l : List Own) (rest : List ℕ) (m : ℕ) → OwnsEncodable l → m < length l → take ownSize (drop (m * ownSize) (ownsBytes l ++ rest)) ≡ ownBytes (getD l m emptyOwn)
 unfolding ownsBytes
 owns-slot [] rest m h b = absurd (omega arith)
 owns-slot (x ∷ l) rest zero h b =
-    ap (take 35) (append-assoc (ownBytes x) (ownsBytes l) rest) ∙ take-at (ownBytes x) (ownsBytes l ++ rest) 35 (own-parts .size x (h .0 .places))
+    ap (take ownSize) (append-assoc (ownBytes x) (ownsBytes l) rest) ∙ take-at (ownBytes x) (ownsBytes l ++ rest) ownSize (own-parts .size x (h .0 .places))
 owns-slot (x ∷ l) rest (suc m) h b =
-    let n : suc m * 35 ≡ 35 + m * 35 = omega arith in
-    ap₂ (λ (k : ℕ) (t : List ℕ). take 35 (drop k t)) n (append-assoc (ownBytes x) (ownsBytes l) rest)
-    ∙ ap (take 35) (sym (drop-drop (m * 35) 35 (ownBytes x ++ (ownsBytes l ++ rest))) ∙ ap (drop (m * 35)) (drop-at (ownBytes x) (ownsBytes l ++ rest) 35 (own-parts .size x (h .0 .places))))
+    let n : suc m * ownSize ≡ ownSize + m * ownSize = omega arith in
+    ap₂ (λ (k : ℕ) (t : List ℕ). take ownSize (drop k t)) n (append-assoc (ownBytes x) (ownsBytes l) rest)
+    ∙ ap (take ownSize) (sym (drop-drop (m * ownSize) ownSize (ownBytes x ++ (ownsBytes l ++ rest))) ∙ ap (drop (m * ownSize)) (drop-at (ownBytes x) (ownsBytes l ++ rest) ownSize (own-parts .size x (h .0 .places))))
     ∙ owns-slot l rest m (h .1) (omega arith)
 
-slot : (d : Device) (m : ℕ) → DeviceEncodable d → m < 16 → take 35 (drop (m * 35) (deviceBytes d)) ≡ ownBytes (ownAt d m)
+slot : (d : Device) (m : ℕ) → DeviceEncodable d → m < 16 → take ownSize (drop (m * ownSize) (deviceBytes d)) ≡ ownBytes (ownAt d m)
 unfolding deviceBytes
 slot d m h b = owns-slot (d .modules) (d .supervisors) m (h .owns) (omega (arith, h .modules))
 

@@ -18,11 +18,11 @@ use Rattle.roundtrip.proofs.Shape.{word-small}
 use Rattle.words.specs.Lists.{listFrom}
 use Rattle.fields.specs.Fields.{bytesFrom, halfAt, flagOf, isFlag, isFloat, floatAt, Number}
 use Rattle.fields.proofs.Back.{and-left, and-right}
-use Rattle.own_bytes.specs.Own.{procedureOf, ownOf, isOwn, OwnEncodable}
-use Rattle.party_bytes.specs.Module.{moduleAt, moduleBytes, moduleOf, isModule, unfitModule, ModuleEncodable}
+use Rattle.own_bytes.specs.Own.{ownSize, procedureOf, ownOf, isOwn, OwnEncodable}
+use Rattle.party_bytes.specs.Module.{moduleSize, moduleAt, moduleBytes, moduleOf, isModule, unfitModule, ModuleEncodable}
 use Rattle.party_bytes.specs.Supervisor.{holderByte, holderOf, supervisorAt, supervisorBytes, supervisorOf, unfitSupervisor, SupervisorEncodable}
 use Rattle.party_bytes.proofs.Parts.{module-parts, supervisor-parts}
-use Rattle.device_bytes.specs.Device.{slotOf, stateByte, deviceAt, deviceBytes, deviceOf, isSlot, isDevice, unfitDevice, OwnsEncodable, DeviceEncodable}
+use Rattle.device_bytes.specs.Device.{slotsSize, deviceSize, slotOf, stateByte, deviceAt, deviceBytes, deviceOf, isSlot, isDevice, unfitDevice, OwnsEncodable, DeviceEncodable}
 use Rattle.device_bytes.proofs.Parts.{device-parts}
 use Rattle.interface_laws.specs.Exact.{Exact}
 use Rattle.interface_laws.proofs.ByteLists.{bytes-none, bytes-more, bytes-listed}
@@ -67,10 +67,10 @@ module _ (b : List ℕ) (g : Bytes b) where
   module-is : isModule b ≡ true → ModuleEncodable (moduleAt b)
   unfolding isModule moduleAt
   module-is h =
-      let L : Bool = eqb (length b) 48 in
+      let L : Bool = eqb (length b) moduleSize in
       let O : Bool = isOwn b in
-      let F : Bool = isFlag (getD b 47 0) in
-      record { own = own-encodable (and-right L O (and-left (L && O) F h)); held = quad-small 35; received = word-small b 39 g }
+      let F : Bool = isFlag (getD b (ownSize + 12) 0) in
+      record { own = own-encodable (and-right L O (and-left (L && O) F h)); held = quad-small ownSize; received = word-small b (ownSize + 4) g }
 
   holder-small : (out : Bool) → Byte (holderByte (holderOf out (getD b 4 0)))
   unfolding holderByte holderOf
@@ -84,7 +84,7 @@ module _ (b : List ℕ) (g : Bytes b) where
 module _ (b : List ℕ) (g : Bytes b) (all : (k : ℕ) → k < 16 → isSlot b k ≡ true) where
   slot-encodable : (i : ℕ) → i < 16 → OwnEncodable (slotOf b i)
   unfolding slotOf isSlot
-  slot-encodable i h = own-encodable (drop (i * 35) b) (λ j. subst Byte (sym (getD-drop (i * 35) b j 0)) (g (i * 35 + j))) (all i h)
+  slot-encodable i h = own-encodable (drop (i * ownSize) b) (λ j. subst Byte (sym (getD-drop (i * ownSize) b j 0)) (g (i * ownSize + j))) (all i h)
 
   slots-encodable : (n i : ℕ) → i + n ≤ 16 → OwnsEncodable (listFrom (slotOf b) i n)
   unfolding listFrom
@@ -94,10 +94,10 @@ module _ (b : List ℕ) (g : Bytes b) (all : (k : ℕ) → k < 16 → isSlot b k
 device-is : (b : List ℕ) → Bytes b → isDevice b ≡ true → DeviceEncodable (deviceAt b)
 unfolding isDevice listFrom
 device-is b g h =
-    let L : Bool = eqb (length b) 592 in
+    let L : Bool = eqb (length b) deviceSize in
     let A : Bool = allBelow (isSlot b) 16 in
     let all : (k : ℕ) → k < 16 → isSlot b k ≡ true = λ k m. is-true (isSlot b k) (all-at (isSlot b) 16 (subst T (sym (and-right L A h)) tt) k m) in
-    record { owns = slots-encodable b g all 16 0 (omega arith); modules = refl; supervisors = refl; states = bytes-listed (stateByte b) (λ v. unfold stateByte in g (560 + v)) 0 32 }
+    record { owns = slots-encodable b g all 16 0 (omega arith); modules = refl; supervisors = refl; states = bytes-listed (stateByte b) (λ v. unfold stateByte in g (slotsSize + v)) 0 32 }
 
 pub exact : Exact
 exact =

@@ -34,10 +34,10 @@ use Rattle.refusals.specs.Refusals.{InTable, CheckAnswer}
 use Rattle.refusals.proofs.Refusals.{refusals}
 use Rattle.fields.proofs.Back.{and-left}
 use Rattle.own_bytes.specs.Own.{isOwn}
-use Rattle.device_bytes.specs.Device.{deviceBytes, devicePut, isDevice, deviceAt, unfitDevice, deviceOf}
+use Rattle.device_bytes.specs.Device.{deviceSize, deviceBytes, devicePut, isDevice, deviceAt, unfitDevice, deviceOf}
 use Rattle.device_bytes.proofs.Parts.{device-parts}
-use Rattle.party_bytes.specs.Module.{moduleBytes, isModule, moduleAt, unfitModule, moduleOf}
-use Rattle.party_bytes.specs.Supervisor.{supervisorBytes, isSupervisor, supervisorAt, unfitSupervisor, supervisorOf}
+use Rattle.party_bytes.specs.Module.{moduleSize, moduleBytes, isModule, moduleAt, unfitModule, moduleOf}
+use Rattle.party_bytes.specs.Supervisor.{supervisorSize, supervisorBytes, isSupervisor, supervisorAt, unfitSupervisor, supervisorOf}
 use Rattle.party_bytes.proofs.Parts.{module-parts, supervisor-parts}
 use Rattle.packing.proofs.InPlace.{over, put-over}
 
@@ -120,23 +120,23 @@ module _ (rs : List Record) (d : Device) (m : ℕ) (f : deviceFits rs d ≡ fals
 
 -- ---- the bytes put where bytes of the same length stood
 
-module-length : (s : List ℕ) → isModule s ≡ true → length s ≡ 48
+module-length : (s : List ℕ) → isModule s ≡ true → length s ≡ moduleSize
 unfolding isModule
-module-length s h = eqb-true (length s) 48 (and-left (eqb (length s) 48) (isOwn s) (and-left (eqb (length s) 48 && isOwn s) _ h))
+module-length s h = eqb-true (length s) moduleSize (and-left (eqb (length s) moduleSize) (isOwn s) (and-left (eqb (length s) moduleSize && isOwn s) _ h))
 
-supervisor-length : (s : List ℕ) → isSupervisor s ≡ true → length s ≡ 6
+supervisor-length : (s : List ℕ) → isSupervisor s ≡ true → length s ≡ supervisorSize
 unfolding isSupervisor
-supervisor-length s h = eqb-true (length s) 6 (and-left (eqb (length s) 6) _ (and-left _ _ h))
+supervisor-length s h = eqb-true (length s) supervisorSize (and-left (eqb (length s) supervisorSize) _ (and-left _ _ h))
 
-device-length : (s : List ℕ) → isDevice s ≡ true → length s ≡ 592
+device-length : (s : List ℕ) → isDevice s ≡ true → length s ≡ deviceSize
 unfolding isDevice
-device-length s h = eqb-true (length s) 592 (and-left (eqb (length s) 592) _ h)
+device-length s h = eqb-true (length s) deviceSize (and-left (eqb (length s) deviceSize) _ h)
 
-pub put-device : (d : Device) (s : List ℕ) → length s ≡ 592 → length (deviceBytes d) ≡ 592 → devicePut d s ≡ deviceBytes d
+pub put-device : (d : Device) (s : List ℕ) → length s ≡ deviceSize → length (deviceBytes d) ≡ deviceSize → devicePut d s ≡ deviceBytes d
 unfolding devicePut
 put-device d s e q =
-    let l : 592 ≤ length s = omega arith in
-    ap (λ (t : Bool). cond t (written (deviceBytes d) s) s) (le-leb 592 (length s) l) ∙ over (deviceBytes d) s (q ∙ sym e)
+    let l : deviceSize ≤ length s = omega arith in
+    ap (λ (t : Bool). cond t (written (deviceBytes d) s) s) (le-leb deviceSize (length s) l) ∙ over (deviceBytes d) s (q ∙ sym e)
 
 -- ---- an accepted call, of number n, got bytes that stand for a state
 
@@ -150,7 +150,7 @@ module-kept s x q r z = put-over (moduleBytes x) s (module-parts .size x q ∙ s
 pub supervisor-kept : (s : List ℕ) (y : Supervisor) {n : ℕ} → (isSupervisor s ≡ false → n ≢ 0) → n ≡ 0 → putAt (supervisorBytes y) 0 s ≡ supervisorBytes y
 supervisor-kept s y r z = put-over (supervisorBytes y) s (supervisor-parts .size y ∙ sym (supervisor-length s (stood (isSupervisor s) r z)))
 
-pub device-kept : (s : List ℕ) (d : Device) {n : ℕ} → length (deviceBytes d) ≡ 592 → (isDevice s ≡ false → n ≢ 0) → n ≡ 0 → devicePut d s ≡ deviceBytes d
+pub device-kept : (s : List ℕ) (d : Device) {n : ℕ} → length (deviceBytes d) ≡ deviceSize → (isDevice s ≡ false → n ≢ 0) → n ≡ 0 → devicePut d s ≡ deviceBytes d
 device-kept s d q r z = put-device d s (device-length s (stood (isDevice s) r z)) q
 
 pub module-unfit : (image s : List ℕ) (m : ℕ) → isModule s ≡ false → moduleFits (recordsOf image) m (moduleOf s) ≡ false

@@ -55,9 +55,9 @@ use Rattle.refusals.specs.Numbers.{verdictNumber, writtenNumber}
 use Rattle.refusals.specs.Refusals.{InTable, OfPages, OfCheck, CheckAnswer, WriteAnswer, PrintAnswer, CallAnswer, TurnAnswer, StepAnswer, ServeAnswer, BlockingAnswer, OfStuck, CountingAnswer, OfCounts}
 use Rattle.refusals.proofs.Cases.{done}
 use Rattle.refusals.proofs.Refusals.{refusals}
-use Rattle.device_bytes.specs.Device.{deviceBytes, deviceOf}
-use Rattle.party_bytes.specs.Module.{moduleBytes, moduleOf}
-use Rattle.party_bytes.specs.Supervisor.{supervisorBytes, supervisorOf}
+use Rattle.device_bytes.specs.Device.{deviceSize, deviceBytes, deviceOf}
+use Rattle.party_bytes.specs.Module.{moduleSize, moduleBytes, moduleOf}
+use Rattle.party_bytes.specs.Supervisor.{supervisorSize, supervisorBytes, supervisorOf}
 use Rattle.packing.specs.Answer.{packed, verdictAnswer, calledAnswer, turnAnswer, turningAnswer, steppedAnswer, servedAnswer, startAnswer}
 use Rattle.packing.specs.Flow.{flowOf}
 use Rattle.plan_interface.specs.Records.{readBy, recordBy, writtenAnswer, writeBy}
@@ -256,16 +256,16 @@ same-numbers =
       printPlan = λ image l. unfold printBy in printed-number (printAnswer (verdictOf image) image l) (refusals .writers .print image l .answer);
       readMessage = λ g. parsed-number (parse g);
       writeMessage = λ k a b e w l. message-number (messageBy k a b e w) l;
-      deviceStart = λ image l. unfold Device.startBytes in start-number 592 (startCall image .answer) (deviceBytes (startCall image .device)) l (refusals .device .start image);
+      deviceStart = λ image l. unfold Device.startBytes in start-number deviceSize (startCall image .answer) (deviceBytes (startCall image .device)) l (refusals .device .start image);
       deviceTurn = λ image s m. unfold Device.turnBytes in turning-number _ (refusals .device .turn image (deviceOf s) m .answer);
       deviceRespond = λ image s m e. unfold Device.respondBytes in called-number _ (refusals .device .respond image (deviceOf s) m e .answer);
       deviceTick = λ image s m f x. unfold Device.tickBytes in called-number _ (refusals .device .tick image (deviceOf s) m (flowOf f x) .answer);
-      moduleStart = λ image m l. unfold Module.startBytes in start-number 48 (moduleStart image m .answer) (moduleBytes (moduleStart image m .state)) l (refusals .modules .start image m);
+      moduleStart = λ image m l. unfold Module.startBytes in start-number moduleSize (moduleStart image m .answer) (moduleBytes (moduleStart image m .state)) l (refusals .modules .start image m);
       moduleStep = λ image s m l. unfold Module.stepBytes in stepped-number _ (refusals .modules .step image m (moduleOf s) l .answer);
       moduleDeliver = λ image s m g. unfold Module.deliverBytes in called-number _ (refusals .modules .deliver image m (moduleOf s) g .answer);
       moduleRespond = λ image s m e. unfold Module.respondBytes in called-number _ (refusals .modules .respond image m (moduleOf s) e .answer);
       moduleTick = λ image s m f x. unfold Module.tickBytes in called-number _ (refusals .modules .tick image m (moduleOf s) (flowOf f x) .answer);
-      supervisorStart = λ image v l. unfold Supervisor.startBytes in start-number 6 (supervisorStart image v .answer) (supervisorBytes (supervisorStart image v .state)) l (refusals .supervisors .start image v);
+      supervisorStart = λ image v l. unfold Supervisor.startBytes in start-number supervisorSize (supervisorStart image v .answer) (supervisorBytes (supervisorStart image v .state)) l (refusals .supervisors .start image v);
       supervisorStep = λ image s v l. unfold Supervisor.stepBytes in served-number _ (refusals .supervisors .step image v (supervisorOf s) l .answer);
       supervisorDeliver = λ image s v g. unfold Supervisor.deliverBytes in called-number _ (refusals .supervisors .deliver image v (supervisorOf s) g .answer);
       findStuck = λ image l a r after t f.

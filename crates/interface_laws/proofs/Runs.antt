@@ -28,7 +28,7 @@ use Rattle.agreement.specs.System.{Sent, System, Act, moduleStep, supervisorSte
 use Rattle.agreement.specs.Compared.{DeviceAct, deviceTurn, deviceRespond, deviceTick, deviceStep, deviceRun}
 use Rattle.party_bytes.specs.Module.{moduleBytes, ModuleEncodable}
 use Rattle.party_bytes.specs.Supervisor.{supervisorBytes, SupervisorEncodable}
-use Rattle.device_bytes.specs.Device.{deviceBytes, DeviceEncodable}
+use Rattle.device_bytes.specs.Device.{deviceSize, deviceBytes, DeviceEncodable}
 use Rattle.device_bytes.proofs.Parts.{device-parts}
 use Rattle.packing.specs.Answer.{Answer, startAnswer}
 use Rattle.packing.specs.Flow.{flowOf}
@@ -255,8 +255,8 @@ module _ (image : List ℕ) (accepted : IsPlan image) where
   pub device-start : deviceBytesStart image ≡ deviceBytes (startCall image .device)
   unfolding deviceBytesStart DeviceCalls.startBytes startBy
   device-start =
-      ap (λ (c : Called). startAnswer 592 c (deviceBytes (startCall image .device)) (replicate 592 0) .buffer) (ap (λ (v : Verdict). startBy v (recordsOf image) .answer) accepted)
-      ∙ in-zeros 592 (deviceBytes (startCall image .device)) (device-parts .size (startCall image .device) (all-encodable .deviceStart image))
+      ap (λ (c : Called). startAnswer deviceSize c (deviceBytes (startCall image .device)) (replicate deviceSize 0) .buffer) (ap (λ (v : Verdict). startBy v (recordsOf image) .answer) accepted)
+      ∙ in-zeros deviceSize (deviceBytes (startCall image .device)) (device-parts .size (startCall image .device) (all-encodable .deviceStart image))
 
 pub decoded-encoded : (D : System) → SystemEncodable D → decoded (encoded D) ≡ D
 decoded-encoded D h =

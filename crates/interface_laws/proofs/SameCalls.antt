@@ -34,10 +34,10 @@ use Rattle.permits.specs.declared.Supervisor.{Supervisor}
 use Rattle.permits.specs.declared.ModuleCalled.{ModuleCalled}
 use Rattle.permits.specs.declared.SupervisorCalled.{SupervisorCalled}
 use Rattle.refusals.proofs.Refusals.{refusals}
-use Rattle.party_bytes.specs.Module.{moduleBytes, moduleOf, ModuleEncodable}
-use Rattle.party_bytes.specs.Supervisor.{isOut, holderByte, supervisorBytes, SupervisorEncodable}
+use Rattle.party_bytes.specs.Module.{moduleSize, moduleBytes, moduleOf, ModuleEncodable}
+use Rattle.party_bytes.specs.Supervisor.{supervisorSize, isOut, holderByte, supervisorBytes, SupervisorEncodable}
 use Rattle.party_bytes.proofs.Parts.{module-parts, supervisor-parts}
-use Rattle.device_bytes.specs.Device.{deviceBytes, devicePut, deviceOf, DeviceEncodable}
+use Rattle.device_bytes.specs.Device.{deviceSize, deviceBytes, devicePut, deviceOf, DeviceEncodable}
 use Rattle.device_bytes.proofs.Parts.{device-parts}
 use Rattle.pieces.specs.Pieces.{starting, pieceTaken, verdictBy}
 use Rattle.pieces.specs.declared.CheckState.{CheckState}
@@ -155,37 +155,37 @@ zero-float : toBits binary64 (eighths 0) ≡ 0
 unfolding toBits eighths
 zero-float = refl
 
-module-zero : replicate 48 0 ≡ moduleBytes M.emptyModule
+module-zero : replicate moduleSize 0 ≡ moduleBytes M.emptyModule
 unfolding moduleBytes ownBytes procedureBytes halfBytes quadBytes wordBytes
 module-zero = simp zero-float
 
-supervisor-zero : replicate 6 0 ≡ supervisorBytes S.emptySupervisor
+supervisor-zero : replicate supervisorSize 0 ≡ supervisorBytes S.emptySupervisor
 unfolding supervisorBytes halfBytes isOut holderByte
 supervisor-zero = refl
 
-module-zeros : (image : List ℕ) (m : ℕ) → ModuleCalls.startBytes image m (replicate 48 0) .buffer ≡ moduleBytes (M.moduleStart image m .state)
+module-zeros : (image : List ℕ) (m : ℕ) → ModuleCalls.startBytes image m (replicate moduleSize 0) .buffer ≡ moduleBytes (M.moduleStart image m .state)
 unfolding ModuleCalls.startBytes M.startBy startAnswer
 module-zeros image m =
     judged image (λ v. Zeros (M.startBy v (recordsOf image) m))
     (λ plan. choose Zeros (ltb m (modulesOf (recordsOf image))) _ _
-    (λ l. in-zeros 48 (moduleBytes (M.startModule (recordsOf image) m)) (module-parts .size (M.startModule (recordsOf image) m) (start-encodable (recordsOf image) plan m (ltb-true m (modulesOf (recordsOf image)) l) .places)))
+    (λ l. in-zeros moduleSize (moduleBytes (M.startModule (recordsOf image) m)) (module-parts .size (M.startModule (recordsOf image) m) (start-encodable (recordsOf image) plan m (ltb-true m (modulesOf (recordsOf image)) l) .places)))
     (λ l. module-zero))
     (λ n o. module-zero)
   where
     Zeros : ModuleCalled → Type 0
-    Zeros c = startAnswer 48 (c .answer) (moduleBytes (c .state)) (replicate 48 0) .buffer ≡ moduleBytes (c .state)
+    Zeros c = startAnswer moduleSize (c .answer) (moduleBytes (c .state)) (replicate moduleSize 0) .buffer ≡ moduleBytes (c .state)
 
-supervisor-zeros : (image : List ℕ) (v : ℕ) → SupervisorCalls.startBytes image v (replicate 6 0) .buffer ≡ supervisorBytes (S.supervisorStart image v .state)
+supervisor-zeros : (image : List ℕ) (v : ℕ) → SupervisorCalls.startBytes image v (replicate supervisorSize 0) .buffer ≡ supervisorBytes (S.supervisorStart image v .state)
 unfolding SupervisorCalls.startBytes S.startBy startAnswer
 supervisor-zeros image v =
     judged image (λ a. Zeros (S.startBy a (recordsOf image) v))
     (λ plan. choose Zeros (ltb v (supervisorsOf (recordsOf image))) _ _
-    (λ l. in-zeros 6 (supervisorBytes (S.startSupervisor (recordsOf image) v)) (supervisor-parts .size (S.startSupervisor (recordsOf image) v)))
+    (λ l. in-zeros supervisorSize (supervisorBytes (S.startSupervisor (recordsOf image) v)) (supervisor-parts .size (S.startSupervisor (recordsOf image) v)))
     (λ l. supervisor-zero))
     (λ n o. supervisor-zero)
   where
     Zeros : SupervisorCalled → Type 0
-    Zeros c = startAnswer 6 (c .answer) (supervisorBytes (c .state)) (replicate 6 0) .buffer ≡ supervisorBytes (c .state)
+    Zeros c = startAnswer supervisorSize (c .answer) (supervisorBytes (c .state)) (replicate supervisorSize 0) .buffer ≡ supervisorBytes (c .state)
 
 -- ---- the check in pieces
 
@@ -216,11 +216,11 @@ same-calls =
       deviceTick = λ image d m s l h. unfold DeviceCalls.tickBytes in
           device-called d h (λ z. tickCall image z m (flowOf s l)) (all-encodable .deviceTick image d m (flowOf s l) h) (refusals .device .tick image d m (flowOf s l) .state);
       moduleStart = λ image m l h. unfold ModuleCalls.startBytes in
-          started 48 (M.moduleStart image m .answer) (moduleBytes (M.moduleStart image m .state)) l h (module-parts .size (M.moduleStart image m .state) (all-encodable .moduleStart image m .own .places));
+          started moduleSize (M.moduleStart image m .answer) (moduleBytes (M.moduleStart image m .state)) l h (module-parts .size (M.moduleStart image m .state) (all-encodable .moduleStart image m .own .places));
       supervisorStart = λ image v l h. unfold SupervisorCalls.startBytes in
-          started 6 (S.supervisorStart image v .answer) (supervisorBytes (S.supervisorStart image v .state)) l h (supervisor-parts .size (S.supervisorStart image v .state));
+          started supervisorSize (S.supervisorStart image v .answer) (supervisorBytes (S.supervisorStart image v .state)) l h (supervisor-parts .size (S.supervisorStart image v .state));
       deviceStart = λ image l h. unfold DeviceCalls.startBytes in
-          started 592 (startCall image .answer) (deviceBytes (startCall image .device)) l h (device-parts .size (startCall image .device) (all-encodable .deviceStart image));
+          started deviceSize (startCall image .answer) (deviceBytes (startCall image .device)) l h (device-parts .size (startCall image .device) (all-encodable .deviceStart image));
       moduleZeros = module-zeros;
       supervisorZeros = supervisor-zeros;
       checkStart = λ l h. unfold checkStartBytes in

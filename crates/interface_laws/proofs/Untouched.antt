@@ -23,9 +23,9 @@ use Rattle.permits.specs.Numbers.{steppedNumber, servedNumber}
 use Rattle.permits.specs.Module.{moduleStart, moduleStep}
 use Rattle.permits.specs.Supervisor.{supervisorStart, supervisorStep}
 use Rattle.refusals.proofs.Refusals.{refusals}
-use Rattle.device_bytes.specs.Device.{deviceBytes}
-use Rattle.party_bytes.specs.Module.{moduleBytes, moduleOf}
-use Rattle.party_bytes.specs.Supervisor.{supervisorBytes, supervisorOf}
+use Rattle.device_bytes.specs.Device.{deviceSize, deviceBytes}
+use Rattle.party_bytes.specs.Module.{moduleSize, moduleBytes, moduleOf}
+use Rattle.party_bytes.specs.Supervisor.{supervisorSize, supervisorBytes, supervisorOf}
 use Rattle.packing.specs.Answer.{Answer, packed, lentAfter, startAnswer}
 use Rattle.pieces.specs.Pieces.{starting, pieceTaken}
 use Rattle.piece_bytes.specs.State.{isState, stateAt, stateBytes}
@@ -103,11 +103,11 @@ all-untouched =
             buffer = λ h. refusals .writers .print image l .buffer .untouched (λ z. h (same-numbers .printPlan image l ∙ z));
           };
       writeMessage = λ k a b e w l. message-untouched (messageBy k a b e w) l;
-      deviceStart = λ image l. unfold Device.startBytes in start-untouched 592 (startCall image .answer) (deviceBytes (startCall image .device)) l;
+      deviceStart = λ image l. unfold Device.startBytes in start-untouched deviceSize (startCall image .answer) (deviceBytes (startCall image .device)) l;
       deviceTurn = λ image s m. unfold Device.turnBytes in on-state _ _ _ s (same-numbers .deviceTurn image s m);
       deviceRespond = λ image s m e. unfold Device.respondBytes in on-state _ _ _ s (same-numbers .deviceRespond image s m e);
       deviceTick = λ image s m f x. unfold Device.tickBytes in on-state _ _ _ s (same-numbers .deviceTick image s m f x);
-      moduleStart = λ image m l. unfold Module.startBytes in start-untouched 48 (moduleStart image m .answer) (moduleBytes (moduleStart image m .state)) l;
+      moduleStart = λ image m l. unfold Module.startBytes in start-untouched moduleSize (moduleStart image m .answer) (moduleBytes (moduleStart image m .state)) l;
       moduleStep = λ image s m l. unfold Module.stepBytes in
           record {
             state = λ h. lent-same (steppedNumber (moduleStep image m (moduleOf s) l .answer)) _ s (λ z. h (same-numbers .moduleStep image s m l ∙ z));
@@ -116,7 +116,7 @@ all-untouched =
       moduleDeliver = λ image s m g. unfold Module.deliverBytes in on-state _ _ _ s (same-numbers .moduleDeliver image s m g);
       moduleRespond = λ image s m e. unfold Module.respondBytes in on-state _ _ _ s (same-numbers .moduleRespond image s m e);
       moduleTick = λ image s m f x. unfold Module.tickBytes in on-state _ _ _ s (same-numbers .moduleTick image s m f x);
-      supervisorStart = λ image v l. unfold Supervisor.startBytes in start-untouched 6 (supervisorStart image v .answer) (supervisorBytes (supervisorStart image v .state)) l;
+      supervisorStart = λ image v l. unfold Supervisor.startBytes in start-untouched supervisorSize (supervisorStart image v .answer) (supervisorBytes (supervisorStart image v .state)) l;
       supervisorStep = λ image s v l. unfold Supervisor.stepBytes in
           record {
             state = λ h. lent-same (servedNumber (supervisorStep image v (supervisorOf s) l .answer)) _ s (λ z. h (same-numbers .supervisorStep image s v l ∙ z));

@@ -1,5 +1,5 @@
 -- What demand 3 compares, over bytes. Document 01: "Equal are a turn's event, stray event or none, any refusal's number, and after each the
--- module's state, queue, procedure, water and outputs": the parts of the answer's number, and the 35 bytes of the module's own part.
+-- module's state, queue, procedure, water and outputs": the parts of the answer's number, and the bytes of the module's own part.
 use Prim.Native.Nat.{ℕ, _*_, _/_, _%_}
 use mathlib.Core.List.{List, [], _∷_, _++_}
 use mathlib.Core.Bool.{Bool, cond, _&&_}
@@ -7,6 +7,7 @@ use lib.ListN.{take, drop}
 use lib.Dec.{eqb, ltb}
 use Rattle.reader.specs.Walk.{recordsOf}
 use Rattle.rules.specs.LookUp.{modulesOf}
+use Rattle.own_bytes.specs.Own.{ownSize}
 use Rattle.agreement.specs.System.{Act, moduleStep, supervisorStep, deliver, respond, tick}
 use Rattle.agreement.specs.Compared.{DeviceAct, deviceTurn, deviceRespond, deviceTick}
 use Rattle.packing.specs.Answer.{Answer}
@@ -31,10 +32,10 @@ outcome m a own = record { owner = m; number = numberOf a; did = didOf a; value 
 
 -- a module's bytes begin with its own part, and one device has the own parts of all modules one after another
 abbrev pub moduleOutcome : ℕ → Answer → Outcome
-moduleOutcome m a = outcome m a (take 35 (a .state))
+moduleOutcome m a = outcome m a (take ownSize (a .state))
 
 abbrev pub deviceOutcome : ℕ → Answer → Outcome
-deviceOutcome m a = outcome m a (take 35 (drop (m * 35) (a .state)))
+deviceOutcome m a = outcome m a (take ownSize (drop (m * ownSize) (a .state)))
 
 -- an accepted step that took a turn, by the header: 1 "a turn: an event fired", 2 "a turn: a stray response", 3 "a turn: none"
 abbrev pub tookTurn : Answer → Bool

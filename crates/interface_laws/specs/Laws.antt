@@ -27,9 +27,9 @@ use Rattle.permits.specs.Numbers.{steppedNumber, servedNumber}
 use Rattle.permits.specs.Module.{moduleStart, moduleStep, moduleDeliver, moduleRespond, moduleTick}
 use Rattle.permits.specs.Supervisor.{supervisorStart, supervisorStep, supervisorDeliver}
 use Rattle.refusals.specs.Numbers.{verdictNumber, writtenNumber}
-use Rattle.device_bytes.specs.Device.{isDevice, deviceOf}
-use Rattle.party_bytes.specs.Module.{isModule, moduleOf}
-use Rattle.party_bytes.specs.Supervisor.{isSupervisor, supervisorOf}
+use Rattle.device_bytes.specs.Device.{deviceSize, isDevice, deviceOf}
+use Rattle.party_bytes.specs.Module.{moduleSize, isModule, moduleOf}
+use Rattle.party_bytes.specs.Supervisor.{supervisorSize, isSupervisor, supervisorOf}
 use Rattle.packing.specs.Answer.{Answer, refused}
 use Rattle.packing.specs.Flow.{flowOf}
 use Rattle.plan_interface.specs.Records.{checkAnswer, readAnswer, recordBy, writeBytes}
@@ -131,7 +131,7 @@ pub record SameNumbers : Type 0 where
   pub printPlan : (image l : List ℕ) → numberOf (printBytes image l) ≡ printedNumber (printAnswer (verdictOf image) image l)
   pub readMessage : (g : List ℕ) → readMessageAnswer g % 256 ≡ parsedNumber (parse g)
   pub writeMessage : (k a b e w : ℕ) (l : List ℕ) → numberOf (writeMessageBytes k a b e w l) ≡ messageNumber (messageBy k a b e w) l
-  pub deviceStart : (image l : List ℕ) → numberOf (Device.startBytes image l) ≡ startNumber 592 (calledNumber (startCall image .answer)) l
+  pub deviceStart : (image l : List ℕ) → numberOf (Device.startBytes image l) ≡ startNumber deviceSize (calledNumber (startCall image .answer)) l
   pub deviceTurn : (image s : List ℕ) (m : ℕ)
       → numberOf (Device.turnBytes image s m) ≡ turningNumber (turnCall image (deviceOf s) m .answer)
   pub deviceRespond : (image s : List ℕ) (m e : ℕ)
@@ -139,7 +139,7 @@ pub record SameNumbers : Type 0 where
   pub deviceTick : (image s : List ℕ) (m f : ℕ) (x : Float)
       → numberOf (Device.tickBytes image s m f x) ≡ calledNumber (tickCall image (deviceOf s) m (flowOf f x) .answer)
   pub moduleStart : (image : List ℕ) (m : ℕ) (l : List ℕ)
-      → numberOf (Module.startBytes image m l) ≡ startNumber 48 (calledNumber (moduleStart image m .answer)) l
+      → numberOf (Module.startBytes image m l) ≡ startNumber moduleSize (calledNumber (moduleStart image m .answer)) l
   pub moduleStep : (image s : List ℕ) (m : ℕ) (l : List ℕ)
       → numberOf (Module.stepBytes image s m l) ≡ steppedNumber (moduleStep image m (moduleOf s) l .answer)
   pub moduleDeliver : (image s : List ℕ) (m : ℕ) (g : List ℕ)
@@ -149,7 +149,7 @@ pub record SameNumbers : Type 0 where
   pub moduleTick : (image s : List ℕ) (m f : ℕ) (x : Float)
       → numberOf (Module.tickBytes image s m f x) ≡ calledNumber (moduleTick image m (moduleOf s) (flowOf f x) .answer)
   pub supervisorStart : (image : List ℕ) (v : ℕ) (l : List ℕ)
-      → numberOf (Supervisor.startBytes image v l) ≡ startNumber 6 (calledNumber (supervisorStart image v .answer)) l
+      → numberOf (Supervisor.startBytes image v l) ≡ startNumber supervisorSize (calledNumber (supervisorStart image v .answer)) l
   pub supervisorStep : (image s : List ℕ) (v : ℕ) (l : List ℕ)
       → numberOf (Supervisor.stepBytes image s v l) ≡ servedNumber (supervisorStep image v (supervisorOf s) l .answer)
   pub supervisorDeliver : (image s : List ℕ) (v : ℕ) (g : List ℕ)

@@ -21,8 +21,9 @@ use Rattle.agreement.specs.System.{Sent, System, Act, moduleStep, supervisorSte
 use Rattle.agreement.specs.Compared.{DeviceAct, deviceTurn, deviceRespond, deviceTick, deviceStep}
 use Rattle.device.specs.Device.{turnCall, respondCall, tickCall}
 use Rattle.device_states.specs.declared.Device.{Device}
-use Rattle.party_bytes.specs.Module.{moduleBytes, moduleOf}
-use Rattle.party_bytes.specs.Supervisor.{supervisorBytes, supervisorOf}
+use Rattle.party_bytes.specs.Module.{moduleSize, moduleBytes, moduleOf}
+use Rattle.party_bytes.specs.Supervisor.{supervisorSize, supervisorBytes, supervisorOf}
+use Rattle.device_bytes.specs.Device.{deviceSize}
 use Rattle.packing.specs.Answer.{Answer}
 use Rattle.device_interface.specs.Calls as DeviceCalls
 use Rattle.module_interface.specs.Calls as ModuleCalls
@@ -111,8 +112,8 @@ bytesRun image B (a ∷ l) =
 unfoldable pub bytesStart : List ℕ → Memory
 bytesStart image =
     record {
-      moduleAt = λ m. ModuleCalls.startBytes image m (replicate 48 0) .buffer;
-      supervisorAt = λ v. SupervisorCalls.startBytes image v (replicate 6 0) .buffer;
+      moduleAt = λ m. ModuleCalls.startBytes image m (replicate moduleSize 0) .buffer;
+      supervisorAt = λ v. SupervisorCalls.startBytes image v (replicate supervisorSize 0) .buffer;
       sent = [];
     }
 
@@ -128,7 +129,7 @@ deviceBytesRun image s (a ∷ l) =
     let c = deviceBytesStep image s a in let r = deviceBytesRun image (c .state) l in record { answers = c ∷ r .answers; memory = r .memory }
 
 unfoldable pub deviceBytesStart : List ℕ → List ℕ
-deviceBytesStart image = DeviceCalls.startBytes image (replicate 592 0) .buffer
+deviceBytesStart image = DeviceCalls.startBytes image (replicate deviceSize 0) .buffer
 
 -- ---- the same calls on states by value, with their answers as numbers and bytes
 

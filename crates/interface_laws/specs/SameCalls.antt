@@ -22,9 +22,9 @@ use Rattle.permits.specs.declared.SupervisorCalled.{SupervisorCalled}
 use Rattle.pieces.specs.Pieces.{starting, pieceTaken, verdictBy}
 use Rattle.pieces.specs.declared.CheckState.{CheckState}
 use Rattle.piece_bytes.specs.State.{stateBytes, StateEncodable}
-use Rattle.party_bytes.specs.Module.{moduleBytes, ModuleEncodable}
-use Rattle.party_bytes.specs.Supervisor.{supervisorBytes, SupervisorEncodable}
-use Rattle.device_bytes.specs.Device.{deviceBytes, DeviceEncodable}
+use Rattle.party_bytes.specs.Module.{moduleSize, moduleBytes, ModuleEncodable}
+use Rattle.party_bytes.specs.Supervisor.{supervisorSize, supervisorBytes, SupervisorEncodable}
+use Rattle.device_bytes.specs.Device.{deviceSize, deviceBytes, DeviceEncodable}
 use Rattle.packing.specs.Answer.{Answer, refused, done, verdictAnswer, calledAnswer, turningAnswer, steppedAnswer, servedAnswer}
 use Rattle.packing.specs.Flow.{flowOf}
 use Rattle.piece_interface.specs.Calls.{checkStartBytes, checkPieceBytes, checkAnswerBytes}
@@ -80,17 +80,18 @@ pub record SameCalls : Type 0 where
   pub deviceTick : (image : List ℕ) (d : Device) (m s : ℕ) (l : Float) → DeviceEncodable d
       → DeviceCalls.tickBytes image (deviceBytes d) m s l ≡ deviceAnswer (tickCall image d m (flowOf s l))
   -- a start that is given room for the state, whatever stood in the bytes lent
-  pub moduleStart : (image : List ℕ) (m : ℕ) (l : List ℕ) → 48 ≤ length l
-      → ModuleCalls.startBytes image m l ≡ startedAnswer 48 (M.moduleStart image m .answer) (moduleBytes (M.moduleStart image m .state)) l
-  pub supervisorStart : (image : List ℕ) (v : ℕ) (l : List ℕ) → 6 ≤ length l
+  pub moduleStart : (image : List ℕ) (m : ℕ) (l : List ℕ) → moduleSize ≤ length l
+      → ModuleCalls.startBytes image m l ≡ startedAnswer moduleSize (M.moduleStart image m .answer) (moduleBytes (M.moduleStart image m .state)) l
+  pub supervisorStart : (image : List ℕ) (v : ℕ) (l : List ℕ) → supervisorSize ≤ length l
       → SupervisorCalls.startBytes image v l
-      ≡ startedAnswer 6 (S.supervisorStart image v .answer) (supervisorBytes (S.supervisorStart image v .state)) l
-  pub deviceStart : (image l : List ℕ) → 592 ≤ length l
-      → DeviceCalls.startBytes image l ≡ startedAnswer 592 (startCall image .answer) (deviceBytes (startCall image .device)) l
+      ≡ startedAnswer supervisorSize (S.supervisorStart image v .answer) (supervisorBytes (S.supervisorStart image v .state)) l
+  pub deviceStart : (image l : List ℕ) → deviceSize ≤ length l
+      → DeviceCalls.startBytes image l ≡ startedAnswer deviceSize (startCall image .answer) (deviceBytes (startCall image .device)) l
   -- a start into zeros leaves the bytes of the state that it gives, also a refused one
-  pub moduleZeros : (image : List ℕ) (m : ℕ) → ModuleCalls.startBytes image m (replicate 48 0) .buffer ≡ moduleBytes (M.moduleStart image m .state)
+  pub moduleZeros : (image : List ℕ) (m : ℕ)
+      → ModuleCalls.startBytes image m (replicate moduleSize 0) .buffer ≡ moduleBytes (M.moduleStart image m .state)
   pub supervisorZeros : (image : List ℕ) (v : ℕ)
-      → SupervisorCalls.startBytes image v (replicate 6 0) .buffer ≡ supervisorBytes (S.supervisorStart image v .state)
+      → SupervisorCalls.startBytes image v (replicate supervisorSize 0) .buffer ≡ supervisorBytes (S.supervisorStart image v .state)
   -- the check in pieces
   pub checkStart : (l : List ℕ) → 495 ≤ length l → checkStartBytes l ≡ startedAnswer 495 Done (stateBytes starting) l
   pub checkPiece : (k : CheckState) (p : List ℕ) → StateEncodable k → checkPieceBytes (stateBytes k) p ≡ takenAnswer (pieceTaken k p)

@@ -19,7 +19,7 @@ use Rattle.permits.specs.declared.Module.{Module}
 use Rattle.permits.specs.declared.ModuleCalled.{ModuleCalled}
 use Rattle.permits.specs.declared.ModuleStepped.{ModuleStepped}
 use Rattle.permits.specs.Step.{Gave}
-use Rattle.party_bytes.specs.Module.{moduleBytes, moduleOf}
+use Rattle.party_bytes.specs.Module.{moduleSize, moduleBytes, moduleOf}
 use Rattle.party_bytes.proofs.Laws.{length-module}
 use Rattle.packing.specs.Answer.{Answered, packed, calledAnswer, steppedAnswer, startAnswer}
 use Rattle.packing.proofs.Accepted.{after-yes, after-no}
@@ -43,25 +43,25 @@ module _ (c : ModuleStepped) (s : List ℕ) {t : Bool} {r : ℕ} where
 -- ---- a start
 
 module _ (c : ModuleCalled) (b : List ℕ) {r : ℕ} where
-  pub give-short : c .answer ≡ Done → length b < 48 → r ≡ packed 15 0 0 0 → Answered (startAnswer 48 (c .answer) (moduleBytes (c .state)) b) r [] b
+  pub give-short : c .answer ≡ Done → length b < moduleSize → r ≡ packed 15 0 0 0 → Answered (startAnswer moduleSize (c .answer) (moduleBytes (c .state)) b) r [] b
   unfolding startAnswer
-  give-short e h w = rw e (simp (lt-ltb (length b) 48 h) (record { answer = w; state = refl; buffer = refl }))
+  give-short e h w = rw e (simp (lt-ltb (length b) moduleSize h) (record { answer = w; state = refl; buffer = refl }))
 
-  pub give-done : {after : List ℕ} → length (c .state .own .queue) ≡ 8 → c .answer ≡ Done → 48 ≤ length b → after ≡ putAt (moduleBytes (c .state)) 0 b → r ≡ packed 0 0 0 48
-      → Answered (startAnswer 48 (c .answer) (moduleBytes (c .state)) b) r [] after
+  pub give-done : {after : List ℕ} → length (c .state .own .queue) ≡ 8 → c .answer ≡ Done → moduleSize ≤ length b → after ≡ putAt (moduleBytes (c .state)) 0 b → r ≡ packed 0 0 0 moduleSize
+      → Answered (startAnswer moduleSize (c .answer) (moduleBytes (c .state)) b) r [] after
   unfolding startAnswer
   give-done n e h w z =
       let fit : short (moduleBytes (c .state)) b ≡ false = le-ltb (length b) (length (moduleBytes (c .state))) (omega (arith, length-module (c .state) n)) in
-      rw e (simp (le-ltb (length b) 48 h) (record { answer = z; state = refl; buffer = w ∙ put-start (moduleBytes (c .state)) b fit }))
+      rw e (simp (le-ltb (length b) moduleSize h) (record { answer = z; state = refl; buffer = w ∙ put-start (moduleBytes (c .state)) b fit }))
 
-  pub give-refused : {n o : ℕ} → c .answer ≡ Refused n o → r ≡ packed n 0 0 o → Answered (startAnswer 48 (c .answer) (moduleBytes (c .state)) b) r [] b
+  pub give-refused : {n o : ℕ} → c .answer ≡ Refused n o → r ≡ packed n 0 0 o → Answered (startAnswer moduleSize (c .answer) (moduleBytes (c .state)) b) r [] b
   unfolding startAnswer
   give-refused e w = rw e (record { answer = w; state = refl; buffer = refl })
 
 module _ (image : List ℕ) (m : ℕ) {r : ℕ} {after : List ℕ} where
-  pub start-by : (b : List ℕ) {c : ModuleCalled} → c ≡ moduleStart image m → Answered (startAnswer 48 (c .answer) (moduleBytes (c .state)) b) r [] after → Answered (startBytes image m b) r [] after
+  pub start-by : (b : List ℕ) {c : ModuleCalled} → c ≡ moduleStart image m → Answered (startAnswer moduleSize (c .answer) (moduleBytes (c .state)) b) r [] after → Answered (startBytes image m b) r [] after
   unfolding startBytes
-  start-by b e a = subst (λ (c : ModuleCalled). Answered (startAnswer 48 (c .answer) (moduleBytes (c .state)) b) r [] after) e a
+  start-by b e a = subst (λ (c : ModuleCalled). Answered (startAnswer moduleSize (c .answer) (moduleBytes (c .state)) b) r [] after) e a
 
   -- ---- calls on a state
   module _ (s : List ℕ) {x : Module} (w : x ≡ moduleOf s) where

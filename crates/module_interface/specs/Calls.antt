@@ -9,7 +9,7 @@ use Rattle.permits.specs.Module.{StepCall, moduleStart, moduleStep, moduleDeliv
 use Rattle.permits.specs.declared.Module.{Module}
 use Rattle.permits.specs.declared.ModuleCalled.{ModuleCalled}
 use Rattle.permits.specs.declared.Stepped.{Stepped}
-use Rattle.party_bytes.specs.Module.{moduleBytes, moduleOf}
+use Rattle.party_bytes.specs.Module.{moduleSize, moduleBytes, moduleOf}
 use Rattle.packing.specs.Answer.{Answer, calledAnswer, steppedAnswer, lentAfter, startAnswer}
 use Rattle.packing.specs.Flow.{flowOf}
 
@@ -24,7 +24,7 @@ abbrev pub steppedOn : Stepped → Module → List ℕ → List ℕ → Answer
 steppedOn a x s buffer = record { number = steppedAnswer a; state = moduleAfter (steppedNumber a) x s; buffer = buffer }
 
 unfoldable pub startBytes : List ℕ → ℕ → List ℕ → Answer
-startBytes image m b = startAnswer 48 (moduleStart image m .answer) (moduleBytes (moduleStart image m .state)) b
+startBytes image m b = startAnswer moduleSize (moduleStart image m .answer) (moduleBytes (moduleStart image m .state)) b
 
 abbrev pub stepOn : StepCall → List ℕ → Answer
 stepOn c s = steppedOn (c .answer) (c .state) s (c .buffer)

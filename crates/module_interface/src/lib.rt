@@ -1,6 +1,6 @@
 // The calls of a module on its own device over lent bytes: specs/Calls.antt.
 ghost use mathlib.Core.List.{[]};
-ghost use Rattle.party_bytes.specs.Module.{moduleBytes};
+ghost use Rattle.party_bytes.specs.Module.{moduleSize, moduleBytes};
 ghost use Rattle.packing.specs.Answer.{Answered, startAnswer};
 ghost use Rattle.module_interface.specs.Calls.{calledOn, steppedOn, startBytes, stepBytes, deliverBytes, respondBytes, tickBytes};
 use modules::Called;
@@ -34,17 +34,17 @@ fn keep_step(state: &mut [u8], c: ModuleStepped) -> u64
 
 // The state at a start.
 fn give(buffer: &mut [u8], c: ModuleCalled) -> u64
-    ensures { λ r. ⌜ Answered (startAnswer 48 (c .answer) (moduleBytes (c .state)) (now (buffer .entry))) r [] (now (buffer .exit)) ⌝ }
+    ensures { λ r. ⌜ Answered (startAnswer moduleSize (c .answer) (moduleBytes (c .state)) (now (buffer .entry))) r [] (now (buffer .exit)) ⌝ }
 {
     let answer = c.answer;
     let x = c.state;
     match answer {
         Called::Done => {
-            if buffer.len() < 48 {
+            if buffer.len() < party_bytes::MODULE_SIZE {
                 return packing::pack(15, 0, 0, 0);
             }
             party_bytes::put_module(&mut *buffer, x);
-            packing::pack(0, 0, 0, 48)
+            packing::pack(0, 0, 0, party_bytes::MODULE_SIZE)
         }
         Called::Refused(n, o) => packing::pack(n, 0, 0, o),
     }

@@ -1,4 +1,4 @@
--- An own part is read from its 35 bytes alone, one that fits has no NaN, and bytes that are all 0 are an empty one.
+-- An own part is read from its bytes alone, one that fits has no NaN, and bytes that are all 0 are an empty one.
 use mathlib.Core.Path.{_≡_, refl, ap, ap₂, _∙_}
 use mathlib.Core.List.{List, [], _∷_}
 use mathlib.Core.Bool.{Bool, true, false, cond, _&&_}
@@ -22,17 +22,17 @@ use Rattle.modules.specs.declared.Procedure.{Procedure}
 use Rattle.fields.specs.Fields.{bytesFrom, halfAt, isFlag, isFloat}
 use Rattle.fields.proofs.Back.{and-left, and-right}
 use borrow.Author.Tests.{eqb-true, lt-ltb, le-ltb}
-use Rattle.own_bytes.specs.Own.{procedureOf, ownOf, isOwn, unfitOwn, ownRead, ownStands}
+use Rattle.own_bytes.specs.Own.{ownSize, procedureOf, ownOf, isOwn, unfitOwn, ownRead, ownStands}
 
--- ---- the same 35 bytes
+-- ---- the same bytes
 
-module _ (b c : List ℕ) (same : (i : ℕ) → i < 35 → getD b i 0 ≡ getD c i 0) where
-  word-same : (o : ℕ) → o + 8 ≤ 35 → wordAt b o ≡ wordAt c o
+module _ (b c : List ℕ) (same : (i : ℕ) → i < ownSize → getD b i 0 ≡ getD c i 0) where
+  word-same : (o : ℕ) → o + 8 ≤ ownSize → wordAt b o ≡ wordAt c o
   unfolding wordAt
   word-same o h =
       simp (same o (omega arith), same (o + 1) (omega arith), same (o + 2) (omega arith), same (o + 3) (omega arith), same (o + 4) (omega arith), same (o + 5) (omega arith), same (o + 6) (omega arith), same (o + 7) (omega arith))
 
-  from-same : (n o : ℕ) → o + n ≤ 35 → bytesFrom b o n ≡ bytesFrom c o n
+  from-same : (n o : ℕ) → o + n ≤ ownSize → bytesFrom b o n ≡ bytesFrom c o n
   unfolding bytesFrom
   from-same zero o h = refl
   from-same (suc n) o h = ap₂ _∷_ (same o (omega arith)) (from-same n (suc o) (omega arith))
@@ -57,30 +57,30 @@ module _ (b c : List ℕ) (same : (i : ℕ) → i < 35 → getD b i 0 ≡ getD c
 -- ---- a slice of just those bytes
 
 module _ (b : List ℕ) where
-  pub is-short : length b < 35 → false ≡ ownStands b
+  pub is-short : length b < ownSize → false ≡ ownStands b
   unfolding ownStands
-  is-short h = simp (lt-ltb (length b) 35 h)
+  is-short h = simp (lt-ltb (length b) ownSize h)
 
-  pub is-window : {r : Bool} → 35 ≤ length b → r ≡ isOwn (take 35 b) → r ≡ ownStands b
+  pub is-window : {r : Bool} → ownSize ≤ length b → r ≡ isOwn (take ownSize b) → r ≡ ownStands b
   unfolding ownStands
-  is-window h e = simp (le-ltb (length b) 35 h) (e ∙ is-same (take 35 b) b (λ i k. getD-take 35 b i 0 k))
+  is-window h e = simp (le-ltb (length b) ownSize h) (e ∙ is-same (take ownSize b) b (λ i k. getD-take ownSize b i 0 k))
 
-  pub own-short : {r : Own} → length b < 35 → r ≡ unfitOwn → r ≡ ownRead b
+  pub own-short : {r : Own} → length b < ownSize → r ≡ unfitOwn → r ≡ ownRead b
   unfolding ownRead
-  own-short h e = simp (lt-ltb (length b) 35 h) e
+  own-short h e = simp (lt-ltb (length b) ownSize h) e
 
-  pub own-window : {r : Own} → 35 ≤ length b → r ≡ ownOf (take 35 b) → r ≡ ownRead b
+  pub own-window : {r : Own} → ownSize ≤ length b → r ≡ ownOf (take ownSize b) → r ≡ ownRead b
   unfolding ownRead
-  own-window h e = simp (le-ltb (length b) 35 h) (e ∙ own-same (take 35 b) b (λ i k. getD-take 35 b i 0 k))
+  own-window h e = simp (le-ltb (length b) ownSize h) (e ∙ own-same (take ownSize b) b (λ i k. getD-take ownSize b i 0 k))
 
   -- bytes that are enough
-  pub stands-all : 35 ≤ length b → ownStands b ≡ isOwn b
+  pub stands-all : ownSize ≤ length b → ownStands b ≡ isOwn b
   unfolding ownStands
-  stands-all h = simp (le-ltb (length b) 35 h)
+  stands-all h = simp (le-ltb (length b) ownSize h)
 
-  pub read-all : 35 ≤ length b → ownRead b ≡ ownOf b
+  pub read-all : ownSize ≤ length b → ownRead b ≡ ownOf b
   unfolding ownRead
-  read-all h = simp (le-ltb (length b) 35 h)
+  read-all h = simp (le-ltb (length b) ownSize h)
 
 -- ---- an own part that fits, or is empty, has no NaN
 
@@ -135,7 +135,7 @@ zero-at (x ∷ s) h zero = eqb-true x 0 (and-left (eqb x 0) (allZero s) h)
 zero-at (x ∷ s) h (suc i) = zero-at s (and-right (eqb x 0) (allZero s) h) i
 
 -- they stand for an own part, and for an empty one
-module _ (b : List ℕ) (h : (i : ℕ) → i < 35 → getD b i 0 ≡ 0) where
+module _ (b : List ℕ) (h : (i : ℕ) → i < ownSize → getD b i 0 ≡ 0) where
   pub zeros-stand : isOwn b ≡ true
   zeros-stand = is-same b [] h ∙ (unfold isOwn wordAt nanBits in refl)
 

@@ -11,13 +11,13 @@ use Rattle.modules.specs.declared.Own.{Own}
 use Rattle.modules.specs.declared.Procedure.{Procedure}
 use Rattle.fields.specs.Fields.{halfBytes, flagByte, floatBytes}
 use Rattle.fields.proofs.Writing.{join, next}
-use Rattle.own_bytes.specs.Own.{procedureBytes, ownBytes}
+use Rattle.own_bytes.specs.Own.{ownSize, procedureBytes, ownBytes}
 
 pub length-procedure : (p : Procedure) → length (procedureBytes p) ≡ 21
 unfolding procedureBytes halfBytes wordBytes
 length-procedure p = refl
 
-pub length-own : (own : Own) → length (own .queue) ≡ 8 → length (ownBytes own) ≡ 35
+pub length-own : (own : Own) → length (own .queue) ≡ 8 → length (ownBytes own) ≡ ownSize
 unfolding ownBytes quadBytes
 length-own own n =
     let a : List ℕ = own .state ∷ own .length ∷ [] in
@@ -39,7 +39,7 @@ module _ (l : List ℕ) (o : ℕ) where
       let d : List ℕ = floatBytes (p .water .total) in
       next l o (a ++ b ++ c) d (o + 13) (next l o (a ++ b) c (o + 5) (next l o a b (o + 3) (first ∙ ap (λ (y : ℕ). sets l o (y ∷ p .event ∷ p .index ∷ [])) z) refl (omega arith) g) refl (omega arith) h) refl (omega arith) k
 
-  pub own-put : {s1 s2 s3 s4 : List ℕ} (own : Own) → length (own .queue) ≡ 8 → o + 35 ≤ length l → s1 ≡ putAt (own .state ∷ own .length ∷ []) o l
+  pub own-put : {s1 s2 s3 s4 : List ℕ} (own : Own) → length (own .queue) ≡ 8 → o + ownSize ≤ length l → s1 ≡ putAt (own .state ∷ own .length ∷ []) o l
       → s2 ≡ putAt (own .queue) (o + 2) s1 → s3 ≡ sets s2 (o + 10) (procedureBytes (own .procedure)) → s4 ≡ putAt (quadBytes (own .outputs)) (o + 31) s3
       → s4 ≡ sets l o (ownBytes own)
   unfolding ownBytes

@@ -16,6 +16,10 @@ use Rattle.modules.specs.declared.Procedure.{Procedure}
 use Rattle.words.specs.Word.{quadBytes, quadAt}
 use Rattle.fields.specs.Fields.{bytesFrom, halfBytes, halfAt, flagByte, flagOf, isFlag, floatBytes, floatAt, isFloat, Number}
 
+-- its bytes
+abbrev pub ownSize : ℕ
+ownSize = 35
+
 unfoldable pub procedureBytes : Procedure → List ℕ
 procedureBytes p =
     flagByte (p .running) ∷ p .event ∷ p .index ∷ (halfBytes (p .count) ++ floatBytes (p .water .target) ++ floatBytes (p .water .total))
@@ -46,12 +50,12 @@ isOwn b = isFlag (getD b 10 0) && isFloat b 15 && isFloat b 23
 abbrev pub unfitOwn : Own
 unfitOwn = record { state = 0; queue = replicate 8 0; length = 255; procedure = idle; outputs = 0 }
 
--- what is read of bytes: fewer than 35 stand for no own part, and give one that fits no plan
+-- what is read of bytes: fewer than its own stand for no own part, and give one that fits no plan
 unfoldable pub ownStands : List ℕ → Bool
-ownStands b = cond (ltb (length b) 35) false (isOwn b)
+ownStands b = cond (ltb (length b) ownSize) false (isOwn b)
 
 unfoldable pub ownRead : List ℕ → Own
-ownRead b = cond (ltb (length b) 35) unfitOwn (ownOf b)
+ownRead b = cond (ltb (length b) ownSize) unfitOwn (ownOf b)
 
 -- ---- what is proved of them
 
@@ -75,7 +79,7 @@ pub record OwnRead (own : Own) (rest : List ℕ) : Type 0 where
 
 -- and bytes that stand for an own part are those of that own part
 abbrev pub OwnWritten : List ℕ → Type 0
-OwnWritten b = ownBytes (ownOf b) ≡ bytesFrom b 0 35
+OwnWritten b = ownBytes (ownOf b) ≡ bytesFrom b 0 ownSize
 
 pub record OwnParts : Type 0 where
   pub read : (own : Own) (rest : List ℕ) → OwnEncodable own → OwnRead own rest
@@ -83,4 +87,4 @@ pub record OwnParts : Type 0 where
   pub unfit : (rs : List Record) (m : ℕ) → ownFits rs m unfitOwn ≡ false
   -- nor is it the slot of a module that the plan lacks
   pub unfitEmpty : ownEmpty unfitOwn ≡ false
-  pub size : (own : Own) → length (own .queue) ≡ 8 → length (ownBytes own) ≡ 35
+  pub size : (own : Own) → length (own .queue) ≡ 8 → length (ownBytes own) ≡ ownSize

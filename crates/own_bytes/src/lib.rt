@@ -5,10 +5,13 @@ ghost use lib.ListN.{length};
 ghost use lib.Seq.{sets};
 ghost use Rattle.messages.specs.Message.{putAt};
 ghost use Rattle.fields.specs.Fields.{bytesFrom, floatAt};
-ghost use Rattle.own_bytes.specs.Own.{procedureBytes, ownBytes, procedureOf, ownOf, isOwn, unfitOwn, ownRead, ownStands};
+ghost use Rattle.own_bytes.specs.Own.{ownSize, procedureBytes, ownBytes, procedureOf, ownOf, isOwn, unfitOwn, ownRead, ownStands};
 use modules::Own;
 use modules::Procedure;
 use water::Water;
+
+// The bytes of an own part: `ownSize` of the specs.
+pub const OWN_SIZE: usize = 35;
 
 // ---- an own part read
 
@@ -73,10 +76,10 @@ fn own_in(s: &[u8]) -> Own
 pub fn own_of(s: &[u8]) -> Own
     ensures { λ r. ⌜ r ≡ ownRead (now (s .entry)) ⌝ }
 {
-    if s.len() < 35 {
+    if s.len() < OWN_SIZE {
         return unfit();
     }
-    own_in(&s[0..35])
+    own_in(&s[0..OWN_SIZE])
 }
 
 fn is_own_in(s: &[u8]) -> bool
@@ -89,10 +92,10 @@ fn is_own_in(s: &[u8]) -> bool
 pub fn is_own(s: &[u8]) -> bool
     ensures { λ r. ⌜ r ≡ ownStands (now (s .entry)) ⌝ }
 {
-    if s.len() < 35 {
+    if s.len() < OWN_SIZE {
         return false;
     }
-    is_own_in(&s[0..35])
+    is_own_in(&s[0..OWN_SIZE])
 }
 
 // ---- an own part written
@@ -109,7 +112,7 @@ fn put_procedure(s: &mut [u8], o: usize, p: Procedure)
 }
 
 fn put_own_in(s: &mut [u8], o: usize, own: Own)
-    requires { ⌜ o + 35 ≤ length (now s) ⌝ }
+    requires { ⌜ o + ownSize ≤ length (now s) ⌝ }
     ensures { λ _. ⌜ now (s .exit) ≡ sets (now (s .entry)) o (ownBytes own) ⌝ }
 {
     let queue = own.queue;
@@ -124,8 +127,8 @@ fn put_own_in(s: &mut [u8], o: usize, own: Own)
 pub fn put_own(s: &mut [u8], o: usize, own: Own)
     ensures { λ _. ⌜ now (s .exit) ≡ putAt (ownBytes own) o (now (s .entry)) ⌝ }
 {
-    if 35 <= s.len() {
-        if o <= s.len() - 35 {
+    if OWN_SIZE <= s.len() {
+        if o <= s.len() - OWN_SIZE {
             put_own_in(&mut *s, o, own);
         }
     }

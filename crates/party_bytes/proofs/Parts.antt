@@ -2,7 +2,7 @@
 use mathlib.Core.Path.{_≡_, refl, sym, ap, ap₂, _∙_}
 use mathlib.Core.List.{List, [], _∷_, _++_, append-assoc}
 use mathlib.Core.Bool.{Bool, true, false, not, _&&_, _||_}
-use Prim.Native.Nat.{ℕ, zero, suc, _^_, _<_}
+use Prim.Native.Nat.{ℕ, zero, suc, _+_, _^_, _<_}
 use native.Mathlib.Omega.{arith}
 use lib.ListN.{length, getD, drop, length-append}
 use lib.Dec.{eqb}
@@ -24,16 +24,16 @@ use Rattle.permits.specs.declared.Holder.{Holder}
 use Rattle.permits.specs.declared.Holder.the-variants.{Home, Out}
 use Rattle.fields.specs.Fields.{bytesFrom, halfBytes, halfAt, flagByte, flagOf, isFlag}
 use Rattle.fields.proofs.Back.{and-left, and-right, from-all, flag-written, half-written, quad-written, word-from, flag-read, flag-is, half-read}
-use Rattle.own_bytes.specs.Own.{ownBytes, ownOf, isOwn}
+use Rattle.own_bytes.specs.Own.{ownSize, ownBytes, ownOf, isOwn}
 use Rattle.own_bytes.proofs.Writing.{length-own}
 use Rattle.own_bytes.proofs.Parts.{own-parts}
-use Rattle.party_bytes.specs.Module.{moduleBytes, moduleAt, isModule, unfitModule, ModuleEncodable, ModuleParts}
-use Rattle.party_bytes.specs.Supervisor.{isOut, holderByte, holderOf, supervisorBytes, supervisorAt, isSupervisor, unfitSupervisor, SupervisorParts}
+use Rattle.party_bytes.specs.Module.{moduleSize, moduleBytes, moduleAt, isModule, unfitModule, ModuleEncodable, ModuleParts}
+use Rattle.party_bytes.specs.Supervisor.{supervisorSize, isOut, holderByte, holderOf, supervisorBytes, supervisorAt, isSupervisor, unfitSupervisor, SupervisorParts}
 use Rattle.party_bytes.proofs.Laws.{length-module, length-supervisor}
 
 -- ---- a module
 
--- its bytes from 35 and from 39 on, and the last
+-- its bytes behind the own part, and behind the permits held, and the last
 module _ (x : Module) (n : length (x .own .queue) ≡ 8) where
   abbrev a : List ℕ
   a = ownBytes (x .own)
@@ -51,30 +51,30 @@ module _ (x : Module) (n : length (x .own .queue) ≡ 8) where
   unfolding moduleBytes
   from-own = append-assoc (a ++ b) c d ∙ append-assoc a b (c ++ d)
 
-  from-held : drop 35 (moduleBytes x) ≡ b ++ (c ++ d)
-  from-held = ap (drop 35) from-own ∙ drop-at a (b ++ (c ++ d)) 35 (length-own (x .own) n)
+  from-held : drop ownSize (moduleBytes x) ≡ b ++ (c ++ d)
+  from-held = ap (drop ownSize) from-own ∙ drop-at a (b ++ (c ++ d)) ownSize (length-own (x .own) n)
 
-  from-received : drop 39 (moduleBytes x) ≡ c ++ d
+  from-received : drop (ownSize + 4) (moduleBytes x) ≡ c ++ d
   unfolding moduleBytes
   from-received =
-      let l : length (a ++ b) ≡ 39 = omega (arith, length-append a b, length-own (x .own) n, length-quad (x .held)) in
-      ap (drop 39) (append-assoc (a ++ b) c d) ∙ drop-at (a ++ b) (c ++ d) 39 l
+      let l : length (a ++ b) ≡ ownSize + 4 = omega (arith, length-append a b, length-own (x .own) n, length-quad (x .held)) in
+      ap (drop (ownSize + 4)) (append-assoc (a ++ b) c d) ∙ drop-at (a ++ b) (c ++ d) (ownSize + 4) l
 
-  from-bid : drop 47 (moduleBytes x) ≡ d
+  from-bid : drop (ownSize + 12) (moduleBytes x) ≡ d
   unfolding moduleBytes
   from-bid =
-      let l : length (a ++ b ++ c) ≡ 47 = omega (arith, length-append a b, length-append (a ++ b) c, length-own (x .own) n, length-quad (x .held), length-word (x .received)) in
-      drop-at (a ++ b ++ c) d 47 l
+      let l : length (a ++ b ++ c) ≡ ownSize + 12 = omega (arith, length-append a b, length-append (a ++ b) c, length-own (x .own) n, length-quad (x .held), length-word (x .received)) in
+      drop-at (a ++ b ++ c) d (ownSize + 12) l
 
-  bid-byte : getD (moduleBytes x) 47 0 ≡ flagByte (x .bid)
-  bid-byte = sym (getD-drop 47 (moduleBytes x) 0 0) ∙ ap (λ (s : List ℕ). getD s 0 0) from-bid
+  bid-byte : getD (moduleBytes x) (ownSize + 12) 0 ≡ flagByte (x .bid)
+  bid-byte = sym (getD-drop (ownSize + 12) (moduleBytes x) 0 0) ∙ ap (λ (s : List ℕ). getD s 0 0) from-bid
 
 module-stands : (x : Module) → ModuleEncodable x → isModule (moduleBytes x) ≡ true
 unfolding isModule
 module-stands x h =
     let n : length (x .own .queue) ≡ 8 = h .own .places in
     ap₂ _&&_
-    (ap₂ _&&_ (eq-eqb (length (moduleBytes x)) 48 (length-module x n)) (ap isOwn (from-own x n) ∙ own-parts .read (x .own) (b x n ++ (c x n ++ d x n)) (h .own) .stands))
+    (ap₂ _&&_ (eq-eqb (length (moduleBytes x)) moduleSize (length-module x n)) (ap isOwn (from-own x n) ∙ own-parts .read (x .own) (b x n ++ (c x n ++ d x n)) (h .own) .stands))
     (ap isFlag (bid-byte x n) ∙ flag-is (x .bid))
 
 module-back : (x : Module) → ModuleEncodable x → moduleAt (moduleBytes x) ≡ x
@@ -82,24 +82,24 @@ unfolding moduleAt
 module-back x h =
     let n : length (x .own .queue) ≡ 8 = h .own .places in
     let own : ownOf (moduleBytes x) ≡ x .own = ap ownOf (from-own x n) ∙ own-parts .read (x .own) (b x n ++ (c x n ++ d x n)) (h .own) .back in
-    let held : quadAt (moduleBytes x) 35 ≡ x .held = sym (quad-drop 35 (moduleBytes x) 0) ∙ ap (λ (s : List ℕ). quadAt s 0) (from-held x n) ∙ quad-read (x .held) (c x n ++ d x n) (h .held) in
-    let received : wordAt (moduleBytes x) 39 ≡ x .received = sym (word-drop 39 (moduleBytes x) 0) ∙ ap (λ (s : List ℕ). wordAt s 0) (from-received x n) ∙ word-read (x .received) (d x n) (h .received) in
-    let bid : flagOf (getD (moduleBytes x) 47 0) ≡ x .bid = ap flagOf (bid-byte x n) ∙ flag-read (x .bid) in
-    ap₂ (λ (y : Own) (z : ℕ). record { own = y; held = z; received = wordAt (moduleBytes x) 39; bid = flagOf (getD (moduleBytes x) 47 0) }) own held
+    let held : quadAt (moduleBytes x) ownSize ≡ x .held = sym (quad-drop ownSize (moduleBytes x) 0) ∙ ap (λ (s : List ℕ). quadAt s 0) (from-held x n) ∙ quad-read (x .held) (c x n ++ d x n) (h .held) in
+    let received : wordAt (moduleBytes x) (ownSize + 4) ≡ x .received = sym (word-drop (ownSize + 4) (moduleBytes x) 0) ∙ ap (λ (s : List ℕ). wordAt s 0) (from-received x n) ∙ word-read (x .received) (d x n) (h .received) in
+    let bid : flagOf (getD (moduleBytes x) (ownSize + 12) 0) ≡ x .bid = ap flagOf (bid-byte x n) ∙ flag-read (x .bid) in
+    ap₂ (λ (y : Own) (z : ℕ). record { own = y; held = z; received = wordAt (moduleBytes x) (ownSize + 4); bid = flagOf (getD (moduleBytes x) (ownSize + 12) 0) }) own held
     ∙ ap₂ (λ (y : ℕ) (z : Bool). record { own = x .own; held = x .held; received = y; bid = z }) received bid
 
 module-written : (s : List ℕ) → Bytes s → isModule s ≡ true → moduleBytes (moduleAt s) ≡ s
 unfolding isModule moduleBytes moduleAt bytesFrom
 module-written s g h =
-    let L : Bool = eqb (length s) 48 in
+    let L : Bool = eqb (length s) moduleSize in
     let O : Bool = isOwn s in
-    let F : Bool = isFlag (getD s 47 0) in
-    let l : length s ≡ 48 = eqb-true (length s) 48 (and-left L O (and-left (L && O) F h)) in
+    let F : Bool = isFlag (getD s (ownSize + 12) 0) in
+    let l : length s ≡ moduleSize = eqb-true (length s) moduleSize (and-left L O (and-left (L && O) F h)) in
     let o : O ≡ true = and-right L O (and-left (L && O) F h) in
     let f : F ≡ true = and-right (L && O) F h in
     ap₂ (λ (y : List ℕ) (z : ℕ). y ++ (z ∷ []))
-    (ap₂ (λ (y z : List ℕ). y ++ z) (ap₂ (λ (y z : List ℕ). y ++ z) (own-parts .written s g o) (quad-written s g 35)) (word-from s g 39))
-    (flag-written (getD s 47 0) f)
+    (ap₂ (λ (y z : List ℕ). y ++ z) (ap₂ (λ (y z : List ℕ). y ++ z) (own-parts .written s g o) (quad-written s g ownSize)) (word-from s g (ownSize + 4)))
+    (flag-written (getD s (ownSize + 12) 0) f)
     ∙ ap (bytesFrom s 0) (sym l) ∙ from-all s
 
 and-false : (p : Bool) → (p && false) ≡ false
@@ -147,10 +147,10 @@ module _ (m : ℕ) where
 supervisor-written : (s : List ℕ) → Bytes s → isSupervisor s ≡ true → supervisorBytes (supervisorAt s) ≡ s
 unfolding isSupervisor supervisorBytes supervisorAt bytesFrom
 supervisor-written s g h =
-    let L : Bool = eqb (length s) 6 in
+    let L : Bool = eqb (length s) supervisorSize in
     let F : Bool = isFlag (getD s 3 0) in
     let H : Bool = flagOf (getD s 3 0) || eqb (getD s 4 0) 0 in
-    let l : length s ≡ 6 = eqb-true (length s) 6 (and-left L F (and-left (L && F) H h)) in
+    let l : length s ≡ supervisorSize = eqb-true (length s) supervisorSize (and-left L F (and-left (L && F) H h)) in
     let f : F ≡ true = and-right L F (and-left (L && F) H h) in
     let k : H ≡ true = and-right (L && F) H h in
     ap₂ (λ (y z : List ℕ). getD s 0 0 ∷ (y ++ z)) (half-written s g 1)

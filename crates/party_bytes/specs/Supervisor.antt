@@ -14,6 +14,10 @@ use Rattle.permits.specs.declared.Holder.{Holder}
 use Rattle.permits.specs.declared.Holder.the-variants.{Home, Out}
 use Rattle.fields.specs.Fields.{halfBytes, halfAt, flagByte, flagOf, isFlag}
 
+-- its bytes
+abbrev pub supervisorSize : ℕ
+supervisorSize = 6
+
 unfoldable pub isOut : Holder → Bool
 isOut Home = false
 isOut (Out m) = true
@@ -35,7 +39,7 @@ supervisorAt b =
 
 -- the header: "Bytes of another length, a flag other than 0 and 1, a holder of a permit at home .. stand for no state"
 unfoldable pub isSupervisor : List ℕ → Bool
-isSupervisor b = eqb (length b) 6 && isFlag (getD b 3 0) && (flagOf (getD b 3 0) || eqb (getD b 4 0) 0)
+isSupervisor b = eqb (length b) supervisorSize && isFlag (getD b 3 0) && (flagOf (getD b 3 0) || eqb (getD b 4 0) 0)
 
 -- a supervisor that fits no plan: its place last served is none
 abbrev pub unfitSupervisor : Supervisor
@@ -60,5 +64,5 @@ pub record SupervisorParts : Type 0 where
   pub back : (y : Supervisor) → SupervisorEncodable y → supervisorAt (supervisorBytes y) ≡ y
   -- and bytes that stand for a supervisor are those of that supervisor
   pub written : (b : List ℕ) → Bytes b → isSupervisor b ≡ true → supervisorBytes (supervisorAt b) ≡ b
-  pub size : (y : Supervisor) → length (supervisorBytes y) ≡ 6
+  pub size : (y : Supervisor) → length (supervisorBytes y) ≡ supervisorSize
   pub unfit : (rs : List Record) (v : ℕ) → supervisorFits rs v unfitSupervisor ≡ false

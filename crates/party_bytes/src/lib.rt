@@ -2,32 +2,44 @@
 ghost use mathlib.Core.Path.{_≡_};
 ghost use lib.ListN.{length};
 ghost use Rattle.messages.specs.Message.{putAt};
-ghost use Rattle.party_bytes.specs.Module.{moduleBytes, moduleAt, isModule, unfitModule, moduleOf};
+ghost use Rattle.party_bytes.specs.Module.{moduleSize, moduleBytes, moduleAt, isModule, unfitModule, moduleOf};
 ghost use Rattle.party_bytes.specs.Supervisor.{isOut, holderByte, holderOf, supervisorBytes, supervisorAt, isSupervisor, unfitSupervisor, supervisorOf};
 use modules::Own;
 use permits::Holder;
 use permits::Module;
 use permits::Supervisor;
 
+// The bytes of each: `moduleSize` and `supervisorSize` of the specs.
+pub const MODULE_SIZE: usize = own_bytes::OWN_SIZE + 13;
+
+pub const SUPERVISOR_SIZE: usize = 6;
+
+// What stands behind a module's own part.
+const HELD: usize = own_bytes::OWN_SIZE;
+
+const RECEIVED: usize = own_bytes::OWN_SIZE + 4;
+
+const BID: usize = own_bytes::OWN_SIZE + 12;
+
 // ---- a module
 
 fn is_module(s: &[u8]) -> bool
     ensures { λ r. ⌜ r ≡ isModule (now (s .entry)) ⌝ }
 {
-    if s.len() != 48 {
+    if s.len() != MODULE_SIZE {
         return false;
     }
-    own_bytes::is_own(s) & (words::byte_at(s, 47) < 2)
+    own_bytes::is_own(s) & (words::byte_at(s, BID) < 2)
 }
 
 fn module_at(s: &[u8]) -> Module
-    requires { ⌜ length (now s) ≡ 48 ⌝ }
+    requires { ⌜ length (now s) ≡ moduleSize ⌝ }
     ensures { λ r. ⌜ r ≡ moduleAt (now (s .entry)) ⌝ }
 {
     let own = own_bytes::own_of(s);
-    let held = words::quad_at(s, 35);
-    let received = words::word_at(s, 39);
-    let flag = words::byte_at(s, 47);
+    let held = words::quad_at(s, HELD);
+    let received = words::word_at(s, RECEIVED);
+    let flag = words::byte_at(s, BID);
     Module {
         own,
         held,
@@ -63,12 +75,12 @@ pub fn read_module(s: &[u8]) -> Module
 pub fn put_module(s: &mut [u8], x: Module)
     ensures { λ _. ⌜ now (s .exit) ≡ putAt (moduleBytes x) 0 (now (s .entry)) ⌝ }
 {
-    if 48 <= s.len() {
+    if MODULE_SIZE <= s.len() {
         let own = x.own;
         own_bytes::put_own(&mut *s, 0, own);
-        words::put_quad(&mut *s, 35, x.held);
-        words::put_word(&mut *s, 39, x.received);
-        s[47] = fields::flag_of(x.bid);
+        words::put_quad(&mut *s, HELD, x.held);
+        words::put_word(&mut *s, RECEIVED, x.received);
+        s[BID] = fields::flag_of(x.bid);
     }
 }
 
@@ -79,7 +91,7 @@ fn is_supervisor(s: &[u8]) -> bool
 {
     let flag = words::byte_at(s, 3);
     let holder = words::byte_at(s, 4);
-    (s.len() == 6) & (flag < 2) & ((flag == 1) | (holder == 0))
+    (s.len() == SUPERVISOR_SIZE) & (flag < 2) & ((flag == 1) | (holder == 0))
 }
 
 fn holder_of(out: bool, m: u8) -> Holder

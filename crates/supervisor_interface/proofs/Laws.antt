@@ -17,7 +17,7 @@ use Rattle.permits.specs.declared.Supervisor.{Supervisor}
 use Rattle.permits.specs.declared.SupervisorCalled.{SupervisorCalled}
 use Rattle.permits.specs.declared.SupervisorStepped.{SupervisorStepped}
 use Rattle.permits.specs.Step.{Gave}
-use Rattle.party_bytes.specs.Supervisor.{supervisorBytes, supervisorOf}
+use Rattle.party_bytes.specs.Supervisor.{supervisorSize, supervisorBytes, supervisorOf}
 use Rattle.party_bytes.proofs.Laws.{length-supervisor}
 use Rattle.packing.specs.Answer.{Answered, packed, calledAnswer, servedAnswer, startAnswer}
 use Rattle.packing.proofs.Accepted.{after-yes, after-no}
@@ -40,25 +40,25 @@ module _ (c : SupervisorStepped) (s : List ℕ) {t : Bool} {r : ℕ} where
 -- ---- a start
 
 module _ (c : SupervisorCalled) (b : List ℕ) {r : ℕ} where
-  pub give-short : c .answer ≡ Done → length b < 6 → r ≡ packed 15 0 0 0 → Answered (startAnswer 6 (c .answer) (supervisorBytes (c .state)) b) r [] b
+  pub give-short : c .answer ≡ Done → length b < supervisorSize → r ≡ packed 15 0 0 0 → Answered (startAnswer supervisorSize (c .answer) (supervisorBytes (c .state)) b) r [] b
   unfolding startAnswer
-  give-short e h w = rw e (simp (lt-ltb (length b) 6 h) (record { answer = w; state = refl; buffer = refl }))
+  give-short e h w = rw e (simp (lt-ltb (length b) supervisorSize h) (record { answer = w; state = refl; buffer = refl }))
 
-  pub give-done : {after : List ℕ} → c .answer ≡ Done → 6 ≤ length b → after ≡ putAt (supervisorBytes (c .state)) 0 b → r ≡ packed 0 0 0 6
-      → Answered (startAnswer 6 (c .answer) (supervisorBytes (c .state)) b) r [] after
+  pub give-done : {after : List ℕ} → c .answer ≡ Done → supervisorSize ≤ length b → after ≡ putAt (supervisorBytes (c .state)) 0 b → r ≡ packed 0 0 0 supervisorSize
+      → Answered (startAnswer supervisorSize (c .answer) (supervisorBytes (c .state)) b) r [] after
   unfolding startAnswer
   give-done e h w z =
       let fit : short (supervisorBytes (c .state)) b ≡ false = le-ltb (length b) (length (supervisorBytes (c .state))) (omega (arith, length-supervisor (c .state))) in
-      rw e (simp (le-ltb (length b) 6 h) (record { answer = z; state = refl; buffer = w ∙ put-start (supervisorBytes (c .state)) b fit }))
+      rw e (simp (le-ltb (length b) supervisorSize h) (record { answer = z; state = refl; buffer = w ∙ put-start (supervisorBytes (c .state)) b fit }))
 
-  pub give-refused : {n o : ℕ} → c .answer ≡ Refused n o → r ≡ packed n 0 0 o → Answered (startAnswer 6 (c .answer) (supervisorBytes (c .state)) b) r [] b
+  pub give-refused : {n o : ℕ} → c .answer ≡ Refused n o → r ≡ packed n 0 0 o → Answered (startAnswer supervisorSize (c .answer) (supervisorBytes (c .state)) b) r [] b
   unfolding startAnswer
   give-refused e w = rw e (record { answer = w; state = refl; buffer = refl })
 
 module _ (image : List ℕ) (m : ℕ) {r : ℕ} {after : List ℕ} where
-  pub start-by : (b : List ℕ) {c : SupervisorCalled} → c ≡ supervisorStart image m → Answered (startAnswer 6 (c .answer) (supervisorBytes (c .state)) b) r [] after → Answered (startBytes image m b) r [] after
+  pub start-by : (b : List ℕ) {c : SupervisorCalled} → c ≡ supervisorStart image m → Answered (startAnswer supervisorSize (c .answer) (supervisorBytes (c .state)) b) r [] after → Answered (startBytes image m b) r [] after
   unfolding startBytes
-  start-by b e a = subst (λ (c : SupervisorCalled). Answered (startAnswer 6 (c .answer) (supervisorBytes (c .state)) b) r [] after) e a
+  start-by b e a = subst (λ (c : SupervisorCalled). Answered (startAnswer supervisorSize (c .answer) (supervisorBytes (c .state)) b) r [] after) e a
 
   -- ---- calls on a state
   module _ (s : List ℕ) {x : Supervisor} (w : x ≡ supervisorOf s) where

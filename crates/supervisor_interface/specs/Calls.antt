@@ -8,7 +8,7 @@ use Rattle.permits.specs.Supervisor.{ServeCall, supervisorStart, supervisorStep
 use Rattle.permits.specs.declared.Supervisor.{Supervisor}
 use Rattle.permits.specs.declared.SupervisorCalled.{SupervisorCalled}
 use Rattle.permits.specs.declared.Served.{Served}
-use Rattle.party_bytes.specs.Supervisor.{supervisorBytes, supervisorOf}
+use Rattle.party_bytes.specs.Supervisor.{supervisorSize, supervisorBytes, supervisorOf}
 use Rattle.packing.specs.Answer.{Answer, calledAnswer, servedAnswer, lentAfter, startAnswer}
 
 -- the state's bytes s after a call of number n that leaves the supervisor y
@@ -22,7 +22,7 @@ abbrev pub steppedOn : Served → Supervisor → List ℕ → List ℕ → Answe
 steppedOn a y s buffer = record { number = servedAnswer a; state = supervisorAfter (servedNumber a) y s; buffer = buffer }
 
 unfoldable pub startBytes : List ℕ → ℕ → List ℕ → Answer
-startBytes image v b = startAnswer 6 (supervisorStart image v .answer) (supervisorBytes (supervisorStart image v .state)) b
+startBytes image v b = startAnswer supervisorSize (supervisorStart image v .answer) (supervisorBytes (supervisorStart image v .state)) b
 
 abbrev pub stepOn : ServeCall → List ℕ → Answer
 stepOn c s = steppedOn (c .answer) (c .state) s (c .buffer)

@@ -1,6 +1,6 @@
 // The calls of a supervisor on its own device over lent bytes: specs/Calls.antt.
 ghost use mathlib.Core.List.{[]};
-ghost use Rattle.party_bytes.specs.Supervisor.{supervisorBytes};
+ghost use Rattle.party_bytes.specs.Supervisor.{supervisorSize, supervisorBytes};
 ghost use Rattle.packing.specs.Answer.{Answered, startAnswer};
 ghost use Rattle.supervisor_interface.specs.Calls.{calledOn, steppedOn, startBytes, stepBytes, deliverBytes};
 use modules::Called;
@@ -34,17 +34,17 @@ fn keep_step(state: &mut [u8], c: SupervisorStepped) -> u64
 
 // The state at a start.
 fn give(buffer: &mut [u8], c: SupervisorCalled) -> u64
-    ensures { λ r. ⌜ Answered (startAnswer 6 (c .answer) (supervisorBytes (c .state)) (now (buffer .entry))) r [] (now (buffer .exit)) ⌝ }
+    ensures { λ r. ⌜ Answered (startAnswer supervisorSize (c .answer) (supervisorBytes (c .state)) (now (buffer .entry))) r [] (now (buffer .exit)) ⌝ }
 {
     let answer = c.answer;
     let y = c.state;
     match answer {
         Called::Done => {
-            if buffer.len() < 6 {
+            if buffer.len() < party_bytes::SUPERVISOR_SIZE {
                 return packing::pack(15, 0, 0, 0);
             }
             party_bytes::put_supervisor(&mut *buffer, y);
-            packing::pack(0, 0, 0, 6)
+            packing::pack(0, 0, 0, party_bytes::SUPERVISOR_SIZE)
         }
         Called::Refused(n, o) => packing::pack(n, 0, 0, o),
     }
