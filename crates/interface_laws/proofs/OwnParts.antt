@@ -2,7 +2,6 @@
 -- a turn, a response and a tick keep these.
 use mathlib.Core.Path.{_≡_, refl, sym, subst}
 use mathlib.Core.List.{List, [], _∷_}
-use mathlib.Core.Option.{Option, none, some}
 use mathlib.Core.Bool.{Bool, true, false, cond, _&&_}
 use Prim.Native.Nat.{ℕ, suc, _-_, _^_, _≤_, _<_}
 use native.Mathlib.Omega.{arith}
@@ -16,14 +15,13 @@ use lib.Ieee.Bits.{ofBits-fits}
 use lib.Ieee.Fits.{and-l, and-r}
 use borrow.Author.Tests.{eqb-true}
 use denote.Floats.{passes as holds}
-use Rattle.bits.specs.Bit.{least}
 use Rattle.litres.specs.Eighths.{eighths, isEighths, targetOk}
 use Rattle.litres.proofs.Laws.{eighths-fits, eighths-is-eighths}
 use Rattle.records.specs.declared.Record.{Record}
 use Rattle.reader.specs.Find.{found}
 use Rattle.rules.specs.LookUp.{modulesOf, eventsOf}
 use Rattle.rules.proofs.Valid.{both}
-use Rattle.plan.specs.Plan.{moduleMove, ownUncontrollable, stepIn, operationOf, operandOf}
+use Rattle.plan.specs.Plan.{ownUncontrollable, stepIn, operationOf, operandOf}
 use Rattle.accepted.specs.Plan.{Sound}
 use Rattle.roundtrip.specs.Fits.{Byte, Bytes}
 use Rattle.water.specs.Water.{flowOk, noWater, waterOf, added, reached, running}
@@ -32,17 +30,16 @@ use Rattle.water.specs.declared.Flow.{Flow}
 use Rattle.water.specs.declared.Flow.the-variants.{Litres, NoSensor}
 use Rattle.modules.specs.Queue.{queueOf, full, withQueue}
 use Rattle.modules.specs.Procedure.{arriveAt, withOutputs, advanced, outputOn, outputOff, performed, tickOf, respondOf}
-use Rattle.modules.specs.Turn.{byResponse, byCommand, enabled, byChoice, turnOn, turnOf, startOwn, emptyOwn}
+use Rattle.modules.specs.Turn.{turnOf, startOwn, emptyOwn}
 use Rattle.modules.specs.Fits.{every, idleFits, stepFits, procedureFits, ownFits}
 use Rattle.modules.specs.declared.Own.{Own}
 use Rattle.modules.specs.declared.Procedure.{Procedure}
 use Rattle.modules.specs.declared.Replied.{Replied}
-use Rattle.modules.specs.declared.Turn.the-variants.{Nothing}
 use Rattle.modules.proofs.Steps.{step-counts, on-small}
 use Rattle.turn_laws.proofs.Procedure.{parts, at-step}
 use Rattle.turn_laws.proofs.Queue.{responses, queue-places}
 use Rattle.turn_laws.proofs.Own.{sizes, start-fits}
-use Rattle.turn_laws.proofs.Turn.{turn-places, turn-fits}
+use Rattle.turn_laws.proofs.Turn.{turn-cases, turn-places, turn-fits}
 use Rattle.turn_laws.proofs.Respond.{respond-places, respond-fits}
 use Rattle.turn_laws.proofs.Tick.{tick-places, tick-fits}
 use Rattle.fields.specs.Fields.{Number}
@@ -94,28 +91,9 @@ module _ (rs : List Record) where
       (λ h. choose InF64 (eqb (operationOf rs e i) 4) _ _ (λ q. start-f64 (operandOf rs e i)) (λ q. none-f64)) (λ h. none-f64)
 
   turn-rest : (m k : ℕ) (own : Own) → Rest own → Rest (turnOf rs m k own .own)
-  unfolding turnOf turnOn byResponse byChoice byCommand
-  turn-rest m k own r = queue (queueOf own)
-    where
-      fires : (e : ℕ) (q : List ℕ) (o : Option ℕ) → Rest (byResponse (withQueue own q) e o .own)
-      fires e q (some t) = record { outputs = r .outputs; water = r .water }
-      fires e q none = record { outputs = r .outputs; water = r .water }
-
-      commands : (e : ℕ) (o : Option ℕ) → Rest (byCommand rs own e o .own)
-      commands e (some t) = record { outputs = r .outputs; water = arrive-f64 e 0 }
-      commands e none = r
-
-      chooses : (o : Option ℕ) → Rest (byChoice rs m own o .own)
-      chooses (some e) = commands e (moduleMove rs m (own .state) e)
-      chooses none = r
-
-      rests : (b : Bool) → Rest (cond b (record { turn = Nothing; own = own }) (byChoice rs m own (least (enabled rs m k (own .state)) 64)) .own)
-      rests true = r
-      rests false = chooses (least (enabled rs m k (own .state)) 64)
-
-      queue : (q : List ℕ) → Rest (turnOn rs m k own q .own)
-      queue (e ∷ q) = fires e q (moduleMove rs m (own .state) e)
-      queue [] = rests (own .procedure .running)
+  turn-rest m k own r =
+      turn-cases rs m own k (λ t. Rest (t .own)) (λ e q st h g. record { outputs = r .outputs; water = r .water }) (λ e q h. record { outputs = r .outputs; water = r .water })
+      (λ e st h i l g. record { outputs = r .outputs; water = arrive-f64 e 0 }) r
 
   respond-rest : (m e : ℕ) (own : Own) → Rest own → Rest (respondOf rs m e own .own)
   unfolding respondOf

@@ -9,7 +9,7 @@ use lib.ListN.{length, getD, take, drop, List·getD-append}
 use lib.Seq.{getD-drop}
 use lib.Dec.{T, eqb, ltb, lit<}
 use borrow.Author.Tests.{ne-eqb, ltb-true, ltb-false}
-use Rattle.bits.specs.Bit.{bit, least}
+use Rattle.bits.specs.Bit.{bit}
 use Rattle.bits.proofs.Least.{least-some}
 use Rattle.words.specs.Word.{wordBytes}
 use Rattle.records.specs.declared.Record.{Record}
@@ -18,15 +18,15 @@ use Rattle.rules.specs.LookUp.{modulesOf, supervisorsOf}
 use Rattle.rules.specs.Check.{IsPlan}
 use Rattle.rules.specs.declared.Verdict.{Verdict}
 use Rattle.rules.specs.declared.Verdict.the-variants.{Accepted}
-use Rattle.plan.specs.Plan.{moduleMove, neighbours, inAlphabet, shown}
+use Rattle.plan.specs.Plan.{neighbours, inAlphabet, shown}
 use Rattle.accepted.specs.Plan.{Sound}
 use Rattle.accepted.proofs.Accepted.{every-plan}
 use Rattle.roundtrip.specs.Fits.{Byte, Bytes}
 use Rattle.messages.specs.Message.{releaseSize, messageBytes, short, written}
 use Rattle.messages.specs.declared.Message.{Message}
 use Rattle.messages.specs.declared.Message.the-variants.{Bid, Permit, Release}
-use Rattle.modules.specs.Queue.{queueOf, withQueue}
-use Rattle.modules.specs.Turn.{byResponse, byCommand, enabled, byChoice, turnOn, turnOf}
+use Rattle.modules.specs.Queue.{queueOf}
+use Rattle.modules.specs.Turn.{turnOf}
 use Rattle.modules.specs.Fits.{ownFits}
 use Rattle.modules.specs.declared.Own.{Own}
 use Rattle.modules.specs.declared.Turn.{Turn}
@@ -43,6 +43,7 @@ use Rattle.permits.specs.declared.Served.the-variants.{Sends, Waits as ServedWa
 use Rattle.permits.proofs.Stepping.{bytes-append}
 use Rattle.turn_laws.proofs.Procedure.{parts}
 use Rattle.turn_laws.proofs.Queue.{head-own}
+use Rattle.turn_laws.proofs.Turn.{turn-cases}
 use Rattle.refusals.specs.Refusals.{InTable}
 use Rattle.packing.specs.Answer.{packed, turnAnswer, steppedAnswer, servedAnswer}
 use Rattle.packing.specs.Parts.{Parts}
@@ -173,28 +174,11 @@ Sendable c = StepSmall (c .answer) × AllBytes (wrote (c .answer) (c .buffer))
 
 module _ (rs : List Record) (plan : Sound rs) (m : ℕ) where
   pub turn-small : (k : ℕ) (own : Own) → T (ownFits rs m own) → TurnSmall (turnOf rs m k own .turn)
-  unfolding turnOf turnOn byResponse byChoice byCommand
-  turn-small k own t = queue (queueOf own) refl
+  turn-small k own t =
+      turn-cases rs m own k (λ y. TurnSmall (y .turn)) (λ e q st h g. response e q h) response (λ e st h r l g. let b : e < 64 = l .below in omega arith) tt
     where
-      fires : (e : ℕ) (q : List ℕ) → Byte e → (o : Option ℕ) → TurnSmall (byResponse (withQueue own q) e o .turn)
-      fires e q h (some st) = h
-      fires e q h none = h
-
-      commands : (e : ℕ) → Byte e → (o : Option ℕ) → TurnSmall (byCommand rs own e o .turn)
-      commands e h (some st) = h
-      commands e h none = tt
-
-      chooses : (o : Option ℕ) → least (enabled rs m k (own .state)) 64 ≡ o → TurnSmall (byChoice rs m own o .turn)
-      chooses (some e) q = commands e (let l : e < 64 = least-some (enabled rs m k (own .state)) 64 e q .below in omega arith) (moduleMove rs m (own .state) e)
-      chooses none q = tt
-
-      rests : (b : Bool) → TurnSmall (cond b (record { turn = Nothing; own = own }) (byChoice rs m own (least (enabled rs m k (own .state)) 64)) .turn)
-      rests true = tt
-      rests false = chooses (least (enabled rs m k (own .state)) 64) refl
-
-      queue : (q : List ℕ) → queueOf own ≡ q → TurnSmall (turnOn rs m k own q .turn)
-      queue (e ∷ q) h = fires e q (own-event rs plan m e (head-own rs m own e q h (parts rs m own t .queue))) (moduleMove rs m (own .state) e)
-      queue [] h = rests (own .procedure .running)
+      response : (e : ℕ) (q : List ℕ) → queueOf own ≡ e ∷ q → Byte e
+      response e q h = own-event rs plan m e (head-own rs m own e q h (parts rs m own t .queue))
 
   event-byte : (v : ℕ) (t : Turn) → TurnSmall t → Byte (M.eventFor rs v t)
   unfolding M.eventFor

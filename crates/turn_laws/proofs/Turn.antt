@@ -32,8 +32,9 @@ use Rattle.turn_laws.proofs.Queue.{rest-fits, head-own, in-places}
 use Rattle.turn_laws.proofs.Procedure.{Parts, parts, whole, arrives}
 
 module _ (rs : List Record) (m : ℕ) (own : Own) where
-  -- what holds of each thing that a turn can do holds of the turn: a response fires, it is stray, a command fires, nothing
-  turn-cases : (k : ℕ) (P : Turned → Type 0)
+  -- what holds of each thing that a turn can do holds of the turn: a response fires, it is stray, a command fires, nothing. Above this crate a turn
+  -- is known by this and by `TurnLaws`, and its definition stays shut.
+  pub turn-cases : (k : ℕ) (P : Turned → Type 0)
       → ((e : ℕ) (q : List ℕ) (st : ℕ) → queueOf own ≡ e ∷ q → moduleMove rs m (own .state) e ≡ some st
       → P (record { turn = Event e; own = moved (withQueue own q) st (own .procedure) }))
       → ((e : ℕ) (q : List ℕ) → queueOf own ≡ e ∷ q → P (record { turn = Stray e; own = withQueue own q }))
