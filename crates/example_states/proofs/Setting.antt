@@ -13,6 +13,7 @@ use Rattle.water.specs.declared.Flow.the-variants.{Litres, NoSensor}
 use Rattle.water.specs.declared.Water.{Water}
 use Rattle.modules.specs.declared.Procedure.{Procedure}
 use Rattle.modules.specs.declared.Own.{Own}
+use Rattle.modules.specs.Own.{withState, withPlaces, withProcedure, withOutputs}
 use Rattle.example_states.specs.Setting.{floatIn, flowIn, withWater, withPlace, withQueued, withField}
 
 module _ (k : ℕ) (s : List ℕ) where
@@ -77,27 +78,27 @@ module _ (k : ℕ) (s : List ℕ) where
 
   module _ (own : Own) {l : ℕ} (e : l ≡ letterIn k 0 s) where
     pub field-state : {b : ℕ} → l ≡ 115 → b ≡ numberIn (k + 1) s % 256
-        → record { state = b; queue = own .queue; length = own .length; procedure = own .procedure; outputs = own .outputs } ≡ withField k s own
+        → withState own b ≡ withField k s own
     unfolding withField withPlace
     field-state q f = rw (← e, q, f)
 
     pub field-length : {b : ℕ} → l ≡ 108 → b ≡ numberIn (k + 1) s % 256
-        → record { state = own .state; queue = own .queue; length = b; procedure = own .procedure; outputs = own .outputs } ≡ withField k s own
+        → withPlaces own (own .queue) b ≡ withField k s own
     unfolding withField withPlace
     field-length q f = rw (← e, q, f)
 
     pub field-queue : {b : List ℕ} → l ≡ 112 → b ≡ withQueued k s (own .queue)
-        → record { state = own .state; queue = b; length = own .length; procedure = own .procedure; outputs = own .outputs } ≡ withField k s own
+        → withPlaces own b (own .length) ≡ withField k s own
     unfolding withField withPlace
     field-queue q f = rw (← e, q, f)
 
     pub field-outputs : {n : ℕ} → l ≡ 111 → n ≡ bitsIn (k + 1) s
-        → record { state = own .state; queue = own .queue; length = own .length; procedure = own .procedure; outputs = n % 2 ^ 32 } ≡ withField k s own
+        → withOutputs own (n % 2 ^ 32) ≡ withField k s own
     unfolding withField withPlace
     field-outputs q f = rw (← e, q, f)
 
     pub field-place : {p : Procedure} → (l ≡ 115 → ⊥) → (l ≡ 108 → ⊥) → (l ≡ 112 → ⊥) → (l ≡ 111 → ⊥)
         → p ≡ withPlace k s (own .procedure)
-        → record { state = own .state; queue = own .queue; length = own .length; procedure = p; outputs = own .outputs } ≡ withField k s own
+        → withProcedure own p ≡ withField k s own
     unfolding withField
     field-place a b c d f = simp (← e, ne-eqb l 115 a, ne-eqb l 108 b, ne-eqb l 112 c, ne-eqb l 111 d) (rw f)

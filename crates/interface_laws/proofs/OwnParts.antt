@@ -29,7 +29,8 @@ use Rattle.water.specs.declared.Water.{Water}
 use Rattle.water.specs.declared.Flow.{Flow}
 use Rattle.water.specs.declared.Flow.the-variants.{Litres, NoSensor}
 use Rattle.modules.specs.Queue.{queueOf, full, withQueue}
-use Rattle.modules.specs.Procedure.{arriveAt, withOutputs, advanced, outputOn, outputOff, performed, tickOf, respondOf}
+use Rattle.modules.specs.Own.{withOutputs}
+use Rattle.modules.specs.Procedure.{arriveAt, advanced, outputOn, outputOff, performed, tickOf, respondOf}
 use Rattle.modules.specs.Turn.{turnOf, startOwn, emptyOwn}
 use Rattle.modules.specs.Fits.{every, idleFits, stepFits, procedureFits, ownFits}
 use Rattle.modules.specs.declared.Own.{Own}

@@ -12,6 +12,7 @@ use borrow.Author.Tests.{ltb-true, ltb-false, lt-leb, le-leb}
 use Rattle.records.specs.declared.Record.{Record}
 use Rattle.plan.specs.Plan.{ownUncontrollable}
 use Rattle.modules.specs.declared.Own.{Own}
+use Rattle.modules.specs.Own.{withPlaces}
 use Rattle.modules.specs.Queue.{queueOf, places, withQueue, queued}
 use Rattle.modules.specs.Procedure.{respondOf, taken, refused}
 
@@ -89,13 +90,12 @@ set-length r i v e = length-set r i v ∙ e
 -- ---- one response more, and the head removed
 
 with-places : (own : Own) (q r : List ℕ) (n : ℕ) → r ≡ places q → n ≡ length q
-    → record { state = own .state; queue = r; length = n; procedure = own .procedure; outputs = own .outputs } ≡ withQueue own q
-with-places own q r n e l =
-    ap₂ (λ (a : List ℕ) (b : ℕ). record { state = own .state; queue = a; length = b; procedure = own .procedure; outputs = own .outputs }) e l
+    → withPlaces own r n ≡ withQueue own q
+with-places own q r n e l = ap₂ (withPlaces own) e l
 
 module _ (own : Own) (e8 : length (own .queue) ≡ 8) {r : List ℕ} where
   pub queued-by : (e : ℕ) {i : ℕ} → own .length < 8 → i ≡ own .length → r ≡ places (queueOf own)
-      → record { state = own .state; queue = set r i e; length = own .length + 1; procedure = own .procedure; outputs = own .outputs } ≡ queued own e
+      → withPlaces own (set r i e) (own .length + 1) ≡ queued own e
   queued-by e {i} h w p =
       let q : List ℕ = queueOf own in
       let l : length q ≡ own .length = omega (arith, length-take (own .length) (own .queue)) in
@@ -111,22 +111,22 @@ module _ (own : Own) (e8 : length (own .queue) ≡ 8) {r : List ℕ} where
 
   module _ (p : r ≡ places (drop 1 (queueOf own))) where
     removed : (n : ℕ) → n ≡ length (drop 1 (queueOf own))
-        → record { state = own .state; queue = r; length = n; procedure = own .procedure; outputs = own .outputs } ≡ withQueue own (drop 1 (queueOf own))
-    removed n h = ap₂ (λ (a : List ℕ) (b : ℕ). record { state = own .state; queue = a; length = b; procedure = own .procedure; outputs = own .outputs }) p h
+        → withPlaces own r n ≡ withQueue own (drop 1 (queueOf own))
+    removed n h = with-places own (drop 1 (queueOf own)) r n p h
 
     left : length (drop 1 (queueOf own)) ≡ min (own .length) 8 - 1
     left = omega (arith, length-drop 1 (queueOf own), length-take (own .length) (own .queue))
 
     pub removed-none : own .length ≡ 0
-        → record { state = own .state; queue = r; length = own .length; procedure = own .procedure; outputs = own .outputs } ≡ withQueue own (drop 1 (queueOf own))
+        → withPlaces own r (own .length) ≡ withQueue own (drop 1 (queueOf own))
     removed-none g = removed (own .length) (omega (arith, left))
 
     pub removed-by : (own .length ≡ 0 → ⊥) → own .length < 8
-        → record { state = own .state; queue = r; length = own .length - 1; procedure = own .procedure; outputs = own .outputs } ≡ withQueue own (drop 1 (queueOf own))
+        → withPlaces own r (own .length - 1) ≡ withQueue own (drop 1 (queueOf own))
     removed-by f g = removed (own .length - 1) (omega (arith, left))
 
     pub removed-from-full : 8 ≤ own .length
-        → record { state = own .state; queue = r; length = 7; procedure = own .procedure; outputs = own .outputs } ≡ withQueue own (drop 1 (queueOf own))
+        → withPlaces own r 7 ≡ withQueue own (drop 1 (queueOf own))
     removed-from-full g = removed 7 (omega (arith, left))
 
 -- ---- a response

@@ -24,7 +24,8 @@ use Rattle.modules.specs.declared.Own.{Own}
 use Rattle.modules.specs.declared.Procedure.{Procedure}
 use Rattle.modules.specs.declared.StepFields.{StepFields}
 use Rattle.modules.specs.Queue.{full, queued}
-use Rattle.modules.specs.Procedure.{idle, arriveAt, withProcedure, withOutputs, advanced, counted, withWater, outputOn, outputOff, metered, performed, ticked, taken, refused, tickOf}
+use Rattle.modules.specs.Own.{withProcedure, withOutputs}
+use Rattle.modules.specs.Procedure.{idle, arriveAt, advanced, counted, withWater, outputOn, outputOff, metered, performed, ticked, taken, refused, tickOf}
 use Rattle.modules.specs.StepFields.{stepFieldsOf}
 use Rattle.modules.proofs.Steps.{step-counts}
 

@@ -1,3 +1,4 @@
+pub mod Own
 pub mod Queue
 pub mod Procedure
 pub mod Turn

@@ -17,6 +17,7 @@ use Rattle.modules.specs.declared.Reply.the-variants.{Taken, Refused}
 use Rattle.modules.specs.declared.Replied.{Replied}
 use Rattle.modules.specs.declared.Called.{Called}
 use Rattle.modules.specs.declared.Called.the-variants.{Done, Refused as CallRefused}
+use Rattle.modules.specs.Own.{withProcedure, withOutputs}
 use Rattle.modules.specs.Queue.{full, queued}
 
 -- document 01's term "idle", of a procedure: "After the last step the procedure is idle."; "fields not used there 0"
@@ -30,12 +31,6 @@ arriveAt rs e i =
     cond (found (stepIn rs e i))
     (record { running = true; event = e; index = i; count = 0; water = cond (eqb (operationOf rs e i) 4) (waterOf (operandOf rs e i)) noWater })
     idle
-
-abbrev pub withProcedure : Own → Procedure → Own
-withProcedure own p = record { state = own .state; queue = own .queue; length = own .length; procedure = p; outputs = own .outputs }
-
-abbrev pub withOutputs : Own → ℕ → Own
-withOutputs own o = record { state = own .state; queue = own .queue; length = own .length; procedure = own .procedure; outputs = o }
 
 -- on to the next step of the event
 abbrev pub advanced : List Record → Own → Own

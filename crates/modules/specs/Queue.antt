@@ -5,6 +5,7 @@ use mathlib.Core.Bool.{Bool}
 use lib.ListN.{length, take, replicate}
 use lib.Dec.{leb}
 use Rattle.modules.specs.declared.Own.{Own}
+use Rattle.modules.specs.Own.{withPlaces}
 
 -- the responses, the head first
 abbrev pub queueOf : Own → List ℕ
@@ -19,7 +20,7 @@ abbrev pub full : Own → Bool
 full own = leb 8 (own .length)
 
 abbrev pub withQueue : Own → List ℕ → Own
-withQueue own q = record { state = own .state; queue = places q; length = length q; procedure = own .procedure; outputs = own .outputs }
+withQueue own q = withPlaces own (places q) (length q)
 
 -- one response more, at the end
 abbrev pub queued : Own → ℕ → Own

@@ -11,11 +11,12 @@ use Rattle.modules.specs.declared.Own.{Own}
 use Rattle.modules.specs.declared.Procedure.{Procedure}
 use Rattle.modules.specs.declared.Turn.the-variants.{Event, Stray, Nothing}
 use Rattle.modules.specs.declared.Turned.{Turned}
+use Rattle.modules.specs.Own.{withState, withProcedure}
 use Rattle.modules.specs.Queue.{queueOf, withQueue}
 use Rattle.modules.specs.Procedure.{idle, arriveAt}
 
 abbrev pub moved : Own → ℕ → Procedure → Own
-moved own st p = record { state = st; queue = own .queue; length = own .length; procedure = p; outputs = own .outputs }
+moved own st p = withProcedure (withState own st) p
 
 -- document 01's term "stray": "If the module has a move by it, that event fires; if not, the turn ends as stray."
 unfoldable pub byResponse : Own → ℕ → Option ℕ → Turned
@@ -55,10 +56,10 @@ unfoldable pub wish : List Record → ℕ → Own → Bool
 wish rs m own =
     queuedAny (queueOf own) || (not (own .procedure .running) && someBelow (hasCommand rs m (own .state)) 64)
 
--- "At the start all are in their initial states, .. nothing is .. queued .., procedures are idle and outputs off."
-unfoldable pub startOwn : List Record → ℕ → Own
-startOwn rs m = record { state = moduleInitial rs m; queue = replicate 8 0; length = 0; procedure = idle; outputs = 0 }
-
 -- the own part with every number 0
 abbrev pub emptyOwn : Own
 emptyOwn = record { state = 0; queue = replicate 8 0; length = 0; procedure = idle; outputs = 0 }
+
+-- "At the start all are in their initial states, .. nothing is .. queued .., procedures are idle and outputs off."
+unfoldable pub startOwn : List Record → ℕ → Own
+startOwn rs m = withState emptyOwn (moduleInitial rs m)

@@ -10,6 +10,7 @@ use Rattle.words.specs.Word.{quadAt, quadBytes, wordAt, wordBytes}
 use Rattle.words.proofs.Laws.{quad-read}
 use Rattle.records.specs.declared.Record.{Record}
 use Rattle.rules.specs.LookUp.{moduleState}
+use Rattle.modules.specs.Own.{withPlaces, withProcedure, withOutputs}
 use Rattle.modules.specs.Procedure.{idle}
 use Rattle.modules.specs.Fits.{queueFits, procedureFits, ownFits, ownEmpty}
 use Rattle.modules.specs.declared.Own.{Own}
@@ -48,7 +49,7 @@ module _ (own : Own) (x : OwnEncodable own) (rest : List ℕ) where
   bytesWith q = own .state ∷ own .length ∷ (q ++ procedureBytes (own .procedure) ++ quadBytes (own .outputs)) ++ rest
 
   abbrev ownWith : List ℕ → Own
-  ownWith q = record { state = own .state; queue = q; length = own .length; procedure = own .procedure; outputs = own .outputs }
+  ownWith q = withPlaces own q (own .length)
 
   read-places : (a b c d e f g h : ℕ) → isOwn (bytesWith (a ∷ b ∷ c ∷ d ∷ e ∷ f ∷ g ∷ h ∷ [])) ≡ true
   unfolding isOwn procedureBytes wordAt wordBytes halfBytes
@@ -60,7 +61,7 @@ module _ (own : Own) (x : OwnEncodable own) (rest : List ℕ) where
   unfolding ownOf procedureOf bytesFrom procedureBytes wordAt wordBytes halfAt halfBytes quadAt quadBytes
   back-places a b c d e f g h =
       let p : Procedure = own .procedure in
-      ap₂ (λ (p : Procedure) (o : ℕ). record { state = own .state; queue = a ∷ b ∷ c ∷ d ∷ e ∷ f ∷ g ∷ h ∷ []; length = own .length; procedure = p; outputs = o })
+      ap₂ (λ (p : Procedure) (o : ℕ). withOutputs (withProcedure (ownWith (a ∷ b ∷ c ∷ d ∷ e ∷ f ∷ g ∷ h ∷ [])) p) o)
       (ap₂ (λ (t u : Float). record { running = flagOf (flagByte (p .running)); event = p .event; index = p .index; count = halfAt (halfBytes (p .count) ++ []) 0; water = record { target = t; total = u } })
       (float-read (p .water .target) (x .target) []) (float-read (p .water .total) (x .total) [])
       ∙ ap₂ (λ (r : Bool) (k : ℕ). record { running = r; event = p .event; index = p .index; count = k; water = p .water }) (flag-read (p .running)) (half-read (p .count) [] (x .count)))

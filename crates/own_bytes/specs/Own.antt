@@ -5,11 +5,12 @@ use Prim.Native.Nat.{ℕ, _^_, _<_}
 use mathlib.Core.Path.{_≡_}
 use mathlib.Core.List.{List, _∷_, _++_}
 use mathlib.Core.Bool.{Bool, true, false, cond, _&&_}
-use lib.ListN.{length, getD, replicate}
+use lib.ListN.{length, getD}
 use lib.Dec.{ltb}
 use Rattle.roundtrip.specs.Fits.{Byte, Bytes}
 use Rattle.records.specs.declared.Record.{Record}
-use Rattle.modules.specs.Procedure.{idle}
+use Rattle.modules.specs.Own.{withPlaces}
+use Rattle.modules.specs.Turn.{emptyOwn}
 use Rattle.modules.specs.Fits.{ownFits, ownEmpty}
 use Rattle.modules.specs.declared.Own.{Own}
 use Rattle.modules.specs.declared.Procedure.{Procedure}
@@ -48,7 +49,7 @@ isOwn b = isFlag (getD b 10 0) && isFloat b 15 && isFloat b 23
 
 -- an own part that fits no plan: its queue is longer than 8
 abbrev pub unfitOwn : Own
-unfitOwn = record { state = 0; queue = replicate 8 0; length = 255; procedure = idle; outputs = 0 }
+unfitOwn = withPlaces emptyOwn (emptyOwn .queue) 255
 
 -- what is read of bytes: fewer than its own stand for no own part, and give one that fits no plan
 unfoldable pub ownStands : List ℕ → Bool

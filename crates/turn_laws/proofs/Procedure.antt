@@ -19,7 +19,8 @@ use Rattle.rules.proofs.Valid.{both}
 use Rattle.water.specs.Water.{noWater, waterOf, waterZero, running}
 use Rattle.modules.specs.declared.Own.{Own}
 use Rattle.modules.specs.declared.Procedure.{Procedure}
-use Rattle.modules.specs.Procedure.{idle, arriveAt, withProcedure}
+use Rattle.modules.specs.Own.{withProcedure}
+use Rattle.modules.specs.Procedure.{idle, arriveAt}
 use Rattle.modules.specs.Fits.{queueFits, idleFits, stepFits, procedureFits, ownFits}
 use Rattle.turn_laws.specs.Laws.{operationAt, operandAt, AtStep}
 use Rattle.turn_laws.proofs.Found.{step-law}

@@ -18,7 +18,8 @@ use Rattle.water.specs.declared.Water.{Water}
 use Rattle.modules.specs.declared.Own.{Own}
 use Rattle.modules.specs.declared.Procedure.{Procedure}
 use Rattle.modules.specs.Queue.{full, queued}
-use Rattle.modules.specs.Procedure.{withProcedure, withOutputs, advanced, counted, withWater, outputOn, outputOff, metered, performed, ticked, taken, refused, tickOf}
+use Rattle.modules.specs.Own.{withProcedure, withOutputs}
+use Rattle.modules.specs.Procedure.{advanced, counted, withWater, outputOn, outputOff, metered, performed, ticked, taken, refused, tickOf}
 use Rattle.modules.specs.Fits.{ownFits, queueFits}
 use Rattle.turn_laws.specs.Laws.{EightPlaces, operationAt, operandAt, AtStep}
 use Rattle.turn_laws.proofs.Water.{goes-on}

@@ -1,6 +1,5 @@
-use Prim.Native.Nat.{ℕ}
 use mathlib.Core.Path.{ap₂}
-use Rattle.modules.specs.declared.Own.{Own}
+use Rattle.modules.specs.Own.{withState}
 use Rattle.modules.specs.Turn.{startOwn}
 use borrow.Author.Needs.{needs}
 use Rattle.modules.proofs.started.Statement.{statement}
@@ -14,10 +13,7 @@ module-initial-requires c κs = search needs
 
 returns : tie.Need-returns
 unfolding startOwn
-returns c =
-    ap₂ (λ (o : Own) (st : ℕ). record { state = st; queue = o .queue; length = o .length; procedure = o .procedure; outputs = o .outputs })
-    (c .before .empty .ensures)
-    (c .module-initial .ensures)
+returns c = ap₂ withState (c .before .empty .ensures) (c .module-initial .ensures)
 
 pub started-spec : {M : Type 1} → statement M
 started-spec = tie.close (tie.spec empty-requires module-initial-requires returns)
