@@ -63,7 +63,7 @@ module _ (rs : List Record) (m : ℕ) (x : Module) {k : ℕ} {c : ModuleCalled} 
     reply-unfit r q h = h ∙ unfit rs m x (replied x r) (callRefused x 9 0) (callRefused x 11 0) e l refl f q
 
 pub reply-fit : (rs : List Record) (m : ℕ) (x : Module) (r : Replied) {k : ℕ} {a : Called} {t : Bool} → k ≡ modulesOf rs → m < k → t ≡ moduleFits rs m x → t ≡ true → a ≡ calledBy (r .reply)
-    → (record { answer = a; state = record { own = r .own; held = x .held; received = x .received; bid = x .bid } }) ≡ replyBy IsAccepted rs m x r
+    → (record { answer = a; state = withOwn x (r .own) }) ≡ replyBy IsAccepted rs m x r
 unfolding replyBy
 reply-fit rs m x r e l f q h =
     ap (λ (y : Called). record { answer = y; state = withOwn x (r .own) }) h ∙ fit rs m x (replied x r) (callRefused x 9 0) (callRefused x 11 0) e l refl f q

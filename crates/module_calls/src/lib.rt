@@ -80,12 +80,9 @@ fn started(image: &[u8], places: Places, m: u8) -> Module
     ensures { λ r. ⌜ r ≡ startModule (recordsBy (now (image .entry)) places) m ⌝ }
 {
     let own = modules::started(image, places, m);
-    Module {
-        own,
-        held: 0,
-        received: 0,
-        bid: false,
-    }
+    let mut x = permits::empty_module();
+    x.own = own;
+    x
 }
 
 // The module's starting state.

@@ -30,7 +30,7 @@ use Rattle.messages.specs.declared.Message.the-variants.{Bid, Permit, Release}
 use Rattle.messages.specs.declared.Parsed.{Parsed}
 use Rattle.messages.specs.declared.Parsed.the-variants.{Whole, Misshapen}
 use Rattle.permits.specs.Names.{neighbours?, named}
-use Rattle.permits.specs.Module.{missingIn, fitsIn, callRefused, isFor, bidWith, takenBy, deliverIn, absent, deliverBy, moduleDeliver}
+use Rattle.permits.specs.Module.{withPermits, withBid, missingIn, fitsIn, callRefused, isFor, bidWith, afterPermit, takenBy, deliverIn, absent, deliverBy, moduleDeliver}
 use Rattle.permits.specs.declared.Module.{Module}
 use Rattle.permits.specs.declared.ModuleCalled.{ModuleCalled}
 use Rattle.holding.proofs.Held.{missing-is}
@@ -68,7 +68,7 @@ module _ (adjacent m : ℕ) (x : Module) (v n k : ℕ) (r : Maybe) (e : optionOf
   tested rs q = ap (λ (o : Option ℕ). eqb n m && (x .bid && isFor o v)) (sym (e ∙ missing-is adjacent (x .held) rs m q))
 
   taken : (rs : List Record) → adjacent ≡ neighbours rs m → (t : Bool) → (eqb n m && (x .bid && isFor (optionOf r) v)) ≡ t
-      → cond t (record { answer = Done; state = record { own = x .own; held = putBit (x .held) v true; received = bitOr (x .received) k; bid = false } }) (callRefused x 12 0) ≡ takenBy rs m x (Permit v n k)
+      → cond t (record { answer = Done; state = afterPermit x v k }) (callRefused x 12 0) ≡ takenBy rs m x (Permit v n k)
   unfolding takenBy
   taken rs q t f = sym (simp (tested rs q ∙ f))
 
@@ -81,10 +81,12 @@ module _ (adjacent m : ℕ) (x : Module) (v n k : ℕ) (r : Maybe) (e : optionOf
     unfolding isFor
     found t q = ap (λ (y : Maybe). eqb n m && (x .bid && isFor (optionOf y) v)) f ∙ q
 
-    pub permit-taken : {h : ℕ} → (eqb n m && (x .bid && eqb w v)) ≡ true → h ≡ putBit (x .held) v true → (rs : List Record) → adjacent ≡ neighbours rs m
-        → (record { answer = Done; state = record { own = x .own; held = h; received = bitOr (x .received) k; bid = false } }) ≡ takenBy rs m x (Permit v n k)
-    permit-taken t g rs q =
-        ap (λ (y : ℕ). record { answer = Done; state = record { own = x .own; held = y; received = bitOr (x .received) k; bid = false } }) g ∙ taken rs q true (found true t)
+    pub permit-taken : {h : ℕ} {s : Module} → (eqb n m && (x .bid && eqb w v)) ≡ true → h ≡ putBit (x .held) v true
+        → s ≡ withBid (withPermits x h (bitOr (x .received) k)) false → (rs : List Record) → adjacent ≡ neighbours rs m
+        → (record { answer = Done; state = s }) ≡ takenBy rs m x (Permit v n k)
+    permit-taken t g e rs q =
+        ap (λ (y : Module). record { answer = Done; state = y }) (e ∙ ap (λ (y : ℕ). withBid (withPermits x y (bitOr (x .received) k)) false) g)
+        ∙ taken rs q true (found true t)
 
     pub permit-other : {c : ModuleCalled} → (eqb n m && (x .bid && eqb w v)) ≡ false → c ≡ callRefused x 12 0 → (rs : List Record) → adjacent ≡ neighbours rs m → c ≡ takenBy rs m x (Permit v n k)
     permit-other t g rs q = g ∙ taken rs q false (found false t)

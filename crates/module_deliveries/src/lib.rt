@@ -37,13 +37,7 @@ fn take_permit(m: u8, adjacent: u32, x: Module, v: u8, n: u8, k: u64) -> ModuleC
         return holding::refused(x, 12, 0);
     };
     if (n == m) & (x.bid & (w == v)) {
-        let own = x.own;
-        let state = Module {
-            own,
-            held: hold(x.held, v),
-            received: x.received | k,
-            bid: false,
-        };
+        let state = permits::with_permits(x, hold(x.held, v), x.received | k, false);
         ModuleCalled {
             answer: Called::Done,
             state,

@@ -26,7 +26,7 @@ use Rattle.messages.specs.Message.{releaseSize, messageBytes, short, written}
 use Rattle.messages.specs.Write.{Wrote}
 use Rattle.messages.specs.declared.Message.the-variants.{Bid}
 use Rattle.messages.proofs.Writing.{turned-round, start-fits, put-start, put-short}
-use Rattle.permits.specs.Module.{fitsIn, releases, takesTurn, bidsTo, choice, turnTaken, afterTurn, sentBy, answerBy, stateBy, StepCall, stepRefused, stepIn, stepBy, moduleStep}
+use Rattle.permits.specs.Module.{fitsIn, releases, takesTurn, bidsTo, choice, turnTaken, afterTurn, afterBid, sentBy, answerBy, stateBy, StepCall, stepRefused, stepIn, stepBy, moduleStep}
 use Rattle.permits.specs.Step.{bytesOfMessages, Gave}
 use Rattle.permits.specs.declared.Module.{Module}
 use Rattle.permits.specs.declared.ModuleStepped.{ModuleStepped}
@@ -72,7 +72,7 @@ module _ (rs : List Record) (m adjacent : ℕ) (x : Module) (b : List ℕ) {t : 
       (subst (Gave (stepRefused x b 15 0) (r .answer) (r .state)) (sym (wrote ∙ ap (λ (y : Bool). cond y (written released b) b) h)) (refuses x b 15 0 g))
 
   pub turn-taken : {n : ℕ} → f ≡ true → n ≡ releaseSize * ones adjacent
-      → Gave (stepIn rs m x b takesTurn) (Turns (t .turn) n) (record { own = t .own; held = 0; received = 0; bid = x .bid }) after
+      → Gave (stepIn rs m x b takesTurn) (Turns (t .turn) n) (afterTurn x (t .own)) after
   unfolding stepIn sentBy answerBy stateBy
   turn-taken h g =
       simp (room ∙ ap not h)
@@ -92,7 +92,7 @@ module _ (m v : ℕ) (x : Module) (b : List ℕ) {t : Bool} {after : List ℕ} (
   tested = sym (w .answer ∙ start-fits bytes b)
 
   pub bid-made : {l : ℕ} → t ≡ true → l ≡ length (messageBytes (Bid m v)) → (rs : List Record)
-      → Gave (stepIn rs m x b (bidsTo v)) (Bids v l) (record { own = x .own; held = x .held; received = x .received; bid = true }) after
+      → Gave (stepIn rs m x b (bidsTo v)) (Bids v l) (afterBid x) after
   unfolding stepIn sentBy answerBy stateBy bytesOfMessages messageBytes
   bid-made h f rs =
       let z : short bytes b ≡ false = not-true (short bytes b) (tested ∙ h) in

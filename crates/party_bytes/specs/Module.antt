@@ -9,7 +9,7 @@ use lib.Dec.{eqb}
 use Rattle.words.specs.Word.{quadAt, quadBytes, wordAt, wordBytes}
 use Rattle.records.specs.declared.Record.{Record}
 use Rattle.roundtrip.specs.Fits.{Bytes}
-use Rattle.permits.specs.Module.{moduleFits}
+use Rattle.permits.specs.Module.{withOwn, moduleFits, emptyModule}
 use Rattle.permits.specs.declared.Module.{Module}
 use Rattle.fields.specs.Fields.{flagByte, flagOf, isFlag}
 use Rattle.own_bytes.specs.Own.{ownSize, ownBytes, ownOf, isOwn, OwnEncodable, unfitOwn}
@@ -31,7 +31,7 @@ isModule b = eqb (length b) moduleSize && isOwn b && isFlag (getD b (ownSize + 1
 
 -- a module that fits no plan
 abbrev pub unfitModule : Module
-unfitModule = record { own = unfitOwn; held = 0; received = 0; bid = false }
+unfitModule = withOwn emptyModule unfitOwn
 
 -- The module of a call. Bytes that stand for no state give one that fits no plan, which every call on a module of the plan refuses with 9; a
 -- call on a module that the plan lacks judges no state.

@@ -8,7 +8,7 @@ use lib.ListN.{length, getD}
 use lib.Dec.{eqb}
 use Rattle.records.specs.declared.Record.{Record}
 use Rattle.roundtrip.specs.Fits.{Byte, Bytes}
-use Rattle.permits.specs.Supervisor.{supervisorFits}
+use Rattle.permits.specs.Supervisor.{withLast, supervisorFits, emptySupervisor}
 use Rattle.permits.specs.declared.Supervisor.{Supervisor}
 use Rattle.permits.specs.declared.Holder.{Holder}
 use Rattle.permits.specs.declared.Holder.the-variants.{Home, Out}
@@ -43,7 +43,7 @@ isSupervisor b = eqb (length b) supervisorSize && isFlag (getD b 3 0) && (flagOf
 
 -- a supervisor that fits no plan: its place last served is none
 abbrev pub unfitSupervisor : Supervisor
-unfitSupervisor = record { state = 0; noted = 0; holder = Home; last = 255 }
+unfitSupervisor = withLast emptySupervisor 255
 
 -- the supervisor of a call, as of a module
 unfoldable pub supervisorOf : List ℕ → Supervisor

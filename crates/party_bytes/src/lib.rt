@@ -52,12 +52,9 @@ fn unfit_module() -> Module
     ensures { λ r. ⌜ r ≡ unfitModule ⌝ }
 {
     let own = own_bytes::unfit();
-    Module {
-        own,
-        held: 0,
-        received: 0,
-        bid: false,
-    }
+    let mut x = permits::empty_module();
+    x.own = own;
+    x
 }
 
 // The module that the bytes are; one that fits no plan, if they stand for none.
@@ -118,12 +115,9 @@ fn supervisor_at(s: &[u8]) -> Supervisor
 fn unfit_supervisor() -> Supervisor
     ensures { λ r. ⌜ r ≡ unfitSupervisor ⌝ }
 {
-    Supervisor {
-        state: 0,
-        noted: 0,
-        holder: Holder::Home,
-        last: 255,
-    }
+    let mut y = permits::empty_supervisor();
+    y.last = 255;
+    y
 }
 
 // The supervisor that the bytes are; one that fits no plan, if they stand for none.

@@ -36,6 +36,17 @@ use Rattle.permits.specs.declared.Stepped.the-variants.{Turned as Turns,
 use Rattle.permits.specs.Names.{named}
 use Rattle.permits.specs.Step.{bytesOfMessages, Call}
 
+-- A module with some fields set and the others as they are; see specs/Own.antt of crate modules. A response and a tick set the own part.
+abbrev pub withOwn : Module → Own → Module
+withOwn x own = record { own = own; held = x .held; received = x .received; bid = x .bid }
+
+-- the permits held, and the union of the masks received with them
+abbrev pub withPermits : Module → ℕ → ℕ → Module
+withPermits x held received = record { own = x .own; held = held; received = received; bid = x .bid }
+
+abbrev pub withBid : Module → Bool → Module
+withBid x bid = record { own = x .own; held = x .held; received = x .received; bid = bid }
+
 -- "its lowest neighbour not held", by the masks of the neighbours and of those held
 unfoldable pub missingIn : ℕ → ℕ → Option ℕ
 missingIn adjacent held = least (λ v. bit adjacent v && not (bit held v)) 32
@@ -83,7 +94,7 @@ abbrev pub turnTaken : List Record → ℕ → Module → Turned
 turnTaken rs m x = turnOf rs m (x .received) (x .own)
 
 abbrev pub afterTurn : Module → Own → Module
-afterTurn x own = record { own = own; held = 0; received = 0; bid = x .bid }
+afterTurn x own = withPermits (withOwn x own) 0 0
 
 -- "A release carries the event that fired if that supervisor's alphabet has it, else FF."
 unfoldable pub eventFor : List Record → ℕ → Turn → ℕ
@@ -100,7 +111,7 @@ abbrev pub releases : List Record → ℕ → Turn → ℕ → List Message
 releases rs m t n = releasesIn rs m (neighbours rs m) t n
 
 abbrev pub afterBid : Module → Module
-afterBid x = record { own = x .own; held = x .held; received = x .received; bid = true }
+afterBid x = withBid x true
 
 -- the messages that a step sends, each by itself
 unfoldable pub sentBy : List Record → ℕ → Module → Choice → List Message
@@ -158,7 +169,7 @@ unfoldable pub bidWith : List Record → ℕ → Module → ℕ → Bool
 bidWith rs m x v = x .bid && isFor (missing rs m (x .held)) v
 
 abbrev pub afterPermit : Module → ℕ → ℕ → Module
-afterPermit x v k = record { own = x .own; held = putBit (x .held) v true; received = bitOr (x .received) k; bid = false }
+afterPermit x v k = withBid (withPermits x (putBit (x .held) v true) (bitOr (x .received) k)) false
 
 -- "A message that names another party than the one given it, or is of a kind that party never takes, is 12."
 unfoldable pub takenBy : List Record → ℕ → Module → Message → ModuleCalled
@@ -184,9 +195,6 @@ abbrev pub moduleDeliver : List ℕ → ℕ → Module → List ℕ → ModuleCa
 moduleDeliver image m x bytes = deliverBy (verdictOf image) (recordsOf image) m x (parse bytes)
 
 -- a response and a tick, as on one device
-abbrev pub withOwn : Module → Own → Module
-withOwn x own = record { own = own; held = x .held; received = x .received; bid = x .bid }
-
 unfoldable pub replyBy : Verdict → List Record → ℕ → Module → Replied → ModuleCalled
 replyBy Accepted rs m x r =
     cond (ltb m (modulesOf rs)) (cond (moduleFits rs m x) (record { answer = calledBy (r .reply); state = withOwn x (r .own) }) (callRefused x 9 0)) (callRefused x 11 0)
@@ -204,7 +212,7 @@ emptyModule = record { own = emptyOwn; held = 0; received = 0; bid = false }
 
 -- "At the start all are in their initial states, permits are home, nothing is noted, queued or bid"
 abbrev pub startModule : List Record → ℕ → Module
-startModule rs m = record { own = startOwn rs m; held = 0; received = 0; bid = false }
+startModule rs m = withOwn emptyModule (startOwn rs m)
 
 unfoldable pub startBy : Verdict → List Record → ℕ → ModuleCalled
 startBy Accepted rs m = cond (ltb m (modulesOf rs)) (record { answer = Done; state = startModule rs m }) (callRefused emptyModule 11 0)

@@ -30,6 +30,19 @@ use Rattle.permits.specs.Step.{bytesOfMessages, Call}
 -- the modules' cyclic order, passed on
 unfoldable pub use Rattle.bits.specs.Bit.{moduleAfter}
 
+-- a supervisor with a field set and the others as they are; see specs/Own.antt of crate modules
+abbrev pub withState : Supervisor → ℕ → Supervisor
+withState y st = record { state = st; noted = y .noted; holder = y .holder; last = y .last }
+
+abbrev pub withNoted : Supervisor → ℕ → Supervisor
+withNoted y noted = record { state = y .state; noted = noted; holder = y .holder; last = y .last }
+
+abbrev pub withHolder : Supervisor → Holder → Supervisor
+withHolder y holder = record { state = y .state; noted = y .noted; holder = holder; last = y .last }
+
+abbrev pub withLast : Supervisor → ℕ → Supervisor
+withLast y last = record { state = y .state; noted = y .noted; holder = y .holder; last = last }
+
 -- document 01's term "fits", of a supervisor: "a supervisor's noted modules and holder are its neighbours, its last-served place is 0 to 15"
 unfoldable pub holderFits : List Record → ℕ → Holder → Bool
 holderFits rs v Home = true
@@ -54,7 +67,7 @@ served y = servedOn y (y .holder)
 
 -- "to the first noted module .. and removes that note"
 abbrev pub afterSend : Supervisor → ℕ → Supervisor
-afterSend y m = record { state = y .state; noted = putBit (y .noted) m false; holder = Out m; last = m }
+afterSend y m = withLast (withHolder (withNoted y (putBit (y .noted) m false)) (Out m)) m
 
 -- "sends it, with its shown mask"
 unfoldable pub sentTo : List Record → ℕ → Supervisor → Option ℕ → List Message
@@ -98,14 +111,14 @@ callRefused y n o = record { answer = CallRefused n o; state = y }
 
 -- "a bid is noted; a second noted bid of that module is 12"
 abbrev pub afterNote : Supervisor → ℕ → Supervisor
-afterNote y m = record { state = y .state; noted = putBit (y .noted) m true; holder = y .holder; last = y .last }
+afterNote y m = withNoted y (putBit (y .noted) m true)
 
 -- "A release, due only from the holder, applies its event and brings the permit home"; a supervisor without a listed move stays
 unfoldable pub applied : List Record → ℕ → ℕ → ℕ → ℕ
 applied rs v st e = cond (eqb e noEvent) st (supervisorMoved rs v st e)
 
 abbrev pub afterRelease : List Record → ℕ → Supervisor → ℕ → Supervisor
-afterRelease rs v y e = record { state = applied rs v (y .state) e; noted = y .noted; holder = Home; last = y .last }
+afterRelease rs v y e = withHolder (withState y (applied rs v (y .state) e)) Home
 
 unfoldable pub heldBy : Holder → ℕ → Bool
 heldBy Home m = false
@@ -138,7 +151,7 @@ emptySupervisor = record { state = 0; noted = 0; holder = Home; last = 0 }
 
 -- "permits are home, nothing is noted"; "the last served (15 at the start)"
 abbrev pub startSupervisor : List Record → ℕ → Supervisor
-startSupervisor rs v = record { state = supervisorInitial rs v; noted = 0; holder = Home; last = 15 }
+startSupervisor rs v = withLast (withState emptySupervisor (supervisorInitial rs v)) 15
 
 unfoldable pub startBy : Verdict → List Record → ℕ → SupervisorCalled
 startBy Accepted rs v = cond (ltb v (supervisorsOf rs)) (record { answer = Done; state = startSupervisor rs v }) (callRefused emptySupervisor 11 0)

@@ -4,8 +4,8 @@ ghost use mathlib.Core.Path.{_≡_};
 ghost use Rattle.places.specs.Places.{recordsBy};
 ghost use Rattle.plan.specs.Plan.{neighbour};
 ghost use Rattle.permits.specs.Names.{neighbours?, eventNamed, named};
-ghost use Rattle.permits.specs.Module.{emptyModule};
-ghost use Rattle.permits.specs.Supervisor.{emptySupervisor};
+ghost use Rattle.permits.specs.Module.{withPermits, withBid, emptyModule};
+ghost use Rattle.permits.specs.Supervisor.{withHolder, emptySupervisor};
 use messages::Message;
 use modules::Called;
 use modules::Own;
@@ -94,6 +94,32 @@ pub fn empty_supervisor() -> Supervisor
         noted: 0,
         holder,
         last: 0,
+    }
+}
+
+// The module with other permits held and masks received, and a bid outstanding or none. All fields are written at once: stored one by one into a copy,
+// they would cost a delivery some nanoseconds more.
+pub fn with_permits(x: Module, held: u32, received: u64, bid: bool) -> Module
+    ensures { λ r. ⌜ r ≡ withBid (withPermits x held received) bid ⌝ }
+{
+    let own = x.own;
+    Module {
+        own,
+        held,
+        received,
+        bid,
+    }
+}
+
+// The supervisor with another holder of its permit.
+pub fn with_holder(y: Supervisor, holder: Holder) -> Supervisor
+    ensures { λ r. ⌜ r ≡ withHolder y holder ⌝ }
+{
+    Supervisor {
+        state: y.state,
+        noted: y.noted,
+        holder,
+        last: y.last,
     }
 }
 

@@ -28,7 +28,7 @@ use Rattle.messages.specs.declared.Message.the-variants.{Bid, Permit, Release}
 use Rattle.messages.specs.declared.Parsed.{Parsed}
 use Rattle.messages.specs.declared.Parsed.the-variants.{Whole, Misshapen}
 use Rattle.permits.specs.Names.{neighbours?, eventNamed, named}
-use Rattle.permits.specs.Supervisor.{holderFits, supervisorFits, callRefused, afterNote, applied, afterRelease, heldBy, takenBy, deliverIn, absent, deliverBy, supervisorDeliver}
+use Rattle.permits.specs.Supervisor.{withState, withNoted, withHolder, holderFits, supervisorFits, callRefused, afterNote, applied, afterRelease, heldBy, takenBy, deliverIn, absent, deliverBy, supervisorDeliver}
 use Rattle.permits.specs.declared.Supervisor.{Supervisor}
 use Rattle.permits.specs.declared.SupervisorCalled.{SupervisorCalled}
 use Rattle.permits.specs.declared.Holder.{Holder}
@@ -84,8 +84,8 @@ release-named rs v y {m} {w} {e} {b = b} f h k q i =
 
 -- ---- a bid noted
 
-pub after-note : (y : Supervisor) (m : ℕ) {n : ℕ} → m < 16 → n ≡ putNote (y .noted) m true → (record { state = y .state; noted = n; holder = y .holder; last = y .last }) ≡ afterNote y m
-after-note y m l e = ap (λ (n : ℕ). record { state = y .state; noted = n; holder = y .holder; last = y .last }) (put-in (y .noted) m true l e)
+pub after-note : (y : Supervisor) (m : ℕ) {n : ℕ} → m < 16 → n ≡ putNote (y .noted) m true → withNoted y n ≡ afterNote y m
+after-note y m l e = ap (withNoted y) (put-in (y .noted) m true l e)
 
 -- ---- a release's event applied
 
@@ -97,6 +97,9 @@ module _ (rs : List Record) (v st e : ℕ) where
   pub applied-moves : {s : ℕ} → (e ≡ 255 → ⊥) → s ≡ supervisorMoved rs v st e → s ≡ applied rs v st e
   unfolding applied
   applied-moves h f = f ∙ simp (ne-eqb e 255 h)
+
+pub after-release : (rs : List Record) (v : ℕ) (y : Supervisor) (e : ℕ) {st : ℕ} {r : Supervisor} → st ≡ applied rs v (y .state) e → r ≡ withHolder (withState y st) Home → r ≡ afterRelease rs v y e
+after-release rs v y e f h = h ∙ ap (λ (s : ℕ). withHolder (withState y s) Home) f
 
 pub held-arm : (h : Holder) (m : ℕ) {x : Holder} {t : Bool} → h ≡ x → t ≡ heldBy x m → t ≡ heldBy h m
 held-arm h m e f = f ∙ ap (λ (z : Holder). heldBy z m) (sym e)

@@ -12,10 +12,9 @@ use Rattle.checker.specs.declared.Examined.the-variants.{Accepted, Refused}
 use Rattle.checker.proofs.Examining.{call-by, refused-call}
 use Rattle.plan.specs.Plan.{supervisorInitial}
 use Rattle.modules.specs.declared.Called.the-variants.{Done}
-use Rattle.permits.specs.Supervisor.{callRefused, emptySupervisor, startBy, supervisorStart}
+use Rattle.permits.specs.Supervisor.{withState, withLast, callRefused, emptySupervisor, startBy, supervisorStart}
 use Rattle.permits.specs.declared.Supervisor.{Supervisor}
 use Rattle.permits.specs.declared.SupervisorCalled.{SupervisorCalled}
-use Rattle.permits.specs.declared.Holder.the-variants.{Home}
 use Rattle.noting.proofs.Planned.{present, lacking}
 
 module _ (image : List ℕ) (v : ℕ) {d : Examined} (e : d ≡ examinedOf image) where
@@ -31,7 +30,7 @@ module _ (image : List ℕ) (v : ℕ) {d : Examined} (e : d ≡ examinedOf image
     unfolding startBy
     start-absent l g h = h ∙ simp (lacking (recordsBy image p) v c l, g) refl ∙ by
 
-    pub start-done : {st : ℕ} → v < k → st ≡ supervisorInitial (recordsBy image p) v
-        → (record { answer = Done; state = record { state = st; noted = 0; holder = Home; last = 15 } }) ≡ supervisorStart image v
+    pub start-done : {y : Supervisor} {st : ℕ} → v < k → y ≡ emptySupervisor → st ≡ supervisorInitial (recordsBy image p) v
+        → (record { answer = Done; state = withLast (withState y st) 15 }) ≡ supervisorStart image v
     unfolding startBy
-    start-done l g = simp (present (recordsBy image p) v c l, g) refl ∙ by
+    start-done l h g = simp (present (recordsBy image p) v c l, g, h) refl ∙ by

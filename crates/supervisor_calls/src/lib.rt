@@ -33,12 +33,9 @@ pub fn start(image: &[u8], v: u8) -> SupervisorCalled
     match checker::examine(image) {
         Examined::Accepted(places) => {
             if v < plan::supervisors_of(image, places) {
-                let state = Supervisor {
-                    state: plan::supervisor_initial(image, places, v),
-                    noted: 0,
-                    holder: Holder::Home,
-                    last: 15,
-                };
+                let mut state = permits::empty_supervisor();
+                state.state = plan::supervisor_initial(image, places, v);
+                state.last = 15;
                 SupervisorCalled {
                     answer: Called::Done,
                     state,
@@ -71,13 +68,9 @@ fn after_note(y: Supervisor, m: u8) -> Supervisor
     requires { ⌜ m < 16 ⌝ }
     ensures { λ r. ⌜ r ≡ afterNote y m ⌝ }
 {
-    let holder = y.holder;
-    Supervisor {
-        state: y.state,
-        noted: noting::put_note(y.noted, m, true),
-        holder,
-        last: y.last,
-    }
+    let mut next = y;
+    next.noted = noting::put_note(y.noted, m, true);
+    next
 }
 
 // The state after a release's event. One that is named is in the alphabet, so that it is not asked for again.
@@ -94,13 +87,9 @@ fn apply(image: &[u8], places: Places, v: u8, st: u8, e: u8) -> u8
 fn after_release(image: &[u8], places: Places, v: u8, y: Supervisor, e: u8) -> Supervisor
     ensures { λ r. ⌜ r ≡ afterRelease (recordsBy (now (image .entry)) places) v y e ⌝ }
 {
-    let holder = Holder::Home;
-    Supervisor {
-        state: apply(image, places, v, y.state, e),
-        noted: y.noted,
-        holder,
-        last: y.last,
-    }
+    let mut next = y;
+    next.state = apply(image, places, v, y.state, e);
+    permits::with_holder(next, Holder::Home)
 }
 
 fn held_by(holder: Holder, m: u8) -> bool

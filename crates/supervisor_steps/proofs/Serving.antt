@@ -25,7 +25,7 @@ use Rattle.messages.specs.Write.{Wrote}
 use Rattle.messages.specs.declared.Message.the-variants.{Permit}
 use Rattle.messages.proofs.Writing.{turned-round, start-fits, put-start, put-short}
 use Rattle.permits.specs.Step.{bytesOfMessages, Gave}
-use Rattle.permits.specs.Supervisor.{supervisorFits, served, afterSend, sentTo, answerBy, stateAfter, stepRefused, stepIn, stepBy, supervisorStep}
+use Rattle.permits.specs.Supervisor.{withNoted, withHolder, withLast, supervisorFits, served, afterSend, sentTo, answerBy, stateAfter, stepRefused, stepIn, stepBy, supervisorStep}
 use Rattle.permits.specs.declared.Supervisor.{Supervisor}
 use Rattle.permits.specs.declared.SupervisorStepped.{SupervisorStepped}
 use Rattle.permits.specs.declared.Holder.the-variants.{Out}
@@ -38,8 +38,8 @@ use Rattle.noting.proofs.Planned.{present, lacking}
 
 -- ---- the permit sent
 
-pub after-send : (y : Supervisor) (m : ℕ) {n : ℕ} → m < 16 → n ≡ putNote (y .noted) m false → (record { state = y .state; noted = n; holder = Out m; last = m }) ≡ afterSend y m
-after-send y m l e = ap (λ (n : ℕ). record { state = y .state; noted = n; holder = Out m; last = m }) (put-in (y .noted) m false l e)
+pub after-send : (y : Supervisor) (m : ℕ) {n : ℕ} {r : Supervisor} → m < 16 → n ≡ putNote (y .noted) m false → r ≡ withHolder (withLast (withNoted y n) m) (Out m) → r ≡ afterSend y m
+after-send y m l e h = h ∙ ap (λ (n : ℕ). withHolder (withLast (withNoted y n) m) (Out m)) (put-in (y .noted) m false l e)
 
 refuses : (y : Supervisor) (b : List ℕ) (n o : ℕ) {r : SupervisorStepped} → r ≡ (record { answer = StepRefused n o; state = y }) → Gave (stepRefused y b n o) (r .answer) (r .state) b
 refuses y b n o e = record { answer = ap (λ (z : SupervisorStepped). z .answer) e; state = ap (λ (z : SupervisorStepped). z .state) e; buffer = refl }

@@ -27,12 +27,10 @@ fn after_send(y: Supervisor, m: u8) -> Supervisor
     requires { ⌜ m < 16 ⌝ }
     ensures { λ r. ⌜ r ≡ afterSend y m ⌝ }
 {
-    Supervisor {
-        state: y.state,
-        noted: noting::put_note(y.noted, m, false),
-        holder: Holder::Out(m),
-        last: m,
-    }
+    let mut next = y;
+    next.noted = noting::put_note(y.noted, m, false);
+    next.last = m;
+    permits::with_holder(next, Holder::Out(m))
 }
 
 // The permit, with the mask that the supervisor shows now.

@@ -21,6 +21,9 @@ returns c = search permit-none
 hold-requires : tie.Need-hold-requires
 hold-requires c κs = search permit-small
 
+with-permits-requires : tie.Need-with-permits-requires
+with-permits-requires c κs = search needs
+
 refused-requires-2 : tie.Need-refused-requires-2
 refused-requires-2 c κs = search needs
 
@@ -40,6 +43,7 @@ take-permit-spec =
     refused-requires
     returns
     hold-requires
+    with-permits-requires
     refused-requires-2
     returns-2
     returns-3)

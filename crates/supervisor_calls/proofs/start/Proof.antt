@@ -12,11 +12,14 @@ enum-known-places c = search needs
 supervisors-of-requires : tie.Need-supervisors-of-requires
 supervisors-of-requires c κs = search needs
 
+empty-supervisor-requires : tie.Need-empty-supervisor-requires
+empty-supervisor-requires c κs = search needs
+
 supervisor-initial-requires : tie.Need-supervisor-initial-requires
 supervisor-initial-requires c κs = search needs
 
-empty-supervisor-requires : tie.Need-empty-supervisor-requires
-empty-supervisor-requires c κs = search needs
+empty-supervisor-requires-2 : tie.Need-empty-supervisor-requires-2
+empty-supervisor-requires-2 c κs = search needs
 
 refused-requires : tie.Need-refused-requires
 refused-requires c κs = search needs
@@ -24,8 +27,8 @@ refused-requires c κs = search needs
 enum-known-n : tie.Need-enum-known-n
 enum-known-n c = search needs
 
-empty-supervisor-requires-2 : tie.Need-empty-supervisor-requires-2
-empty-supervisor-requires-2 c κs = search needs
+empty-supervisor-requires-3 : tie.Need-empty-supervisor-requires-3
+empty-supervisor-requires-3 c κs = search needs
 
 refused-requires-2 : tie.Need-refused-requires-2
 refused-requires-2 c κs = search needs
@@ -46,11 +49,12 @@ start-spec =
     examine-requires
     enum-known-places
     supervisors-of-requires
-    supervisor-initial-requires
     empty-supervisor-requires
+    supervisor-initial-requires
+    empty-supervisor-requires-2
     refused-requires
     enum-known-n
-    empty-supervisor-requires-2
+    empty-supervisor-requires-3
     refused-requires-2
     returns
     returns-2
