@@ -174,12 +174,7 @@ fn with_note(mut y: Supervisor, s: &[u8]) -> Supervisor {
         }
         b'h' => {
             let holder = holder_in(s);
-            Supervisor {
-                state: y.state,
-                noted: y.noted,
-                holder,
-                last: y.last,
-            }
+            permits::with_holder(y, holder)
         }
         _ => {
             y.last = example_lines::byte_in(s, 2);
