@@ -218,10 +218,8 @@ for kind, body in re.findall(r"k 0x(\w\w)\) (\d+)", definition("crates/records/s
     row(2, r"%s \| [^|]+ \| %s \|" % (kind.upper(), body), "kind %s with a body of %s bytes" % (kind.upper(), body))
 for kind, body in re.findall(r"shaped 0x(\w\w) (\d+)", definition("crates/messages/specs/Message.antt", "parse")):
     row(6, r"%s \| [^|]+ \| [^|]+: %d \|" % (kind, int(body) + 1), "message %s with a body of %s bytes" % (kind, body))
-numbers = list(range(1, int(re.search(r"n ≤ (\d+)", definition("crates/refusals/specs/Refusals.antt", "InTable")).group(1)) + 1))
-for name in ("OfStuck", "OfCounts"):
-    numbers += [int(n) for n in re.findall(r"n ≡ (\d+)", definition("crates/refusals/specs/Refusals.antt", name)) if int(n) not in numbers]
-for number in numbers:
+given = "".join(definition("crates/refusals/specs/Table.antt", name) for name in ("ofImage =", "numbersOf"))
+for number in sorted(set(int(n) for n in re.findall(r"(\d+) ∷", given))):
     row(8, r"%d \| [^|]+ \| [^|]+ \| [^|]+ \|$" % number, "number %d" % number)
 layouts = "".join(re.findall(r"/\* ---- states, by offset ----.*?\*/", header, re.S))
 for place, field in re.findall(r" (\d+(?:\.\.\d+)?) {2,}(\w[^,;\n]*?)(?=[,;\n]| {2,})", layouts):

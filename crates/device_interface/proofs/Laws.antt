@@ -21,6 +21,8 @@ use Rattle.checker.specs.Examined.{examinedOf}
 use Rattle.checker.specs.declared.Examined.{Examined}
 use Rattle.checker.specs.declared.Examined.the-variants.{Accepted, Refused}
 use Rattle.checker.proofs.Examining.{refused-is}
+use Rattle.refusals.specs.Table.{check}
+use Rattle.refusals.proofs.Table.{is-refusal}
 use Rattle.refusals.proofs.Checked.{checked}
 use Rattle.messages.specs.Message.{putAt, written}
 use Rattle.water.specs.declared.Flow.{Flow}
@@ -181,7 +183,7 @@ module _ (image s : List ℕ) (m : ℕ) {v : Examined} (e : v ≡ examinedOf ima
 
   -- a refused image, whose number is not 0
   refused-not : {n o : ℕ} → v ≡ Refused n o → eqb n 0 ≡ false
-  refused-not {n} {o} q = let l : 1 ≤ n = checked image .numbered n o (refused-is image e q) .0 in ne-eqb n 0 (λ z. omega (arith, l, z))
+  refused-not {n} {o} q = ne-eqb n 0 (is-refusal check n (checked image .numbered n o (refused-is image e q)))
 
   module _ {n o r : ℕ} (q : v ≡ Refused n o) (w : r ≡ packed n 0 0 o) where
     pub turn-refused : Answered (turnBytes image s m) r s []

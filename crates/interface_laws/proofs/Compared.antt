@@ -35,7 +35,10 @@ use Rattle.permits.specs.Module as M
 use Rattle.permits.specs.declared.Module.{Module}
 use Rattle.permits.specs.declared.Stepped.{Stepped}
 use Rattle.permits.specs.declared.Stepped.the-variants.{Turned, Bids, Waits, Refused}
-use Rattle.refusals.specs.Refusals.{InTable, CallAnswer}
+use Rattle.refusals.specs.Table as Table
+use Rattle.refusals.specs.Table.{InTable, CallKind}
+use Rattle.refusals.specs.Refusals.{CallAnswer}
+use Rattle.refusals.proofs.Table.{listed, is-byte}
 use Rattle.refusals.proofs.Refusals.{refusals}
 use Rattle.agreement.specs.System.{System, Act, moduleStep, supervisorStep, deliver, respond, tick, bufferLength, Lent, AllLent, step, run}
 use Rattle.agreement.specs.Compared.{Seen, turnSeen, refusalSeen, callSeen, stepSeen, actSeen, seen, DeviceAct, deviceTurn, deviceRespond, deviceTick, choiceFed, actFed, fed, deviceStep, turningSeen, deviceActSeen, deviceSeen}
@@ -98,10 +101,10 @@ module _ (m : ℕ) (s b own : List ℕ) where
   turn-outcome (Stray e) k h = parts 0 2 e k (lit< tt) (lit< tt) h
   turn-outcome Nothing k h = parts 0 3 0 k (lit< tt) (lit< tt) (lit< tt)
 
-  call-outcome : (a : Called) → CallAnswer a → outcome m (answerBy (calledAnswer a)) own ≡ callOutcome m a own
+  call-outcome : (c : CallKind) (a : Called) → CallAnswer c a → outcome m (answerBy (calledAnswer a)) own ≡ callOutcome m a own
   unfolding calledAnswer
-  call-outcome Done h = parts 0 0 0 0 (lit< tt) (lit< tt) (lit< tt)
-  call-outcome (CallRefused n o) h = parts n 0 0 o (omega (arith, h .numbered n o refl .1)) (lit< tt) (lit< tt)
+  call-outcome c Done h = parts 0 0 0 0 (lit< tt) (lit< tt) (lit< tt)
+  call-outcome c (CallRefused n o) h = parts n 0 0 o (is-byte c n (h .numbered n o refl)) (lit< tt) (lit< tt)
 
   turn-taken : (t : Turn) (k : ℕ) → TurnSmall t → tookTurn (answerBy (turnAnswer t k)) ≡ true
   unfolding turnAnswer
@@ -115,7 +118,7 @@ module _ (m : ℕ) (s b own : List ℕ) where
   step-taken (Bids v k) h = is-turn 0 4 v k (lit< tt) (lit< tt) (h .0)
   step-taken Waits h = is-turn 0 6 0 0 (lit< tt) (lit< tt) (lit< tt)
   step-taken (Refused n o) h =
-      is-turn n 0 0 o (omega (arith, h .1)) (lit< tt) (lit< tt) ∙ ap (λ (t : Bool). t && false && true) (ne-eqb n 0 (λ e. omega (arith, h .0)))
+      is-turn n 0 0 o (listed .byte n h) (lit< tt) (lit< tt) ∙ ap (λ (t : Bool). t && false && true) (ne-eqb n 0 (listed .not-0 n h))
 
   step-outcomes : (a : Stepped) (o : Own) → StepSmall a → own ≡ ownBytes o
       → cond (tookTurn (answerBy (steppedAnswer a))) (outcome m (answerBy (steppedAnswer a)) own ∷ []) [] ≡ map outcomeOf (stepSeen m a o)
@@ -182,14 +185,14 @@ module _ (image : List ℕ) (accepted : IsPlan image) where
         let z : Module = M.moduleRespond image m x e .state in
         compared (ltb m (modulesOf (recordsOf image))) _ _
         (ap (moduleOutcome m) (same-calls .moduleRespond image m x e (h .modules m))
-        ∙ call-outcome m (moduleBytes z) [] (take ownSize (moduleBytes z)) (M.moduleRespond image m x e .answer) (refusals .modules .respond image m x e .answer)
+        ∙ call-outcome m (moduleBytes z) [] (take ownSize (moduleBytes z)) Table.respond (M.moduleRespond image m x e .answer) (refusals .modules .respond image m x e .answer)
         ∙ ap (callOutcome m (M.moduleRespond image m x e .answer)) (own-first z (all-encodable .moduleRespond image m x e (h .modules m))))
     act-seen (tick m f) l =
         let x : Module = D .moduleAt m in
         let z : Module = M.moduleTick image m x f .state in
         compared (ltb m (modulesOf (recordsOf image))) _ _
         (ap (moduleOutcome m) (same-calls .moduleTick image m x (sensorOf f) (litresOf f) (h .modules m) ∙ ap (λ (r : Flow). moduleAnswer (M.moduleTick image m x r)) (flow-back f))
-        ∙ call-outcome m (moduleBytes z) [] (take ownSize (moduleBytes z)) (M.moduleTick image m x f .answer) (refusals .modules .tick image m x f .answer)
+        ∙ call-outcome m (moduleBytes z) [] (take ownSize (moduleBytes z)) Table.tick (M.moduleTick image m x f .answer) (refusals .modules .tick image m x f .answer)
         ∙ ap (callOutcome m (M.moduleTick image m x f .answer)) (own-first z (all-encodable .moduleTick image m x f (h .modules m))))
 
     act-fed : NeverRefused image D → (a : Act) → Lent a → actBytesFed image (encoded D) a ≡ actFed (recordsOf image) D a
@@ -258,7 +261,7 @@ turning-outcome : (m : ℕ) (s b : List ℕ) (a : Turning) (own : Own) → Turni
     → outcome m (record { number = turningAnswer a; state = s; buffer = b }) (ownBytes own) ≡ outcomeOf (turningSeen m a own)
 unfolding turningAnswer turningSeen
 turning-outcome m s b (DeviceTurned t) own h = turn-outcome m s b (ownBytes own) t 0 h
-turning-outcome m s b (DeviceRefused n o) own h = parts m s b (ownBytes own) n 0 0 o (omega (arith, h .1)) (lit< tt) (lit< tt)
+turning-outcome m s b (DeviceRefused n o) own h = parts m s b (ownBytes own) n 0 0 o (listed .byte n h) (lit< tt) (lit< tt)
 
 module _ (image : List ℕ) (accepted : IsPlan image) where
   abbrev rs : List Record
@@ -273,8 +276,8 @@ module _ (image : List ℕ) (accepted : IsPlan image) where
     where
       in-table : (n : ℕ) (a b : Bool) → _≡_ {A = ℕ} (cond a (cond b 0 11) 9) (suc n) → InTable (suc n)
       in-table n true true e = absurd (omega arith)
-      in-table n true false e = (omega arith, omega arith)
-      in-table n false b e = (omega arith, omega arith)
+      in-table n true false e = subst InTable e refl
+      in-table n false b e = subst InTable e refl
 
       go : (n : ℕ) → deviceNumber rs d m ≡ n → TurningSmall (turnIn rs d m n .answer)
       go zero e = turn-small rs plan m (shownBy rs (stateAt d) (supervisorsOf rs)) (ownAt d m) (slot-fits rs plan d m h e)
@@ -291,12 +294,12 @@ module _ (image : List ℕ) (accepted : IsPlan image) where
       let e : Device = respondCall image d m r .device in
       ap (deviceOutcome m) (device-same image accepted d h (deviceRespond m r))
       ∙ ap (outcome m (deviceActAnswer image d (deviceRespond m r))) (slot e m (device-encodable image accepted d h (deviceRespond m r)) l)
-      ∙ call-outcome m (deviceBytes e) [] (ownBytes (ownAt e m)) (respondCall image d m r .answer) (refusals .device .respond image d m r .answer)
+      ∙ call-outcome m (deviceBytes e) [] (ownBytes (ownAt e m)) Table.respond (respondCall image d m r .answer) (refusals .device .respond image d m r .answer)
   device-act d h (deviceTick m f) l =
       let e : Device = tickCall image d m f .device in
       ap (deviceOutcome m) (device-same image accepted d h (deviceTick m f))
       ∙ ap (outcome m (deviceActAnswer image d (deviceTick m f))) (slot e m (device-encodable image accepted d h (deviceTick m f)) l)
-      ∙ call-outcome m (deviceBytes e) [] (ownBytes (ownAt e m)) (tickCall image d m f .answer) (refusals .device .tick image d m f .answer)
+      ∙ call-outcome m (deviceBytes e) [] (ownBytes (ownAt e m)) Table.tick (tickCall image d m f .answer) (refusals .device .tick image d m f .answer)
 
   pub device-seen : (l : List DeviceAct) → AllBelow l → (d : Device) → DeviceEncodable d → deviceBytesSeen image (deviceBytes d) l ≡ map outcomeOf (deviceSeen image d l)
   unfolding deviceBytesSeen deviceSeen

@@ -30,7 +30,9 @@ use Rattle.permits.specs.Supervisor as Supervisors
 use Rattle.permits.specs.Supervisor.{supervisorFits}
 use Rattle.permits.specs.declared.Module.{Module}
 use Rattle.permits.specs.declared.Supervisor.{Supervisor}
-use Rattle.refusals.specs.Refusals.{InTable, CheckAnswer}
+use Rattle.refusals.specs.Table.{check}
+use Rattle.refusals.specs.Refusals.{CheckAnswer}
+use Rattle.refusals.proofs.Table.{is-refusal}
 use Rattle.refusals.proofs.Refusals.{refusals}
 use Rattle.fields.proofs.Back.{and-left}
 use Rattle.own_bytes.specs.Own.{isOwn}
@@ -42,9 +44,6 @@ use Rattle.party_bytes.proofs.Parts.{module-parts, supervisor-parts}
 use Rattle.packing.proofs.InPlace.{over, put-over}
 
 -- ---- a state that does not fit is refused, whatever else
-
-in-table : (n : ℕ) → InTable n → n ≢ 0
-in-table n t e = let l : 1 ≤ n = t .0 in omega arith
 
 eleven : _≢_ {A = ℕ} 11 0
 eleven e = omega arith
@@ -63,7 +62,7 @@ module _ (rs : List Record) (m : ℕ) (x : Module) (f : moduleFits rs m x ≡ fa
       go : (t : Bool) → ltb m (modulesOf rs) ≡ t → steppedNumber (Modules.stepBy Accepted rs m x l .answer) ≢ 0
       go true e = simp (e, f) not-fit
       go false e = simp e eleven
-  step-refused (CheckRefused n o) j l = in-table n (j .numbered n o refl)
+  step-refused (CheckRefused n o) j l = is-refusal check n (j .numbered n o refl)
 
   pub deliver-refused : (v : Verdict) → CheckAnswer v → (g : Parsed) → calledNumber (Modules.deliverBy v rs m x g .answer) ≢ 0
   unfolding Modules.deliverBy Modules.absent
@@ -73,7 +72,7 @@ module _ (rs : List Record) (m : ℕ) (x : Module) (f : moduleFits rs m x ≡ fa
       go true e g = simp (e, f) not-fit
       go false e Misshapen = simp e ten
       go false e (Whole g) = simp e eleven
-  deliver-refused (CheckRefused n o) j g = in-table n (j .numbered n o refl)
+  deliver-refused (CheckRefused n o) j g = is-refusal check n (j .numbered n o refl)
 
   pub reply-refused : (v : Verdict) → CheckAnswer v → (r : Replied) → calledNumber (Modules.replyBy v rs m x r .answer) ≢ 0
   unfolding Modules.replyBy
@@ -82,7 +81,7 @@ module _ (rs : List Record) (m : ℕ) (x : Module) (f : moduleFits rs m x ≡ fa
       go : (t : Bool) → ltb m (modulesOf rs) ≡ t → calledNumber (Modules.replyBy Accepted rs m x r .answer) ≢ 0
       go true e = simp (e, f) not-fit
       go false e = simp e eleven
-  reply-refused (CheckRefused n o) j r = in-table n (j .numbered n o refl)
+  reply-refused (CheckRefused n o) j r = is-refusal check n (j .numbered n o refl)
 
 module _ (rs : List Record) (v : ℕ) (y : Supervisor) (f : supervisorFits rs v y ≡ false) where
   pub serve-refused : (w : Verdict) → CheckAnswer w → (l : List ℕ) → servedNumber (Supervisors.stepBy w rs v y l .answer) ≢ 0
@@ -92,7 +91,7 @@ module _ (rs : List Record) (v : ℕ) (y : Supervisor) (f : supervisorFits rs v 
       go : (t : Bool) → ltb v (supervisorsOf rs) ≡ t → servedNumber (Supervisors.stepBy Accepted rs v y l .answer) ≢ 0
       go true e = simp (e, f) not-fit
       go false e = simp e eleven
-  serve-refused (CheckRefused n o) j l = in-table n (j .numbered n o refl)
+  serve-refused (CheckRefused n o) j l = is-refusal check n (j .numbered n o refl)
 
   pub given-refused : (w : Verdict) → CheckAnswer w → (g : Parsed) → calledNumber (Supervisors.deliverBy w rs v y g .answer) ≢ 0
   unfolding Supervisors.deliverBy Supervisors.absent
@@ -102,7 +101,7 @@ module _ (rs : List Record) (v : ℕ) (y : Supervisor) (f : supervisorFits rs v 
       go true e g = simp (e, f) not-fit
       go false e Misshapen = simp e ten
       go false e (Whole g) = simp e eleven
-  given-refused (CheckRefused n o) j g = in-table n (j .numbered n o refl)
+  given-refused (CheckRefused n o) j g = is-refusal check n (j .numbered n o refl)
 
 module _ (rs : List Record) (d : Device) (m : ℕ) (f : deviceFits rs d ≡ false) where
   nine : deviceNumber rs d m ≡ 9
@@ -111,12 +110,12 @@ module _ (rs : List Record) (d : Device) (m : ℕ) (f : deviceFits rs d ≡ fals
   pub turn-refused : (v : Verdict) → CheckAnswer v → turningNumber (turnBy v rs d m .answer) ≢ 0
   unfolding turnBy turnIn
   turn-refused Accepted j = simp nine not-fit
-  turn-refused (CheckRefused n o) j = in-table n (j .numbered n o refl)
+  turn-refused (CheckRefused n o) j = is-refusal check n (j .numbered n o refl)
 
   pub replied-refused : (v : Verdict) → CheckAnswer v → (r : Replied) → calledNumber (replyBy v rs d m r .answer) ≢ 0
   unfolding replyBy replyIn
   replied-refused Accepted j r = simp nine not-fit
-  replied-refused (CheckRefused n o) j r = in-table n (j .numbered n o refl)
+  replied-refused (CheckRefused n o) j r = is-refusal check n (j .numbered n o refl)
 
 -- ---- the bytes put where bytes of the same length stood
 

@@ -1,6 +1,5 @@
 -- `SameNumbers` of specs/Laws.antt.
 use mathlib.Core.Path.{_≡_, refl, sym, ap, _∙_}
-use mathlib.Core.Logic.{inl, inr}
 use mathlib.Core.List.{List}
 use mathlib.Core.Bool.{Bool, true, false, cond, _&&_}
 use Prim.Native.Nat.{ℕ, _%_, _≤_, _<_}
@@ -52,7 +51,10 @@ use Rattle.words.specs.Word.{quadAt}
 use Rattle.piece_bytes.specs.State.{stageOf, isStage, isState, stateAt, stateBytes}
 use Rattle.piece_interface.specs.Calls.{checkStartBytes, checkPieceBytes, checkAnswerBytes}
 use Rattle.refusals.specs.Numbers.{verdictNumber, writtenNumber}
-use Rattle.refusals.specs.Refusals.{InTable, OfPages, OfCheck, CheckAnswer, WriteAnswer, PrintAnswer, CallAnswer, TurnAnswer, StepAnswer, ServeAnswer, BlockingAnswer, OfStuck, CountingAnswer, OfCounts}
+use Rattle.refusals.specs.Table as Table
+use Rattle.refusals.specs.Table.{CallKind, Gives}
+use Rattle.refusals.specs.Refusals.{OfCheck, CheckAnswer, WriteAnswer, PrintAnswer, CallAnswer, TurnAnswer, StepAnswer, ServeAnswer, BlockingAnswer, CountingAnswer}
+use Rattle.refusals.proofs.Table.{is-refusal, is-byte}
 use Rattle.refusals.proofs.Cases.{done}
 use Rattle.refusals.proofs.Refusals.{refusals}
 use Rattle.device_bytes.specs.Device.{deviceSize, deviceBytes, deviceOf}
@@ -83,20 +85,19 @@ pub accepted : (d v s : ℕ) → packed 0 d v s % 256 ≡ 0
 unfolding packed
 accepted d v s = omega arith
 
-number : (n o : ℕ) → InTable n → packed n 0 0 o % 256 ≡ n
+small : (n o : ℕ) → n < 256 → packed n 0 0 o % 256 ≡ n
 unfolding packed
-number n o t = omega (arith, t .1)
+small n o h = omega arith
+
+number : (c : CallKind) (n o : ℕ) → Gives c n → packed n 0 0 o % 256 ≡ n
+number c n o t = small n o (is-byte c n t)
 
 verdict-number : (a : Verdict) → CheckAnswer a → verdictAnswer a % 256 ≡ verdictNumber a
 unfolding verdictAnswer
 verdict-number Accepted h = accepted 0 0 0
-verdict-number (CheckRefused n o) h = number n o (h .numbered n o refl)
+verdict-number (CheckRefused n o) h = number Table.check n o (h .numbered n o refl)
 
 -- ---- the calls on one record and on one message
-
-small : (n o : ℕ) → n < 256 → packed n 0 0 o % 256 ≡ n
-unfolding packed
-small n o h = omega arith
 
 read-number : (s : List ℕ) (at : ℕ) (x : Read) → readBy s at x % 256 ≡ readNumber x
 unfolding readBy
@@ -108,7 +109,7 @@ read-number s at Absent = small 3 _ (lit< tt)
 written-number : (a : Written) → WriteAnswer a → writtenAnswer a % 256 ≡ writtenNumber a
 unfolding writtenAnswer
 written-number (Length n) h = accepted 0 0 n
-written-number (WriteRefused n o) h = number n o (h .numbered n o refl)
+written-number (WriteRefused n o) h = number Table.writeRecord n o (h .numbered n o refl)
 
 record-number : (f : Found) (l : List ℕ) → numberOf (writeBy f l) ≡ recordNumber f l
 unfolding writeBy
@@ -118,11 +119,7 @@ record-number Missing l = small 5 0 (lit< tt)
 printed-number : (a : Printed) → PrintAnswer a → printedAnswer a % 256 ≡ printedNumber a
 unfolding printedAnswer
 printed-number (Pages n) h = accepted 0 0 n
-printed-number (PrintRefused n o) h = go (h .numbered n o refl)
-  where
-    go : OfPages n → packed n 0 0 o % 256 ≡ n
-    go (inl t) = small n o (omega (arith, t .1))
-    go (inr e) = small n o (omega arith)
+printed-number (PrintRefused n o) h = number Table.printPlan n o (h .numbered n o refl)
 
 parsed-number : (p : Parsed) → parsedAnswer p % 256 ≡ parsedNumber p
 unfolding parsedAnswer
@@ -140,10 +137,10 @@ message-number Misshapen l = small 10 0 (lit< tt)
 
 -- ---- the calls on states
 
-called-number : (a : Called) → CallAnswer a → calledAnswer a % 256 ≡ calledNumber a
+called-number : (c : CallKind) (a : Called) → CallAnswer c a → calledAnswer a % 256 ≡ calledNumber a
 unfolding calledAnswer
-called-number Done h = accepted 0 0 0
-called-number (Refused n o) h = number n o (h .numbered n o refl)
+called-number c Done h = accepted 0 0 0
+called-number c (Refused n o) h = number c n o (h .numbered n o refl)
 
 pub turn-number : (t : Turn) (s : ℕ) → turnAnswer t s % 256 ≡ 0
 unfolding turnAnswer
@@ -154,32 +151,31 @@ turn-number Nothing s = accepted 3 0 s
 turning-number : (a : Turning) → TurnAnswer a → turningAnswer a % 256 ≡ turningNumber a
 unfolding turningAnswer
 turning-number (Turned t) h = turn-number t 0
-turning-number (TurnRefused n o) h = number n o (h .numbered n o refl)
+turning-number (TurnRefused n o) h = number Table.turn n o (h .numbered n o refl)
 
 stepped-number : (a : Stepped) → StepAnswer a → steppedAnswer a % 256 ≡ steppedNumber a
 unfolding steppedAnswer
 stepped-number (Turns t s) h = turn-number t s
 stepped-number (Bids v s) h = accepted 4 v s
 stepped-number Waits h = accepted 6 0 0
-stepped-number (StepRefused n o) h = number n o (h .numbered n o refl)
+stepped-number (StepRefused n o) h = number Table.moduleStep n o (h .numbered n o refl)
 
 served-number : (a : Served) → ServeAnswer a → servedAnswer a % 256 ≡ servedNumber a
 unfolding servedAnswer
 served-number (Sends m s) h = accepted 5 m s
 served-number ServedWaits h = accepted 6 0 0
-served-number (ServeRefused n o) h = number n o (h .numbered n o refl)
+served-number (ServeRefused n o) h = number Table.supervisorStep n o (h .numbered n o refl)
 
-start-number : (size : ℕ) (a : Called) (bytes l : List ℕ) → CallAnswer a → numberOf (startAnswer size a bytes l) ≡ startNumber size (calledNumber a) l
+start-number : (c : CallKind) (size : ℕ) (a : Called) (bytes l : List ℕ) → CallAnswer c a → numberOf (startAnswer size a bytes l) ≡ startNumber size (calledNumber a) l
 unfolding startAnswer
-start-number size Done bytes l h = go (ltb (length l) size) refl
+start-number c size Done bytes l h = go (ltb (length l) size) refl
   where
     go : (t : Bool) → ltb (length l) size ≡ t → numberOf (startAnswer size Done bytes l) ≡ cond (ltb (length l) size) 15 0
     go true e = simp e (unfold packed in refl)
     go false e = simp e (accepted 0 0 size)
-start-number size (Refused n o) bytes l h =
-    let t : InTable n = h .numbered n o refl in
-    let no : n ≡ 0 → ⊥ = λ e. (let low : 1 ≤ n = t .0 in omega arith) in
-    number n o t ∙ sym (ap (λ (q : Bool). cond q (cond (ltb (length l) size) 15 0) n) (ne-eqb n 0 no))
+start-number c size (Refused n o) bytes l h =
+    let t : Gives c n = h .numbered n o refl in
+    number c n o t ∙ sym (ap (λ (q : Bool). cond q (cond (ltb (length l) size) 15 0) n) (ne-eqb n 0 (is-refusal c n t)))
 
 -- ---- the check in pieces
 
@@ -224,31 +220,22 @@ answer-number s = go (isState s) refl
 
 -- ---- the analyses of a plan
 
-of-stuck : (n o : ℕ) → OfStuck n → packed n 0 0 o % 256 ≡ n
-of-stuck n o (inl t) = small n o (omega (arith, t .1))
-of-stuck n o (inr (inl e)) = small n o (omega arith)
-of-stuck n o (inr (inr e)) = small n o (omega arith)
-
 blocking-number : (a : Blocking) → BlockingAnswer a → blockingAnswer a % 256 ≡ blockingNumber a
 unfolding blockingAnswer
 blocking-number Free h = accepted 7 0 0
 blocking-number (Stuck n) h = accepted 8 0 n
-blocking-number (StuckRefused n o) h = of-stuck n o (h .numbered n o refl)
+blocking-number (StuckRefused n o) h = number Table.findStuck n o (h .numbered n o refl)
 
 counting-number : (a : Counting) → CountingAnswer a → countingAnswer a % 256 ≡ countingNumber a
 unfolding countingAnswer
 counting-number (Counted n) h = accepted 0 0 n
-counting-number (CountRefused n o) h = go (h .numbered n o refl)
-  where
-    go : OfCounts n → packed n 0 0 o % 256 ≡ n
-    go (inl t) = of-stuck n o t
-    go (inr e) = small n o (omega arith)
+counting-number (CountRefused n o) h = number Table.countWords n o (h .numbered n o refl)
 
 pub same-numbers : SameNumbers
 same-numbers =
     record {
       check = λ image. verdict-number (verdictOf image) (refusals .checker .check image);
-      checkStart = λ l. unfold checkStartBytes in start-number 495 Done (stateBytes starting) l done;
+      checkStart = λ l. unfold checkStartBytes in start-number Table.check 495 Done (stateBytes starting) l (done Table.check);
       checkPiece = piece-number;
       checkAnswer = answer-number;
       readRecord = λ s at. read-number s at (readAt s at);
@@ -256,18 +243,18 @@ same-numbers =
       printPlan = λ image l. unfold printBy in printed-number (printAnswer (verdictOf image) image l) (refusals .writers .print image l .answer);
       readMessage = λ g. parsed-number (parse g);
       writeMessage = λ k a b e w l. message-number (messageBy k a b e w) l;
-      deviceStart = λ image l. unfold Device.startBytes in start-number deviceSize (startCall image .answer) (deviceBytes (startCall image .device)) l (refusals .device .start image);
+      deviceStart = λ image l. unfold Device.startBytes in start-number Table.deviceStart deviceSize (startCall image .answer) (deviceBytes (startCall image .device)) l (refusals .device .start image);
       deviceTurn = λ image s m. unfold Device.turnBytes in turning-number _ (refusals .device .turn image (deviceOf s) m .answer);
-      deviceRespond = λ image s m e. unfold Device.respondBytes in called-number _ (refusals .device .respond image (deviceOf s) m e .answer);
-      deviceTick = λ image s m f x. unfold Device.tickBytes in called-number _ (refusals .device .tick image (deviceOf s) m (flowOf f x) .answer);
-      moduleStart = λ image m l. unfold Module.startBytes in start-number moduleSize (moduleStart image m .answer) (moduleBytes (moduleStart image m .state)) l (refusals .modules .start image m);
+      deviceRespond = λ image s m e. unfold Device.respondBytes in called-number Table.respond _ (refusals .device .respond image (deviceOf s) m e .answer);
+      deviceTick = λ image s m f x. unfold Device.tickBytes in called-number Table.tick _ (refusals .device .tick image (deviceOf s) m (flowOf f x) .answer);
+      moduleStart = λ image m l. unfold Module.startBytes in start-number Table.start moduleSize (moduleStart image m .answer) (moduleBytes (moduleStart image m .state)) l (refusals .modules .start image m);
       moduleStep = λ image s m l. unfold Module.stepBytes in stepped-number _ (refusals .modules .step image m (moduleOf s) l .answer);
-      moduleDeliver = λ image s m g. unfold Module.deliverBytes in called-number _ (refusals .modules .deliver image m (moduleOf s) g .answer);
-      moduleRespond = λ image s m e. unfold Module.respondBytes in called-number _ (refusals .modules .respond image m (moduleOf s) e .answer);
-      moduleTick = λ image s m f x. unfold Module.tickBytes in called-number _ (refusals .modules .tick image m (moduleOf s) (flowOf f x) .answer);
-      supervisorStart = λ image v l. unfold Supervisor.startBytes in start-number supervisorSize (supervisorStart image v .answer) (supervisorBytes (supervisorStart image v .state)) l (refusals .supervisors .start image v);
+      moduleDeliver = λ image s m g. unfold Module.deliverBytes in called-number Table.deliver _ (refusals .modules .deliver image m (moduleOf s) g .answer);
+      moduleRespond = λ image s m e. unfold Module.respondBytes in called-number Table.respond _ (refusals .modules .respond image m (moduleOf s) e .answer);
+      moduleTick = λ image s m f x. unfold Module.tickBytes in called-number Table.tick _ (refusals .modules .tick image m (moduleOf s) (flowOf f x) .answer);
+      supervisorStart = λ image v l. unfold Supervisor.startBytes in start-number Table.start supervisorSize (supervisorStart image v .answer) (supervisorBytes (supervisorStart image v .state)) l (refusals .supervisors .start image v);
       supervisorStep = λ image s v l. unfold Supervisor.stepBytes in served-number _ (refusals .supervisors .step image v (supervisorOf s) l .answer);
-      supervisorDeliver = λ image s v g. unfold Supervisor.deliverBytes in called-number _ (refusals .supervisors .deliver image v (supervisorOf s) g .answer);
+      supervisorDeliver = λ image s v g. unfold Supervisor.deliverBytes in called-number Table.deliver _ (refusals .supervisors .deliver image v (supervisorOf s) g .answer);
       findStuck = λ image l a r after t f.
           ap (λ (x : ℕ). x % 256) (f .packed)
           ∙ blocking-number (f .answer) (refusals .analyses .findStuck image l (f .answer) after (f .told) .answer)

@@ -44,7 +44,8 @@ use Rattle.permits.proofs.Stepping.{bytes-append}
 use Rattle.turn_laws.proofs.Procedure.{parts}
 use Rattle.turn_laws.proofs.Queue.{head-own}
 use Rattle.turn_laws.proofs.Turn.{turn-cases}
-use Rattle.refusals.specs.Refusals.{InTable}
+use Rattle.refusals.specs.Table.{InTable}
+use Rattle.refusals.proofs.Table.{listed}
 use Rattle.packing.specs.Answer.{packed, turnAnswer, steppedAnswer, servedAnswer}
 use Rattle.packing.specs.Parts.{Parts}
 use Rattle.packing.proofs.Parts.{unpacked}
@@ -100,10 +101,10 @@ module _ (s b : List ℕ) where
 
   module _ (n o : ℕ) (t : InTable n) where
     its-number : packed n 0 0 o % 256 ≡ n
-    its-number = unpacked n 0 0 o (omega (arith, t .1)) (lit< tt) (lit< tt) .number
+    its-number = unpacked n 0 0 o (listed .byte n t) (lit< tt) (lit< tt) .number
 
     not-taken : eqb n 0 ≡ false
-    not-taken = ne-eqb n 0 (λ e. omega (arith, t .0))
+    not-taken = ne-eqb n 0 (listed .not-0 n t)
 
     none-by-module : moduleSends (record { number = packed n 0 0 o; state = s; buffer = b }) ≡ []
     unfolding moduleSends
@@ -231,9 +232,9 @@ module _ (rs : List Record) (plan : Sound rs) (m : ℕ) where
     unfolding M.stepBy M.stepIn wrote
     module-sent-in =
         choose Sendable (ltb m (modulesOf rs)) _ _ (λ p. choose Sendable (M.moduleFits rs m x) _ _
-        (λ f. choose Sendable (short (M.stepBytes rs m x (M.choice rs m x)) b) _ _ (λ q. ((omega arith, omega arith), tt))
+        (λ f. choose Sendable (short (M.stepBytes rs m x (M.choice rs m x)) b) _ _ (λ q. (refl, tt))
         (λ q. chosen (own-fits rs m x f) (omega (arith, ltb-true m (modulesOf rs) p, plan .modules .1)) (M.choice rs m x) refl (omega (arith, ltb-false (length b) (length (M.stepBytes rs m x (M.choice rs m x))) q))))
-        (λ f. ((omega arith, omega arith), tt))) (λ p. ((omega arith, omega arith), tt))
+        (λ f. (refl, tt))) (λ p. (refl, tt))
 
 pub module-sent : (image : List ℕ) → IsPlan image → (m : ℕ) (x : Module) (b : List ℕ) → length b ≡ bufferLength → Sendable (M.moduleStep image m x b)
 module-sent image a m x b l =
@@ -259,9 +260,9 @@ module _ (rs : List Record) (plan : Sound rs) (v : ℕ) (y : Supervisor) (b : Li
   unfolding S.stepBy S.stepIn wroteOut
   supervisor-sent-in =
       choose Servable (ltb v (supervisorsOf rs)) _ _ (λ p. choose Servable (S.supervisorFits rs v y) _ _
-      (λ f. choose Servable (short (S.stepBytes rs v y (S.served y)) b) _ _ (λ q. ((omega arith, omega arith), tt))
+      (λ f. choose Servable (short (S.stepBytes rs v y (S.served y)) b) _ _ (λ q. (refl, tt))
       (λ q. serves (omega (arith, ltb-true v (supervisorsOf rs) p, plan .supervisors)) (S.served y) refl (omega (arith, ltb-false (length b) (length (S.stepBytes rs v y (S.served y))) q))))
-      (λ f. ((omega arith, omega arith), tt))) (λ p. ((omega arith, omega arith), tt))
+      (λ f. (refl, tt))) (λ p. (refl, tt))
 
 pub supervisor-sent : (image : List ℕ) → IsPlan image → (v : ℕ) (y : Supervisor) (b : List ℕ) → length b ≡ bufferLength → Servable (S.supervisorStep image v y b)
 supervisor-sent image a v y b l =

@@ -9,7 +9,6 @@ use lib.ListN.{length, take}
 use Rattle.pieces.specs.Pieces.{verdictBy, joined}
 use Rattle.piece_bytes.specs.State.{isState, stateAt}
 use Rattle.piece_laws.specs.Laws.{AllBytes}
-use Rattle.refusals.specs.Numbers.{verdictNumber}
 use Rattle.refusals.specs.Refusals.{CheckAnswer}
 use Rattle.packing.specs.Answer.{Answer, done}
 use Rattle.plan_interface.specs.Records.{checkAnswer}
@@ -45,6 +44,5 @@ abbrev pub CutBytes : Type 0
 CutBytes = (l : List ℕ) (ps : List (List ℕ)) → 495 ≤ length l → AllBytes ps → Cut l ps
 
 -- The answer for a state that no call has left, too, has a number of the check, and the offset 0 where that number is 1.
-pub record AnyAnswer : Type 0 where
-  pub answer : (s : List ℕ) → isState s ≡ true → CheckAnswer (verdictBy (stateAt s))
-  pub numbers : (s : List ℕ) → isState s ≡ true → verdictNumber (verdictBy (stateAt s)) ≤ 8
+abbrev pub AnyAnswer : Type 0
+AnyAnswer = (s : List ℕ) → isState s ≡ true → CheckAnswer (verdictBy (stateAt s))

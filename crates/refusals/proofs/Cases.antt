@@ -7,8 +7,6 @@ use mathlib.Core.List.{List}
 use mathlib.Core.Bool.{Bool, true, false, cond}
 use lib.ListN.{length, drop, length-append, length-drop}
 use lib.Seq.{drop-at}
-use lib.Dec.{leb}
-use borrow.Author.Tests.{leb-true}
 use Rattle.words.specs.Word.{written}
 use Rattle.modules.specs.Numbers.{replyNumber, calledNumber, calledOffset}
 use Rattle.modules.specs.Procedure.{calledBy}
@@ -16,7 +14,8 @@ use Rattle.modules.specs.declared.Own.{Own}
 use Rattle.modules.specs.declared.Called.the-variants.{Done, Refused as CallRefused}
 use Rattle.modules.specs.declared.Reply.{Reply}
 use Rattle.modules.specs.declared.Reply.the-variants.{Taken, Refused}
-use Rattle.refusals.specs.Refusals.{InTable, Placed, Answer, Unchanged, Lent, CallAnswer, Call}
+use Rattle.refusals.specs.Table.{CallKind, Gives}
+use Rattle.refusals.specs.Refusals.{Placed, Answer, Unchanged, Lent, CallAnswer, Call}
 
 -- what holds of both answers of a test
 pub either : {A : Type 0} (P : A → Type 0) (b : Bool) {x y : A} → P x → P y → P (cond b x y)
@@ -29,14 +28,11 @@ never e = omega arith
 
 -- ---- answers
 
-pub in-table : (n : ℕ) → leb 1 n ≡ true → leb n 15 ≡ true → InTable n
-in-table n p q = (leb-true _ _ p, leb-true _ _ q)
-
 pub at-zero : (n : ℕ) → Placed n 0
 at-zero n = record { long = λ e. refl; call = λ h. refl }
 
-module _ {E : Type 0} (Numbers : ℕ → Type 0) (number offset : E → ℕ) (refusal : ℕ → ℕ → E) where
-  pub accepts : (a : E) → ((n o : ℕ) → a ≢ refusal n o) → number a ≡ 0 → offset a ≡ 0 → Answer Numbers number offset refusal a
+module _ {E : Type 0} (c : CallKind) (number offset : E → ℕ) (refusal : ℕ → ℕ → E) where
+  pub accepts : (a : E) → ((n o : ℕ) → a ≢ refusal n o) → number a ≡ 0 → offset a ≡ 0 → Answer c number offset refusal a
   accepts a d i z =
       record {
         numbered = λ n o e. absurd (d n o e);
@@ -46,11 +42,11 @@ module _ {E : Type 0} (Numbers : ℕ → Type 0) (number offset : E → ℕ) (re
         accepted = λ h. (i, z);
       }
 
-  pub refuses : ((n o : ℕ) → number (refusal n o) ≡ n) → ((n o : ℕ) → offset (refusal n o) ≡ o) → (n o : ℕ) → Numbers n → Placed n o
-      → Answer Numbers number offset refusal (refusal n o)
+  pub refuses : ((n o : ℕ) → number (refusal n o) ≡ n) → ((n o : ℕ) → offset (refusal n o) ≡ o) → (n o : ℕ) → Gives c n → Placed n o
+      → Answer c number offset refusal (refusal n o)
   refuses is at n o t p =
       record {
-        numbered = λ k l e. subst Numbers (sym (is n o) ∙ ap number e ∙ is k l) t;
+        numbered = λ k l e. subst (Gives c) (sym (is n o) ∙ ap number e ∙ is k l) t;
         placed = subst (λ (k : ℕ). Placed k (offset (refusal n o))) (sym (is n o)) (subst (Placed n) (sym (at n o)) p);
         number-is = λ k l e. ap number e ∙ is k l;
         offset-is = λ k l e. ap offset e ∙ at k l;
@@ -80,25 +76,25 @@ put k a b e h =
 
 -- ---- a call without a buffer
 
-pub done : CallAnswer Done
-done = accepts InTable calledNumber calledOffset CallRefused Done (λ n o e. never (cc)) refl refl
+pub done : (c : CallKind) → CallAnswer c Done
+done c = accepts c calledNumber calledOffset CallRefused Done (λ n o e. never (cc)) refl refl
 
-pub call-refused : (n o : ℕ) → InTable n → Placed n o → CallAnswer (CallRefused n o)
-call-refused = refuses InTable calledNumber calledOffset CallRefused (λ n o. refl) (λ n o. refl)
+pub call-refused : (c : CallKind) (n o : ℕ) → Gives c n → Placed n o → CallAnswer c (CallRefused n o)
+call-refused c = refuses c calledNumber calledOffset CallRefused (λ n o. refl) (λ n o. refl)
 
-module _ {A : Type 0} (x : A) where
-  pub takes : (y : A) → Call x Done y
-  takes y = record { answer = done; state = taken x y }
+module _ (c : CallKind) {A : Type 0} (x : A) where
+  pub takes : (y : A) → Call c x Done y
+  takes y = record { answer = done c; state = taken x y }
 
-  pub turns-down : (n o : ℕ) → InTable n → Placed n o → Call x (CallRefused n o) x
-  turns-down n o t p = record { answer = call-refused n o t p; state = same n x }
+  pub turns-down : (n o : ℕ) → Gives c n → Placed n o → Call c x (CallRefused n o) x
+  turns-down n o t p = record { answer = call-refused c n o t p; state = same n x }
 
-  pub refused : (n : ℕ) → leb 1 n ≡ true → leb n 15 ≡ true → Call x (CallRefused n 0) x
-  refused n p q = turns-down n 0 (in-table n p q) (at-zero n)
+  pub refused : (n : ℕ) → Gives c n → Call c x (CallRefused n 0) x
+  refused n t = turns-down n 0 t (at-zero n)
 
   -- a reply that is refused gives back the own part, and with it the whole state
   pub replied : (with-own : Own → A) (before after : Own) (r : Reply) → with-own before ≡ x
-      → ((n : ℕ) → r ≡ Refused n → InTable n) → Unchanged (replyNumber r) before after → Call x (calledBy r) (with-own after)
+      → ((n : ℕ) → r ≡ Refused n → Gives c n) → Unchanged (replyNumber r) before after → Call c x (calledBy r) (with-own after)
   unfolding calledBy
   replied with-own before after Taken e t k = takes (with-own after)
-  replied with-own before after (Refused n) e t k = record { answer = call-refused n 0 (t n refl) (at-zero n); state = λ d. ap with-own (k d) ∙ e }
+  replied with-own before after (Refused n) e t k = record { answer = call-refused c n 0 (t n refl) (at-zero n); state = λ d. ap with-own (k d) ∙ e }

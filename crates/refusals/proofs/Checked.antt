@@ -20,8 +20,10 @@ use Rattle.pieces.specs.declared.Stage.{Stage}
 use Rattle.pieces.specs.declared.Stage.the-variants.{Open, Ended, Faulty}
 use Rattle.pieces.specs.declared.CheckState.{CheckState}
 use Rattle.refusals.specs.Numbers.{verdictNumber, verdictOffset}
-use Rattle.refusals.specs.Refusals.{IsRefusal, InTable, OfCheck, Placed, CheckAnswer, Checker}
-use Rattle.refusals.proofs.Cases.{either, never, in-table, at-zero, accepts, refuses}
+use Rattle.refusals.specs.Table.{check, Gives}
+use Rattle.refusals.specs.Refusals.{IsRefusal, OfCheck, Placed, CheckAnswer, Checker}
+use Rattle.refusals.proofs.Table.{of-image}
+use Rattle.refusals.proofs.Cases.{either, never, at-zero, accepts, refuses}
 
 -- a walk whose last number is 2 or 3
 abbrev Stops : Walk → Type 0
@@ -68,28 +70,26 @@ judged n rs (more o r w) s = go (eqb (faultOf rs r) 0) refl (judged n (r ∷ rs)
     go false q j = (fault rs r .0 (eqb-false _ _ q), fault rs r .1)
 
 accepted : CheckAnswer Accepted
-accepted = accepts InTable verdictNumber verdictOffset Refused Accepted (λ n o e. never (cc)) refl refl
+accepted = accepts check verdictNumber verdictOffset Refused Accepted (λ n o e. never (cc)) refl refl
 
-refused : (n o : ℕ) → InTable n → Placed n o → CheckAnswer (Refused n o)
-refused = refuses InTable verdictNumber verdictOffset Refused (λ n o. refl) (λ n o. refl)
+refused : (n o : ℕ) → Gives check n → Placed n o → CheckAnswer (Refused n o)
+refused = refuses check verdictNumber verdictOffset Refused (λ n o. refl) (λ n o. refl)
 
 -- what the check says of its verdict
 record Numbered (v : Verdict) : Type 0 where
   answer : CheckAnswer v
   accepted-by : verdictNumber v ≡ 0 → v ≡ Accepted
-  small : verdictNumber v ≤ 8
 
 numbered : (v : Verdict) → Judged v → Numbered v
-numbered Accepted j = record { answer = accepted; accepted-by = λ e. refl; small = omega arith }
+numbered Accepted j = record { answer = accepted; accepted-by = λ e. refl }
 numbered (Refused n o) j =
     record {
-      answer = refused n o (omega arith, omega arith) (record { long = λ e. absurd (omega arith); call = λ h. absurd (omega arith) });
+      answer = refused n o (of-image n (omega arith) (j .1)) (record { long = λ e. absurd (omega arith); call = λ h. absurd (omega arith) });
       accepted-by = λ e. absurd (omega arith);
-      small = j .1;
     }
 
 too-long : Numbered (Refused 1 0)
-too-long = record { answer = refused 1 0 (in-table 1 refl refl) (at-zero 1); accepted-by = λ e. absurd (omega arith); small = omega arith }
+too-long = record { answer = refused 1 0 refl (at-zero 1); accepted-by = λ e. absurd (omega arith) }
 
 verdict : (image : List ℕ) → Numbered (verdictOf image)
 unfolding verdictOf
@@ -109,18 +109,14 @@ piece k j = either Numbered (ltb limit (k .taken)) too-long (numbered _ (stage (
 pub checked : (image : List ℕ) → CheckAnswer (verdictOf image)
 checked image = verdict image .answer
 
--- a number of the image's own
-pub of-image : (image : List ℕ) {n o : ℕ} → verdictOf image ≡ Refused n o → ((1 ≤ n) × (n ≤ 8)) × Placed n o
-of-image image {n} {o} e =
-    let j : CheckAnswer (Refused n o) = subst CheckAnswer e (checked image) in
-    ((j .numbered n o refl .0, subst (λ (v : Verdict). verdictNumber v ≤ 8) e (verdict image .small)), j .placed)
+-- of a verdict that is known
+pub checked-as : (image : List ℕ) {v : Verdict} → verdictOf image ≡ v → CheckAnswer v
+checked-as image e = subst CheckAnswer e (checked image)
 
 pub checker : Checker
 checker =
     record {
       check = checked;
       accepted = λ s. verdict s .accepted-by;
-      numbers = λ s. verdict s .small;
       pieces = λ k j. piece k j .answer;
-      piece-numbers = λ k j. piece k j .small;
     }

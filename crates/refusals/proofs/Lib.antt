@@ -1,3 +1,4 @@
+pub mod Table
 pub mod Cases
 pub mod Checked
 pub mod Writers

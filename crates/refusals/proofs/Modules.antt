@@ -25,22 +25,25 @@ use Rattle.permits.specs.declared.Module.{Module}
 use Rattle.permits.specs.declared.ModuleCalled.{ModuleCalled}
 use Rattle.permits.specs.declared.Stepped.{Stepped}
 use Rattle.permits.specs.declared.Stepped.the-variants.{Refused as StepRefused}
-use Rattle.refusals.specs.Refusals.{InTable, Placed, CheckAnswer, CallAnswer, StepAnswer, OwnCall, StepBytes, ModuleStep, ModuleCall, Modules}
-use Rattle.refusals.proofs.Cases.{either, never, in-table, at-zero, accepts, refuses, taken, same, untouched, put, done, call-refused, takes, turns-down, refused, replied}
+use Rattle.refusals.specs.Table as Table
+use Rattle.refusals.specs.Table.{CallKind, Gives}
+use Rattle.refusals.specs.Refusals.{Placed, CheckAnswer, CallAnswer, StepAnswer, OwnCall, StepBytes, ModuleStep, ModuleCall, Modules}
+use Rattle.refusals.proofs.Table.{Within, passed}
+use Rattle.refusals.proofs.Cases.{either, never, at-zero, accepts, refuses, taken, same, untouched, put, done, call-refused, takes, turns-down, refused, replied}
 use Rattle.refusals.proofs.Checked.{checked}
 use Rattle.refusals.proofs.Device.{own-respond, own-tick}
 
-start : (v : Verdict) (rs : List Record) (m : ℕ) → CheckAnswer v → CallAnswer (startBy v rs m .answer)
+start : (v : Verdict) (rs : List Record) (m : ℕ) → CheckAnswer v → CallAnswer Table.start (startBy v rs m .answer)
 unfolding startBy
-start Accepted rs m j = either (λ (c : ModuleCalled). CallAnswer (c .answer)) (ltb m (modulesOf rs)) done (call-refused 11 0 (in-table 11 refl refl) (at-zero 11))
-start (Refused n o) rs m j = call-refused n o (j .numbered n o refl) (j .placed)
+start Accepted rs m j = either (λ (c : ModuleCalled). CallAnswer Table.start (c .answer)) (ltb m (modulesOf rs)) (done Table.start) (call-refused Table.start 11 0 refl (at-zero 11))
+start (Refused n o) rs m j = call-refused Table.start n o (passed Table.check Table.start refl n (j .numbered n o refl)) (j .placed)
 
 -- the answer of an accepted step
 accepted : (rs : List Record) (m : ℕ) (x : Module) (c : Choice) → StepAnswer (answerBy rs m x c)
 unfolding answerBy
-accepted rs m x takesTurn = accepts InTable steppedNumber steppedOffset StepRefused _ (λ n o e. never (cc)) refl refl
-accepted rs m x (bidsTo v) = accepts InTable steppedNumber steppedOffset StepRefused _ (λ n o e. never (cc)) refl refl
-accepted rs m x waits = accepts InTable steppedNumber steppedOffset StepRefused _ (λ n o e. never (cc)) refl refl
+accepted rs m x takesTurn = accepts Table.moduleStep steppedNumber steppedOffset StepRefused _ (λ n o e. never (cc)) refl refl
+accepted rs m x (bidsTo v) = accepts Table.moduleStep steppedNumber steppedOffset StepRefused _ (λ n o e. never (cc)) refl refl
+accepted rs m x waits = accepts Table.moduleStep steppedNumber steppedOffset StepRefused _ (λ n o e. never (cc)) refl refl
 
 step-bytes : (a : Stepped) → StepBytes a
 step-bytes a = record { turned = λ t k e. ap steppedBytes e; bids = λ v k e. ap steppedBytes e; waiting = λ e. ap steppedBytes e }
@@ -48,10 +51,10 @@ step-bytes a = record { turned = λ t k e. ap steppedBytes e; bids = λ v k e. a
 module _ (rs : List Record) (m : ℕ) (x : Module) where
   -- ---- a step
   module _ (b : List ℕ) where
-    step-refused : (n o : ℕ) → InTable n → Placed n o → ModuleStep x b (stepRefused x b n o)
+    step-refused : (n o : ℕ) → Gives Table.moduleStep n → Placed n o → ModuleStep x b (stepRefused x b n o)
     step-refused n o t p =
         record {
-          answer = refuses InTable steppedNumber steppedOffset StepRefused (λ n o. refl) (λ n o. refl) n o t p;
+          answer = refuses Table.moduleStep steppedNumber steppedOffset StepRefused (λ n o. refl) (λ n o. refl) n o t p;
           state = same n x;
           bytes = step-bytes _;
           buffer = untouched n b;
@@ -60,7 +63,7 @@ module _ (rs : List Record) (m : ℕ) (x : Module) where
     step-in : (c : Choice) (q : Bool) → short (stepBytes rs m x c) b ≡ q
         → ModuleStep x b (cond q (stepRefused x b 15 0) (record { answer = answerBy rs m x c; state = stateBy rs m x c; buffer = written (stepBytes rs m x c) b }))
     unfolding answerBy sentBy bytesOfMessages
-    step-in c true e = step-refused 15 0 (in-table 15 refl refl) (at-zero 15)
+    step-in c true e = step-refused 15 0 refl (at-zero 15)
     step-in takesTurn false e = record { answer = accepted rs m x takesTurn; state = taken x _; bytes = step-bytes _; buffer = put _ (stepBytes rs m x takesTurn) b refl (ltb-false _ _ e) }
     step-in (bidsTo v) false e = record { answer = accepted rs m x (bidsTo v); state = taken x _; bytes = step-bytes _; buffer = put _ (stepBytes rs m x (bidsTo v)) b refl (ltb-false _ _ e) }
     step-in waits false e = record { answer = accepted rs m x waits; state = taken x _; bytes = step-bytes _; buffer = put 0 (stepBytes rs m x waits) b refl (ltb-false _ _ e) }
@@ -69,41 +72,43 @@ module _ (rs : List Record) (m : ℕ) (x : Module) where
     unfolding stepBy stepIn
     step-by Accepted j =
         either (ModuleStep x b) (ltb m (modulesOf rs))
-        (either (ModuleStep x b) (moduleFits rs m x) (step-in (choice rs m x) _ refl) (step-refused 9 0 (in-table 9 refl refl) (at-zero 9)))
-        (step-refused 11 0 (in-table 11 refl refl) (at-zero 11))
-    step-by (Refused n o) j = step-refused n o (j .numbered n o refl) (j .placed)
+        (either (ModuleStep x b) (moduleFits rs m x) (step-in (choice rs m x) _ refl) (step-refused 9 0 refl (at-zero 9)))
+        (step-refused 11 0 refl (at-zero 11))
+    step-by (Refused n o) j = step-refused n o (passed Table.check Table.moduleStep refl n (j .numbered n o refl)) (j .placed)
 
   -- ---- a delivery
-  take : (g : Message) → ModuleCall x (takenBy rs m x g)
+  take : (g : Message) → ModuleCall Table.deliver x (takenBy rs m x g)
   unfolding takenBy
-  take (Bid n v) = refused x 12 refl refl
-  take (Permit v n k) = either (ModuleCall x) (eqb n m && bidWith rs m x v) (takes x _) (refused x 12 refl refl)
-  take (Release n v e) = refused x 12 refl refl
+  take (Bid n v) = refused Table.deliver x 12 refl
+  take (Permit v n k) = either (ModuleCall Table.deliver x) (eqb n m && bidWith rs m x v) (takes Table.deliver x _) (refused Table.deliver x 12 refl)
+  take (Release n v e) = refused Table.deliver x 12 refl
 
-  deliver-in : (p : Parsed) → ModuleCall x (deliverIn rs m x p)
+  deliver-in : (p : Parsed) → ModuleCall Table.deliver x (deliverIn rs m x p)
   unfolding deliverIn
-  deliver-in Misshapen = refused x 10 refl refl
-  deliver-in (Whole g) = either (ModuleCall x) (named rs g) (take g) (refused x 11 refl refl)
+  deliver-in Misshapen = refused Table.deliver x 10 refl
+  deliver-in (Whole g) = either (ModuleCall Table.deliver x) (named rs g) (take g) (refused Table.deliver x 11 refl)
 
-  to-absent : (p : Parsed) → ModuleCall x (absent x p)
+  to-absent : (p : Parsed) → ModuleCall Table.deliver x (absent x p)
   unfolding absent
-  to-absent Misshapen = refused x 10 refl refl
-  to-absent (Whole g) = refused x 11 refl refl
+  to-absent Misshapen = refused Table.deliver x 10 refl
+  to-absent (Whole g) = refused Table.deliver x 11 refl
 
-  deliver-by : (v : Verdict) (p : Parsed) → CheckAnswer v → ModuleCall x (deliverBy v rs m x p)
+  deliver-by : (v : Verdict) (p : Parsed) → CheckAnswer v → ModuleCall Table.deliver x (deliverBy v rs m x p)
   unfolding deliverBy
   deliver-by Accepted p j =
-      either (ModuleCall x) (ltb m (modulesOf rs)) (either (ModuleCall x) (moduleFits rs m x) (deliver-in p) (refused x 9 refl refl)) (to-absent p)
-  deliver-by (Refused n o) p j = turns-down x n o (j .numbered n o refl) (j .placed)
+      either (ModuleCall Table.deliver x) (ltb m (modulesOf rs)) (either (ModuleCall Table.deliver x) (moduleFits rs m x) (deliver-in p) (refused Table.deliver x 9 refl)) (to-absent p)
+  deliver-by (Refused n o) p j = turns-down Table.deliver x n o (passed Table.check Table.deliver refl n (j .numbered n o refl)) (j .placed)
 
   -- ---- a response and a tick
-  reply-by : (v : Verdict) (r : Replied) → OwnCall (x .own) r → CheckAnswer v → ModuleCall x (replyBy v rs m x r)
-  unfolding replyBy
-  reply-by Accepted r k j =
-      either (ModuleCall x) (ltb m (modulesOf rs))
-      (either (ModuleCall x) (moduleFits rs m x) (replied x (withOwn x) (x .own) (r .own) (r .reply) refl (k .numbered) (k .state)) (refused x 9 refl refl))
-      (refused x 11 refl refl)
-  reply-by (Refused n o) r k j = turns-down x n o (j .numbered n o refl) (j .placed)
+  module _ (c own : CallKind) (all-turn : Within Table.turn c) (all-own : Within own c) where
+    reply-by : (v : Verdict) (r : Replied) → OwnCall own (x .own) r → CheckAnswer v → ModuleCall c x (replyBy v rs m x r)
+    unfolding replyBy
+    reply-by Accepted r k j =
+        either (ModuleCall c x) (ltb m (modulesOf rs))
+        (either (ModuleCall c x) (moduleFits rs m x)
+        (replied c x (withOwn x) (x .own) (r .own) (r .reply) refl (λ n e. passed own c all-own n (k .numbered n e)) (k .state)) (refused c x 9 (passed Table.turn c all-turn 9 refl)))
+        (refused c x 11 (passed Table.turn c all-turn 11 refl))
+    reply-by (Refused n o) r k j = turns-down c x n o (passed Table.turn c all-turn n (passed Table.check Table.turn refl n (j .numbered n o refl))) (j .placed)
 
 pub modules : Modules
 modules =
@@ -111,6 +116,6 @@ modules =
       start = λ s m. start (verdictOf s) (recordsOf s) m (checked s);
       step = λ s m x b. step-by (recordsOf s) m x b (verdictOf s) (checked s);
       deliver = λ s m x bytes. deliver-by (recordsOf s) m x (verdictOf s) (parse bytes) (checked s);
-      respond = λ s m x e. reply-by (recordsOf s) m x (verdictOf s) _ (own-respond (recordsOf s) m e (x .own)) (checked s);
-      tick = λ s m x f. reply-by (recordsOf s) m x (verdictOf s) _ (own-tick (recordsOf s) f (x .own)) (checked s);
+      respond = λ s m x e. reply-by (recordsOf s) m x Table.respond Table.ownRespond refl refl (verdictOf s) _ (own-respond (recordsOf s) m e (x .own)) (checked s);
+      tick = λ s m x f. reply-by (recordsOf s) m x Table.tick Table.ownTick refl refl (verdictOf s) _ (own-tick (recordsOf s) f (x .own)) (checked s);
     }

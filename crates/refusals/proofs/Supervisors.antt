@@ -26,20 +26,23 @@ use Rattle.permits.specs.declared.Supervisor.{Supervisor}
 use Rattle.permits.specs.declared.SupervisorCalled.{SupervisorCalled}
 use Rattle.permits.specs.declared.Served.{Served}
 use Rattle.permits.specs.declared.Served.the-variants.{Refused as ServeRefused}
-use Rattle.refusals.specs.Refusals.{InTable, Placed, CheckAnswer, CallAnswer, ServeAnswer, ServeBytes, SupervisorStep, SupervisorCall, Supervisors}
-use Rattle.refusals.proofs.Cases.{either, never, in-table, at-zero, accepts, refuses, taken, same, untouched, put, done, call-refused, takes, turns-down, refused}
+use Rattle.refusals.specs.Table as Table
+use Rattle.refusals.specs.Table.{Gives}
+use Rattle.refusals.specs.Refusals.{Placed, CheckAnswer, CallAnswer, ServeAnswer, ServeBytes, SupervisorStep, SupervisorCall, Supervisors}
+use Rattle.refusals.proofs.Table.{passed}
+use Rattle.refusals.proofs.Cases.{either, never, at-zero, accepts, refuses, taken, same, untouched, put, done, call-refused, takes, turns-down, refused}
 use Rattle.refusals.proofs.Checked.{checked}
 
-start : (w : Verdict) (rs : List Record) (v : ℕ) → CheckAnswer w → CallAnswer (startBy w rs v .answer)
+start : (w : Verdict) (rs : List Record) (v : ℕ) → CheckAnswer w → CallAnswer Table.start (startBy w rs v .answer)
 unfolding startBy
-start Accepted rs v j = either (λ (c : SupervisorCalled). CallAnswer (c .answer)) (ltb v (supervisorsOf rs)) done (call-refused 11 0 (in-table 11 refl refl) (at-zero 11))
-start (Refused n o) rs v j = call-refused n o (j .numbered n o refl) (j .placed)
+start Accepted rs v j = either (λ (c : SupervisorCalled). CallAnswer Table.start (c .answer)) (ltb v (supervisorsOf rs)) (done Table.start) (call-refused Table.start 11 0 refl (at-zero 11))
+start (Refused n o) rs v j = call-refused Table.start n o (passed Table.check Table.start refl n (j .numbered n o refl)) (j .placed)
 
 -- the answer of an accepted step
 accepted : (bytes : List ℕ) (t : Option ℕ) → ServeAnswer (answerBy bytes t)
 unfolding answerBy
-accepted bytes none = accepts InTable servedNumber servedOffset ServeRefused _ (λ n o e. never (cc)) refl refl
-accepted bytes (some m) = accepts InTable servedNumber servedOffset ServeRefused _ (λ n o e. never (cc)) refl refl
+accepted bytes none = accepts Table.supervisorStep servedNumber servedOffset ServeRefused _ (λ n o e. never (cc)) refl refl
+accepted bytes (some m) = accepts Table.supervisorStep servedNumber servedOffset ServeRefused _ (λ n o e. never (cc)) refl refl
 
 serve-bytes : (a : Served) → ServeBytes a
 serve-bytes a = record { sends = λ m k e. ap servedBytes e; waiting = λ e. ap servedBytes e }
@@ -47,10 +50,10 @@ serve-bytes a = record { sends = λ m k e. ap servedBytes e; waiting = λ e. ap 
 module _ (rs : List Record) (v : ℕ) (y : Supervisor) where
   -- ---- a step
   module _ (b : List ℕ) where
-    step-refused : (n o : ℕ) → InTable n → Placed n o → SupervisorStep y b (stepRefused y b n o)
+    step-refused : (n o : ℕ) → Gives Table.supervisorStep n → Placed n o → SupervisorStep y b (stepRefused y b n o)
     step-refused n o t p =
         record {
-          answer = refuses InTable servedNumber servedOffset ServeRefused (λ n o. refl) (λ n o. refl) n o t p;
+          answer = refuses Table.supervisorStep servedNumber servedOffset ServeRefused (λ n o. refl) (λ n o. refl) n o t p;
           state = same n y;
           bytes = serve-bytes _;
           buffer = untouched n b;
@@ -59,7 +62,7 @@ module _ (rs : List Record) (v : ℕ) (y : Supervisor) where
     step-in : (t : Option ℕ) (q : Bool) → short (stepBytes rs v y t) b ≡ q
         → SupervisorStep y b (cond q (stepRefused y b 15 0) (record { answer = answerBy (stepBytes rs v y t) t; state = stateAfter y t; buffer = written (stepBytes rs v y t) b }))
     unfolding answerBy sentTo bytesOfMessages
-    step-in t true e = step-refused 15 0 (in-table 15 refl refl) (at-zero 15)
+    step-in t true e = step-refused 15 0 refl (at-zero 15)
     step-in none false e = record { answer = accepted (stepBytes rs v y none) none; state = taken y _; bytes = serve-bytes _; buffer = put 0 (stepBytes rs v y none) b refl (ltb-false _ _ e) }
     step-in (some m) false e =
         record { answer = accepted (stepBytes rs v y (some m)) (some m); state = taken y _; bytes = serve-bytes _; buffer = put _ (stepBytes rs v y (some m)) b refl (ltb-false _ _ e) }
@@ -68,32 +71,32 @@ module _ (rs : List Record) (v : ℕ) (y : Supervisor) where
     unfolding stepBy stepIn
     step-by Accepted j =
         either (SupervisorStep y b) (ltb v (supervisorsOf rs))
-        (either (SupervisorStep y b) (supervisorFits rs v y) (step-in (served y) _ refl) (step-refused 9 0 (in-table 9 refl refl) (at-zero 9)))
-        (step-refused 11 0 (in-table 11 refl refl) (at-zero 11))
-    step-by (Refused n o) j = step-refused n o (j .numbered n o refl) (j .placed)
+        (either (SupervisorStep y b) (supervisorFits rs v y) (step-in (served y) _ refl) (step-refused 9 0 refl (at-zero 9)))
+        (step-refused 11 0 refl (at-zero 11))
+    step-by (Refused n o) j = step-refused n o (passed Table.check Table.supervisorStep refl n (j .numbered n o refl)) (j .placed)
 
   -- ---- a delivery
-  take : (g : Message) → SupervisorCall y (takenBy rs v y g)
+  take : (g : Message) → SupervisorCall Table.deliver y (takenBy rs v y g)
   unfolding takenBy
-  take (Bid m w) = either (SupervisorCall y) (eqb w v && not (bit (y .noted) m)) (takes y _) (refused y 12 refl refl)
-  take (Permit w m k) = refused y 12 refl refl
-  take (Release m w e) = either (SupervisorCall y) (eqb w v && heldBy (y .holder) m) (takes y _) (refused y 12 refl refl)
+  take (Bid m w) = either (SupervisorCall Table.deliver y) (eqb w v && not (bit (y .noted) m)) (takes Table.deliver y _) (refused Table.deliver y 12 refl)
+  take (Permit w m k) = refused Table.deliver y 12 refl
+  take (Release m w e) = either (SupervisorCall Table.deliver y) (eqb w v && heldBy (y .holder) m) (takes Table.deliver y _) (refused Table.deliver y 12 refl)
 
-  deliver-in : (p : Parsed) → SupervisorCall y (deliverIn rs v y p)
+  deliver-in : (p : Parsed) → SupervisorCall Table.deliver y (deliverIn rs v y p)
   unfolding deliverIn
-  deliver-in Misshapen = refused y 10 refl refl
-  deliver-in (Whole g) = either (SupervisorCall y) (named rs g) (take g) (refused y 11 refl refl)
+  deliver-in Misshapen = refused Table.deliver y 10 refl
+  deliver-in (Whole g) = either (SupervisorCall Table.deliver y) (named rs g) (take g) (refused Table.deliver y 11 refl)
 
-  to-absent : (p : Parsed) → SupervisorCall y (absent y p)
+  to-absent : (p : Parsed) → SupervisorCall Table.deliver y (absent y p)
   unfolding absent
-  to-absent Misshapen = refused y 10 refl refl
-  to-absent (Whole g) = refused y 11 refl refl
+  to-absent Misshapen = refused Table.deliver y 10 refl
+  to-absent (Whole g) = refused Table.deliver y 11 refl
 
-  deliver-by : (w : Verdict) (p : Parsed) → CheckAnswer w → SupervisorCall y (deliverBy w rs v y p)
+  deliver-by : (w : Verdict) (p : Parsed) → CheckAnswer w → SupervisorCall Table.deliver y (deliverBy w rs v y p)
   unfolding deliverBy
   deliver-by Accepted p j =
-      either (SupervisorCall y) (ltb v (supervisorsOf rs)) (either (SupervisorCall y) (supervisorFits rs v y) (deliver-in p) (refused y 9 refl refl)) (to-absent p)
-  deliver-by (Refused n o) p j = turns-down y n o (j .numbered n o refl) (j .placed)
+      either (SupervisorCall Table.deliver y) (ltb v (supervisorsOf rs)) (either (SupervisorCall Table.deliver y) (supervisorFits rs v y) (deliver-in p) (refused Table.deliver y 9 refl)) (to-absent p)
+  deliver-by (Refused n o) p j = turns-down Table.deliver y n o (passed Table.check Table.deliver refl n (j .numbered n o refl)) (j .placed)
 
 pub supervisors : Supervisors
 supervisors =

@@ -3,7 +3,7 @@
 -- this paper's number and values for each case. The promises use that definition."
 use Prim.Native.Nat.{ℕ, _≤_}
 use mathlib.Core.Path.{_≡_}
-use mathlib.Core.Logic.{_≢_, _⊎_}
+use mathlib.Core.Logic.{_≢_}
 use mathlib.Core.List.{List}
 use mathlib.Core.Option.{Option, none, some}
 use mathlib.Core.Bool.{false}
@@ -65,26 +65,12 @@ use Rattle.counting.specs.Numbers.{countingNumber, countingOffset, countingLeng
 use Rattle.counting.specs.declared.Counting.{Counting}
 use Rattle.counting.specs.declared.Counting.the-variants.{Printed as Counted, Refused as CountRefused}
 use Rattle.refusals.specs.Numbers.{verdictNumber, verdictOffset, writtenNumber, writtenOffset, writtenLength, rewrittenNumber, rewrittenOffset, rewrittenLength}
+use Rattle.refusals.specs.Table as Table
+use Rattle.refusals.specs.Table.{CallKind, Gives}
 
 -- a refusal has a number, and what is accepted has 0
 abbrev pub IsRefusal : ℕ → Type 0
 IsRefusal n = n ≢ 0
-
--- a number of the table
-abbrev pub InTable : ℕ → Type 0
-InTable n = (1 ≤ n) × (n ≤ 15)
-
--- a number of a plan on paper: one of the image's, or 15
-abbrev pub OfPages : ℕ → Type 0
-OfPages n = ((1 ≤ n) × (n ≤ 8)) ⊎ (n ≡ 15)
-
--- a number of the question whether a plan ever gets stuck: one of the image's, 15, or 16 of document 02
-abbrev pub OfStuck : ℕ → Type 0
-OfStuck n = ((1 ≤ n) × (n ≤ 8)) ⊎ ((n ≡ 15) ⊎ (n ≡ 16))
-
--- a number of the question how many words lead to each joint state: one of `OfStuck`, or 17
-abbrev pub OfCounts : ℕ → Type 0
-OfCounts n = OfStuck n ⊎ (n ≡ 17)
 
 -- the stage of a check in pieces whose refusal, if it has one, has a number of the check, as it has after any pieces (`StaysEncodable` of crate
 -- piece_laws) and of all bytes that stand for a state (`AnyAnswer` of crate interface_laws)
@@ -98,10 +84,10 @@ pub record Placed (n o : ℕ) : Type 0 where
   pub long : n ≡ 1 → o ≡ 0
   pub call : 9 ≤ n → o ≡ 0
 
--- an answer a, by the numbers that it may have, the definitions of its number and its offset, and its case of a refusal
-pub record Answer {E : Type 0} (Numbers : ℕ → Type 0) (number offset : E → ℕ) (refusal : ℕ → ℕ → E) (a : E) : Type 0 where
-  -- "Bad input gets its number from document 01": so a refusal never has the 0 of what is taken
-  pub numbered : (n o : ℕ) → a ≡ refusal n o → Numbers n
+-- an answer a, by its call, the definitions of its number and its offset, and its case of a refusal
+pub record Answer {E : Type 0} (c : CallKind) (number offset : E → ℕ) (refusal : ℕ → ℕ → E) (a : E) : Type 0 where
+  -- a refusal has one of the numbers that its call may give
+  pub numbered : (n o : ℕ) → a ≡ refusal n o → Gives c n
   pub placed : Placed (number a) (offset a)
   -- the definitions give what the refusal holds, and 0 and 0 for what is accepted
   pub number-is : (n o : ℕ) → a ≡ refusal n o → number a ≡ n
@@ -132,34 +118,34 @@ pub record Lent (n k : ℕ) (b c : List ℕ) : Type 0 where
 -- ---- each kind of answer
 
 abbrev pub CheckAnswer : Verdict → Type 0
-CheckAnswer a = Answer InTable verdictNumber verdictOffset Refused a
+CheckAnswer a = Answer Table.check verdictNumber verdictOffset Refused a
 
 abbrev pub WriteAnswer : Written → Type 0
-WriteAnswer a = Answer InTable writtenNumber writtenOffset WriteRefused a
+WriteAnswer a = Answer Table.writeRecord writtenNumber writtenOffset WriteRefused a
 
 abbrev pub RewriteAnswer : Rewritten → Type 0
-RewriteAnswer a = Answer InTable rewrittenNumber rewrittenOffset CopyRefused a
+RewriteAnswer a = Answer Table.rewrite rewrittenNumber rewrittenOffset CopyRefused a
 
 abbrev pub PrintAnswer : Printed → Type 0
-PrintAnswer a = Answer OfPages printedNumber printedOffset PrintRefused a
+PrintAnswer a = Answer Table.printPlan printedNumber printedOffset PrintRefused a
 
-abbrev pub CallAnswer : Called → Type 0
-CallAnswer a = Answer InTable calledNumber calledOffset CallRefused a
+abbrev pub CallAnswer : CallKind → Called → Type 0
+CallAnswer c a = Answer c calledNumber calledOffset CallRefused a
 
 abbrev pub TurnAnswer : Turning → Type 0
-TurnAnswer a = Answer InTable turningNumber turningOffset TurnRefused a
+TurnAnswer a = Answer Table.turn turningNumber turningOffset TurnRefused a
 
 abbrev pub StepAnswer : Stepped → Type 0
-StepAnswer a = Answer InTable steppedNumber steppedOffset StepRefused a
+StepAnswer a = Answer Table.moduleStep steppedNumber steppedOffset StepRefused a
 
 abbrev pub ServeAnswer : Served → Type 0
-ServeAnswer a = Answer InTable servedNumber servedOffset ServeRefused a
+ServeAnswer a = Answer Table.supervisorStep servedNumber servedOffset ServeRefused a
 
 abbrev pub BlockingAnswer : Blocking → Type 0
-BlockingAnswer a = Answer OfStuck blockingNumber blockingOffset StuckRefused a
+BlockingAnswer a = Answer Table.findStuck blockingNumber blockingOffset StuckRefused a
 
 abbrev pub CountingAnswer : Counting → Type 0
-CountingAnswer a = Answer OfCounts countingNumber countingOffset CountRefused a
+CountingAnswer a = Answer Table.countWords countingNumber countingOffset CountRefused a
 
 -- ---- one call: its answer, its state and its buffer
 
@@ -181,24 +167,24 @@ pub record Print (s b : List ℕ) (a : Printed) : Type 0 where
   pub buffer : Lent (printedNumber a) (printedLength a) b (printBuffer a s b)
 
 -- a reply of a module's own part, which has no offset
-pub record OwnCall (own : Own) (c : Replied) : Type 0 where
-  pub numbered : (n : ℕ) → c .reply ≡ ReplyRefused n → InTable n
+pub record OwnCall (k : CallKind) (own : Own) (c : Replied) : Type 0 where
+  pub numbered : (n : ℕ) → c .reply ≡ ReplyRefused n → Gives k n
   pub number-is : Held replyNumber ReplyRefused (c .reply)
   pub accepted : c .reply ≡ Taken → replyNumber (c .reply) ≡ 0
   pub state : Unchanged (replyNumber (c .reply)) own (c .own)
 
-pub record Call {A : Type 0} (x : A) (a : Called) (y : A) : Type 0 where
-  pub answer : CallAnswer a
+pub record Call {A : Type 0} (k : CallKind) (x : A) (a : Called) (y : A) : Type 0 where
+  pub answer : CallAnswer k a
   pub state : Unchanged (calledNumber a) x y
 
-abbrev pub DeviceCall : Device → DeviceCalled → Type 0
-DeviceCall d c = Call d (c .answer) (c .device)
+abbrev pub DeviceCall : CallKind → Device → DeviceCalled → Type 0
+DeviceCall k d c = Call k d (c .answer) (c .device)
 
-abbrev pub ModuleCall : Module → ModuleCalled → Type 0
-ModuleCall x c = Call x (c .answer) (c .state)
+abbrev pub ModuleCall : CallKind → Module → ModuleCalled → Type 0
+ModuleCall k x c = Call k x (c .answer) (c .state)
 
-abbrev pub SupervisorCall : Supervisor → SupervisorCalled → Type 0
-SupervisorCall y c = Call y (c .answer) (c .state)
+abbrev pub SupervisorCall : CallKind → Supervisor → SupervisorCalled → Type 0
+SupervisorCall k y c = Call k y (c .answer) (c .state)
 
 pub record DeviceTurn (d : Device) (c : DeviceTurned) : Type 0 where
   pub answer : TurnAnswer (c .answer)
@@ -249,11 +235,8 @@ pub record Checker : Type 0 where
   pub check : (image : List ℕ) → CheckAnswer (verdictOf image)
   -- "A plan is accepted if its check gives no number."
   pub accepted : (image : List ℕ) → verdictNumber (verdictOf image) ≡ 0 → IsPlan image
-  -- 9 and above are a call's own
-  pub numbers : (image : List ℕ) → verdictNumber (verdictOf image) ≤ 8
   -- document 02, 2.3: the answer of a check in pieces. A piece is never refused, and nothing is written into it
   pub pieces : (k : CheckState) → OfCheck (k .stage) → CheckAnswer (verdictBy k)
-  pub piece-numbers : (k : CheckState) → OfCheck (k .stage) → verdictNumber (verdictBy k) ≤ 8
 
 pub record Writers : Type 0 where
   pub write : (r : Record) (b : List ℕ) → Write r b (answerOf r b)
@@ -265,26 +248,26 @@ pub record Writers : Type 0 where
 
 -- a module's own part, on one device and on many
 pub record OwnPart : Type 0 where
-  pub respond : (rs : List Record) (m e : ℕ) (own : Own) → OwnCall own (respondOf rs m e own)
-  pub tick : (rs : List Record) (f : Flow) (own : Own) → OwnCall own (tickOf rs f own)
+  pub respond : (rs : List Record) (m e : ℕ) (own : Own) → OwnCall Table.ownRespond own (respondOf rs m e own)
+  pub tick : (rs : List Record) (f : Flow) (own : Own) → OwnCall Table.ownTick own (tickOf rs f own)
 
 pub record OneDevice : Type 0 where
-  pub start : (image : List ℕ) → CallAnswer (startCall image .answer)
+  pub start : (image : List ℕ) → CallAnswer Table.deviceStart (startCall image .answer)
   pub turn : (image : List ℕ) (d : Device) (m : ℕ) → DeviceTurn d (turnCall image d m)
-  pub respond : (image : List ℕ) (d : Device) (m e : ℕ) → DeviceCall d (respondCall image d m e)
-  pub tick : (image : List ℕ) (d : Device) (m : ℕ) (f : Flow) → DeviceCall d (tickCall image d m f)
+  pub respond : (image : List ℕ) (d : Device) (m e : ℕ) → DeviceCall Table.respond d (respondCall image d m e)
+  pub tick : (image : List ℕ) (d : Device) (m : ℕ) (f : Flow) → DeviceCall Table.tick d (tickCall image d m f)
 
 pub record Modules : Type 0 where
-  pub start : (image : List ℕ) (m : ℕ) → CallAnswer (moduleStart image m .answer)
+  pub start : (image : List ℕ) (m : ℕ) → CallAnswer Table.start (moduleStart image m .answer)
   pub step : (image : List ℕ) (m : ℕ) (x : Module) (b : List ℕ) → ModuleStep x b (moduleStep image m x b)
-  pub deliver : (image : List ℕ) (m : ℕ) (x : Module) (bytes : List ℕ) → ModuleCall x (moduleDeliver image m x bytes)
-  pub respond : (image : List ℕ) (m : ℕ) (x : Module) (e : ℕ) → ModuleCall x (moduleRespond image m x e)
-  pub tick : (image : List ℕ) (m : ℕ) (x : Module) (f : Flow) → ModuleCall x (moduleTick image m x f)
+  pub deliver : (image : List ℕ) (m : ℕ) (x : Module) (bytes : List ℕ) → ModuleCall Table.deliver x (moduleDeliver image m x bytes)
+  pub respond : (image : List ℕ) (m : ℕ) (x : Module) (e : ℕ) → ModuleCall Table.respond x (moduleRespond image m x e)
+  pub tick : (image : List ℕ) (m : ℕ) (x : Module) (f : Flow) → ModuleCall Table.tick x (moduleTick image m x f)
 
 pub record Supervisors : Type 0 where
-  pub start : (image : List ℕ) (v : ℕ) → CallAnswer (supervisorStart image v .answer)
+  pub start : (image : List ℕ) (v : ℕ) → CallAnswer Table.start (supervisorStart image v .answer)
   pub step : (image : List ℕ) (v : ℕ) (y : Supervisor) (b : List ℕ) → SupervisorStep y b (supervisorStep image v y b)
-  pub deliver : (image : List ℕ) (v : ℕ) (y : Supervisor) (bytes : List ℕ) → SupervisorCall y (supervisorDeliver image v y bytes)
+  pub deliver : (image : List ℕ) (v : ℕ) (y : Supervisor) (bytes : List ℕ) → SupervisorCall Table.deliver y (supervisorDeliver image v y bytes)
 
 -- the analyses of a plan, of every answer that their contracts allow
 pub record Analyses : Type 0 where
@@ -293,6 +276,7 @@ pub record Analyses : Type 0 where
 
 -- "a refused call returns the state unchanged and writes nothing into lent memory"
 pub record Refusals : Type 0 where
+  pub table : Table.Listed
   pub checker : Checker
   pub writers : Writers
   pub own : OwnPart
