@@ -1,7 +1,7 @@
 -- Masks made bit by bit from below, and what their bits mean.
 use mathlib.Core.Path.{_≡_, refl, sym, ap, ap₂, _∙_, subst}
 use mathlib.Core.List.{List}
-use mathlib.Core.Bool.{Bool, true, false, cond, not, _&&_, and-comm, and-false}
+use mathlib.Core.Bool.{Bool, true, false, cond, not, _&&_, and-comm}
 use Prim.Native.Nat.{ℕ, zero, suc, _+_, _-_, _/_, _^_, _≤_, _<_}
 use native.Mathlib.Numerals.{add-one}
 use native.Mathlib.Omega.{arith}
@@ -10,7 +10,7 @@ use lib.Bits.{bitAnd, bitOr}
 use borrow.Author.Tests.{lt-ltb, le-ltb}
 use Rattle.bits.specs.Bit.{bit, maskOf, isSome}
 use Rattle.bits.proofs.Laws.{bit-above, shr-none}
-use Rattle.bits.proofs.Mask.{mask-bit, mask-small, common-is}
+use Rattle.bits.proofs.Mask.{mask-bit, mask-small, mask-is, common-is}
 use Rattle.records.specs.Key.{keyBy}
 use Rattle.records.specs.declared.Record.{Record}
 use Rattle.reader.specs.Find.{findIn, found}
@@ -18,7 +18,7 @@ use Rattle.reader.specs.declared.Found.{Found}
 use Rattle.reader.specs.declared.Found.the-variants.{It, Missing}
 use Rattle.places.specs.Places.{movesOf}
 use Rattle.rules.specs.LookUp.{eventsOf, supervisorsOf, ownerOf, controllable, alphabetOf}
-use Rattle.plan.specs.Plan.{target, moduleMove, hasCommand, commands, ownEvent, neighbour, neighbours}
+use Rattle.plan.specs.Plan.{target, moduleMove, hasCommand, commands, commandsAmong, ownEvent, neighbour, neighbours}
 
 -- ---- a mask from below
 
@@ -43,6 +43,11 @@ module _ (p : ℕ → Bool) (n v : ℕ) {x : ℕ} (e : x ≡ maskOf p v) (h : v 
   pub rest-bits : ((j : ℕ) → v ≤ j → j < n → p j ≡ false) → x ≡ maskOf p n
   rest-bits f = e ∙ sym (no-bits p v (n - v) (λ j l g. f j l (omega arith))) ∙ ap (maskOf p) (let q : n - v + v ≡ n = omega arith in q)
 
+-- tests that agree below n have the same mask
+pub mask-same : (p q : ℕ → Bool) (n : ℕ) → ((j : ℕ) → j < n → p j ≡ q j) → maskOf p n ≡ maskOf q n
+mask-same p q n f =
+    mask-is q n (maskOf p n) (mask-small p n n (omega arith)) (λ j l. mask-bit p n j ∙ ap (λ (b : Bool). b && p j) (lt-ltb j n l) ∙ f j l)
+
 -- what stands past a count
 past-count : (b : ℕ → Bool) (n v k : ℕ) → n ≤ v → (j : ℕ) → v ≤ j → j < k → (ltb j n && b j) ≡ false
 past-count b n v k h j l g = ap (λ (t : Bool). t && b j) (le-ltb j n (let q : n ≤ j = omega arith in q))
@@ -65,23 +70,27 @@ module _ {a x : Bool} (e : a ≡ x) (y : Bool) where
   pub second-spared : a ≡ false → false ≡ (x && y)
   second-spared f = ap (λ (t : Bool). t && y) (sym f ∙ e)
 
--- the moves of a module's state are bits of a mask
-module _ (rs : List Record) (m st : ℕ) {k : ℕ} (f : k ≡ movesOf rs m st) where
-  move-bit : (e : ℕ) → e < 64 → bit k e ≡ isSome (moduleMove rs m st e)
+-- the commands among moves
+abbrev pub isCommand : List Record → ℕ → ℕ → Bool
+isCommand rs moves e = bit moves e && controllable rs e
+
+-- none past the last move
+pub commands-end : (rs : List Record) (moves e : ℕ) {x : ℕ} → moves / 2 ^ e ≡ 0 → e ≤ 64 → x ≡ maskOf (isCommand rs moves) e → x ≡ commandsAmong rs moves
+commands-end rs moves e z h g =
+    rest-bits (isCommand rs moves) 64 e g h (λ j l v. ap (λ (b : Bool). b && controllable rs j) (bit-above e moves j (shr-none moves e z) l))
+
+-- the moves of a module's state are the bits of their mask, and the commands among them are those of the state
+module _ (rs : List Record) (m st : ℕ) where
+  pub move-bit : (e : ℕ) → e < 64 → bit (movesOf rs m st) e ≡ isSome (moduleMove rs m st e)
   move-bit e l =
-      ap (λ (x : ℕ). bit x e) f ∙ mask-bit (λ j. found (findIn (keyBy 0x13 m st j) rs)) 64 e ∙ ap (λ (b : Bool). b && found (findIn (keyBy 0x13 m st e) rs)) (lt-ltb e 64 l)
+      mask-bit (λ j. found (findIn (keyBy 0x13 m st j) rs)) 64 e ∙ ap (λ (b : Bool). b && found (findIn (keyBy 0x13 m st e) rs)) (lt-ltb e 64 l)
       ∙ found-target (findIn (keyBy 0x13 m st e) rs)
 
-  pub command-bit : (e : ℕ) {x y : ℕ} {b : Bool} → x ≡ maskOf (hasCommand rs m st) e → e < 64 → b ≡ (bit k e && controllable rs e)
-      → y ≡ cond b (bitOr x (2 ^ e)) x → y ≡ maskOf (hasCommand rs m st) (e + 1)
-  command-bit e q l g h =
-      one-bit (hasCommand rs m st) e q (g ∙ and-comm (bit k e) (controllable rs e) ∙ ap (λ (t : Bool). controllable rs e && t) (move-bit e l)) h
-
-  -- none past the last move
-  pub commands-end : (e : ℕ) {x : ℕ} → k / 2 ^ e ≡ 0 → e ≤ 64 → x ≡ maskOf (hasCommand rs m st) e → x ≡ commands rs m st
-  commands-end e z h g =
-      rest-bits (hasCommand rs m st) 64 e g h
-      (λ j l v. ap (λ (t : Bool). controllable rs j && t) (sym (move-bit j v) ∙ bit-above e k j (shr-none k e z) l) ∙ and-false (controllable rs j))
+  pub commands-of : {moves : ℕ} → moves ≡ movesOf rs m st → commandsAmong rs moves ≡ commands rs m st
+  commands-of f =
+      ap (commandsAmong rs) f
+      ∙ mask-same (isCommand rs (movesOf rs m st)) (hasCommand rs m st) 64
+      (λ e l. and-comm (bit (movesOf rs m st) e) (controllable rs e) ∙ ap (λ (b : Bool). controllable rs e && b) (move-bit e l))
 
 -- ---- a module's events
 

@@ -1,4 +1,4 @@
-// Masks of a plan: the commands of a module's state, a module's events, and its neighbours.
+// Masks of a plan: the commands among moves, a module's events, and its neighbours.
 ghost use mathlib.Core.Path.{_≡_};
 ghost use Prim.Native.Nat.{ℕ, _<_, _^_};
 ghost use mathlib.Core.List.{List};
@@ -8,7 +8,7 @@ ghost use Rattle.bits.specs.Bit.{bit, maskOf};
 ghost use Rattle.records.specs.declared.Record.{Record};
 ghost use Rattle.places.specs.Places.{recordsBy};
 ghost use Rattle.rules.specs.LookUp.{controllable, alphabetOf};
-ghost use Rattle.plan.specs.Plan.{commands, ownEvent, neighbour, neighbours};
+ghost use Rattle.plan.specs.Plan.{commandsAmong, ownEvent, neighbour, neighbours};
 use places::Places;
 
 // The mask with bit v, if it is to have it.
@@ -30,11 +30,10 @@ fn is_command(image: &[u8], places: Places, moves: u64, e: u8) -> bool
     }
 }
 
-// The controllable events that have a move from a module's state.
-pub fn commands(image: &[u8], places: Places, m: u8, st: u8) -> u64
-    ensures { λ r. ⌜ r ≡ commands (recordsBy (now (image .entry)) places) m st ⌝ }
+// The controllable ones of the moves from a module's state, which a turn reads once (places::moves_of).
+pub fn commands(image: &[u8], places: Places, moves: u64) -> u64
+    ensures { λ r. ⌜ r ≡ commandsAmong (recordsBy (now (image .entry)) places) moves ⌝ }
 {
-    let moves = places::moves_of(image, places, m, st);
     let mut mask: u64 = 0;
     let mut e: u8 = 0;
     while e < 64 {

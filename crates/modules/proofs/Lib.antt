@@ -1,3 +1,4 @@
+pub mod Chosen
 pub mod Queue
 pub mod Steps
 pub mod Ticks

@@ -32,17 +32,21 @@ byCommand rs own e none = record { turn = Nothing; own = own }
 unfoldable pub enabled : List Record → ℕ → ℕ → ℕ → ℕ → Bool
 enabled rs m k st e = hasCommand rs m st e && not (bit k e)
 
+-- the choice of the command: "the lowest-numbered controllable event fires that has a move here and stands in no shown mask". No event is numbered 64
+-- or above.
+unfoldable pub chosen : List Record → ℕ → ℕ → Own → Option ℕ
+chosen rs m k own = least (enabled rs m k (own .state)) 64
+
 -- the event chosen fires, if there is one
 unfoldable pub byChoice : List Record → ℕ → Own → Option ℕ → Turned
 byChoice rs m own (some e) = byCommand rs own e (moduleMove rs m (own .state) e)
 byChoice rs m own none = record { turn = Nothing; own = own }
 
 -- document 01's term "turn": "1. If its response queue holds anything, the head is removed. .. 2. Otherwise, if its procedure is idle, the
--- lowest-numbered controllable event fires that has a move here and stands in no shown mask. 3. Otherwise none." No event is numbered 64 or above.
+-- lowest-numbered controllable event fires that has a move here and stands in no shown mask. 3. Otherwise none."
 unfoldable pub turnOn : List Record → ℕ → ℕ → Own → List ℕ → Turned
 turnOn rs m k own (e ∷ q) = byResponse (withQueue own q) e (moduleMove rs m (own .state) e)
-turnOn rs m k own [] =
-    cond (own .procedure .running) (record { turn = Nothing; own = own }) (byChoice rs m own (least (enabled rs m k (own .state)) 64))
+turnOn rs m k own [] = cond (own .procedure .running) (record { turn = Nothing; own = own }) (byChoice rs m own (chosen rs m k own))
 
 unfoldable pub turnOf : List Record → ℕ → ℕ → Own → Turned
 turnOf rs m k own = turnOn rs m k own (queueOf own)

@@ -82,6 +82,10 @@ hasCommand rs m st e = controllable rs e && isSome (moduleMove rs m st e)
 abbrev pub commands : List Record → ℕ → ℕ → ℕ
 commands rs m st = maskOf (hasCommand rs m st) 64
 
+-- the same among a mask of moves
+abbrev pub commandsAmong : List Record → ℕ → ℕ
+commandsAmong rs moves = maskOf (λ e. bit moves e && controllable rs e) 64
+
 -- document 01's term "neighbour": "A supervisor is a module's neighbour if its alphabet has an event of that module."
 abbrev pub neighbour : List Record → ℕ → ℕ → Bool
 neighbour rs m v = someBelow (λ e. eqb (ownerOf rs e) m && inAlphabet rs v e) (eventsOf rs)

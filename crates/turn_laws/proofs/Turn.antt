@@ -10,7 +10,7 @@ use lib.ListN.{length}
 use lib.Dec.{T, eqb, ltb, lt→ltb}
 use lib.Ieee.Fits.{and-i, eq→eqb}
 use borrow.Author.Tests.{not-true, lt-ltb}
-use Rattle.bits.specs.Bit.{bit, least, isSome}
+use Rattle.bits.specs.Bit.{bit, isSome}
 use denote.Floats.{passes as holds, is-true}
 use Rattle.records.specs.declared.Record.{Record}
 use Rattle.rules.specs.LookUp.{modulesOf, eventsOf, moduleState, ownerOf, controllable}
@@ -22,11 +22,12 @@ use Rattle.modules.specs.declared.Turn.the-variants.{Event, Stray, Nothing}
 use Rattle.modules.specs.declared.Turned.{Turned}
 use Rattle.modules.specs.Queue.{queueOf, withQueue}
 use Rattle.modules.specs.Procedure.{arriveAt}
-use Rattle.modules.specs.Turn.{moved, byResponse, byCommand, enabled, byChoice, turnOn, turnOf}
+use Rattle.modules.specs.Turn.{moved, byResponse, byCommand, enabled, chosen, byChoice, turnOn, turnOf}
 use Rattle.modules.specs.Fits.{queueFits, ownFits}
 use Rattle.turn_laws.specs.Laws.{fitsAt, EightPlaces, TurnOk, Command}
 use Rattle.turn_laws.proofs.Found.{module-move}
-use Rattle.bits.proofs.Least.{Lowest, least-some, least-same}
+use Rattle.bits.proofs.Least.{Lowest}
+use Rattle.modules.proofs.Chosen.{chosen-lowest, chosen-same}
 use Rattle.modules.proofs.Queue.{places-length}
 use Rattle.turn_laws.proofs.Queue.{rest-fits, head-own, in-places}
 use Rattle.turn_laws.proofs.Procedure.{Parts, parts, whole, arrives}
@@ -54,14 +55,14 @@ module _ (rs : List Record) (m : ℕ) (own : Own) where
       commands e h r l (some st) g = command e st h r l g
       commands e h r l none g = nothing
 
-      chooses : queueOf own ≡ [] → own .procedure .running ≡ false → (o : Option ℕ) → least (enabled rs m k (own .state)) 64 ≡ o → P (byChoice rs m own o)
-      chooses h r (some e) g = commands e h r (least-some (enabled rs m k (own .state)) 64 e g) (moduleMove rs m (own .state) e) refl
+      chooses : queueOf own ≡ [] → own .procedure .running ≡ false → (o : Option ℕ) → chosen rs m k own ≡ o → P (byChoice rs m own o)
+      chooses h r (some e) g = commands e h r (chosen-lowest rs m k own e g) (moduleMove rs m (own .state) e) refl
       chooses h r none g = nothing
 
       rests : queueOf own ≡ [] → (b : Bool) → own .procedure .running ≡ b
-          → P (cond b (record { turn = Nothing; own = own }) (byChoice rs m own (least (enabled rs m k (own .state)) 64)))
+          → P (cond b (record { turn = Nothing; own = own }) (byChoice rs m own (chosen rs m k own)))
       rests h true r = nothing
-      rests h false r = chooses h r (least (enabled rs m k (own .state)) 64) refl
+      rests h false r = chooses h r (chosen rs m k own) refl
 
       queue : (q : List ℕ) → queueOf own ≡ q → P (turnOn rs m k own q)
       queue (e ∷ q) h = fires e q h (moduleMove rs m (own .state) e) refl
@@ -94,7 +95,7 @@ module _ (rs : List Record) (m : ℕ) (own : Own) where
         queue (e ∷ q) = refl
         queue [] =
             ap (λ (o : Option ℕ). cond (own .procedure .running) (record { turn = Nothing; own = own }) (byChoice rs m own o))
-            (least-same (enabled rs m k (own .state)) (enabled rs m k′ (own .state)) 64 (λ e l. able e (moduleMove rs m (own .state) e) refl))
+            (chosen-same rs m k own k′ (λ e l. able e (moduleMove rs m (own .state) e) refl))
 
     pub turn-fits : (k : ℕ) → T (ownFits rs m own) → T (ownFits rs m (turnOf rs m k own .own))
     unfolding queueFits

@@ -18,7 +18,9 @@ use Rattle.bits.proofs.Laws.{bit-and, bit-not, bit-none, bit-ext}
 use Rattle.bits.proofs.Least.{least-none, least-some, least-same, some-least}
 use Rattle.bits.proofs.Mask.{mask-bit, mask-small}
 use Rattle.records.specs.declared.Record.{Record}
-use Rattle.plan.specs.Plan.{moduleMove, hasCommand, commands}
+use Rattle.places.specs.Places.{movesOf}
+use Rattle.plan.specs.Plan.{moduleMove, hasCommand, commands, commandsAmong}
+use Rattle.masks.proofs.Events.{commands-of}
 use Rattle.modules.specs.declared.Own.{Own}
 use Rattle.modules.specs.declared.Procedure.{Procedure}
 use Rattle.modules.specs.declared.Turn.{Turn}
@@ -26,7 +28,7 @@ use Rattle.modules.specs.declared.Turn.the-variants.{Event, Stray, Nothing as N
 use Rattle.modules.specs.declared.Turned.{Turned}
 use Rattle.modules.specs.Queue.{queueOf, withQueue}
 use Rattle.modules.specs.Procedure.{arriveAt}
-use Rattle.modules.specs.Turn.{moved, byResponse, byCommand, byChoice, enabled, turnOn, turnOf, queuedAny, wish}
+use Rattle.modules.specs.Turn.{moved, byResponse, byCommand, byChoice, enabled, chosen, turnOn, turnOf, queuedAny, wish}
 
 abbrev did : Turn → Own → Turned
 did t own = record { turn = t; own = own }
@@ -44,32 +46,32 @@ module _ (after : Own) (e : ℕ) {next : Own} (p : next ≡ after) {y : Maybe} {
 
 -- ---- a command
 
--- the lowest bit of the commands without the mask's is the lowest enabled event
-chosen : (rs : List Record) (m k st : ℕ) → k < 2 ^ 64 → least (bit (bitAnd (commands rs m st) (2 ^ 64 - 1 - k))) 64 ≡ least (enabled rs m k st) 64
-unfolding enabled
-chosen rs m k st h =
-    least-same _ (enabled rs m k st) 64
-    (λ j l. bit-and (commands rs m st) (2 ^ 64 - 1 - k) j
-    ∙ ap₂ _&&_ (mask-bit (hasCommand rs m st) 64 j ∙ ap (λ (b : Bool). b && hasCommand rs m st j) (lt-ltb j 64 l)) (bit-not 64 k j h l))
+-- the lowest bit of the commands without the mask's is the event chosen
+lowest-chosen : (rs : List Record) (m k : ℕ) (own : Own) → k < 2 ^ 64 → least (bit (bitAnd (commands rs m (own .state)) (2 ^ 64 - 1 - k))) 64 ≡ chosen rs m k own
+unfolding enabled chosen
+lowest-chosen rs m k own h =
+    least-same _ (enabled rs m k (own .state)) 64
+    (λ j l. bit-and (commands rs m (own .state)) (2 ^ 64 - 1 - k) j
+    ∙ ap₂ _&&_ (mask-bit (hasCommand rs m (own .state)) 64 j ∙ ap (λ (b : Bool). b && hasCommand rs m (own .state) j) (lt-ltb j 64 l)) (bit-not 64 k j h l))
 
-module _ (rs : List Record) (m k : ℕ) (own : Own) (h : k < 2 ^ 64) {x : ℕ} (c : x ≡ commands rs m (own .state)) (y : Maybe) (l : optionOf y ≡ least (bit (bitAnd x (2 ^ 64 - 1 - k))) 64) where
-  choice : optionOf y ≡ least (enabled rs m k (own .state)) 64
-  choice = l ∙ ap (λ (z : ℕ). least (bit (bitAnd z (2 ^ 64 - 1 - k))) 64) c ∙ chosen rs m k (own .state) h
+module _ (rs : List Record) (m k : ℕ) (own : Own) (h : k < 2 ^ 64) {moves x : ℕ} (f : moves ≡ movesOf rs m (own .state)) (c : x ≡ commandsAmong rs moves) (y : Maybe) (l : optionOf y ≡ least (bit (bitAnd x (2 ^ 64 - 1 - k))) 64) where
+  choice : optionOf y ≡ chosen rs m k own
+  choice = l ∙ ap (λ (z : ℕ). least (bit (bitAnd z (2 ^ 64 - 1 - k))) 64) (c ∙ commands-of rs m (own .state) f) ∙ lowest-chosen rs m k own h
 
-  pub chose-none : y ≡ Nothing → did NoTurn own ≡ byChoice rs m own (least (enabled rs m k (own .state)) 64)
+  pub chose-none : y ≡ Nothing → did NoTurn own ≡ byChoice rs m own (chosen rs m k own)
   unfolding byChoice
   chose-none q = ap (byChoice rs m own) (sym (ap optionOf q) ∙ choice)
 
   module _ {e : ℕ} (q : y ≡ Just e) (z : Maybe) (s : optionOf z ≡ moduleMove rs m (own .state) e) where
-    commanded : byCommand rs own e (optionOf z) ≡ byChoice rs m own (least (enabled rs m k (own .state)) 64)
+    commanded : byCommand rs own e (optionOf z) ≡ byChoice rs m own (chosen rs m k own)
     unfolding byChoice
     commanded = ap (byCommand rs own e) s ∙ ap (byChoice rs m own) (sym (ap optionOf q) ∙ choice)
 
-    pub chose-stuck : z ≡ Nothing → did NoTurn own ≡ byChoice rs m own (least (enabled rs m k (own .state)) 64)
+    pub chose-stuck : z ≡ Nothing → did NoTurn own ≡ byChoice rs m own (chosen rs m k own)
     unfolding byCommand
     chose-stuck g = ap (λ (u : Maybe). byCommand rs own e (optionOf u)) (sym g) ∙ commanded
 
-    pub chose : {t : ℕ} {p : Procedure} → z ≡ Just t → p ≡ arriveAt rs e 0 → did (Event e) (moved own t p) ≡ byChoice rs m own (least (enabled rs m k (own .state)) 64)
+    pub chose : {t : ℕ} {p : Procedure} → z ≡ Just t → p ≡ arriveAt rs e 0 → did (Event e) (moved own t p) ≡ byChoice rs m own (chosen rs m k own)
     unfolding byCommand
     chose {t} g a = ap (λ (p : Procedure). did (Event e) (moved own t p)) a ∙ ap (λ (u : Maybe). byCommand rs own e (optionOf u)) (sym g) ∙ commanded
 
@@ -88,15 +90,15 @@ queued own e h =
 
 module _ (rs : List Record) (m k : ℕ) (own : Own) where
   module _ (h : own .length ≡ 0) where
-    empty : cond (own .procedure .running) (did NoTurn own) (byChoice rs m own (least (enabled rs m k (own .state)) 64)) ≡ turnOf rs m k own
+    empty : cond (own .procedure .running) (did NoTurn own) (byChoice rs m own (chosen rs m k own)) ≡ turnOf rs m k own
     unfolding turnOf turnOn
     empty = ap (turnOn rs m k own) (sym (unqueued own h))
 
     pub turn-runs : own .procedure .running ≡ true → did NoTurn own ≡ turnOf rs m k own
-    turn-runs q = ap (λ (b : Bool). cond b (did NoTurn own) (byChoice rs m own (least (enabled rs m k (own .state)) 64))) (sym q) ∙ empty
+    turn-runs q = ap (λ (b : Bool). cond b (did NoTurn own) (byChoice rs m own (chosen rs m k own))) (sym q) ∙ empty
 
-    pub turn-chooses : {r : Turned} → own .procedure .running ≡ false → r ≡ byChoice rs m own (least (enabled rs m k (own .state)) 64) → r ≡ turnOf rs m k own
-    turn-chooses q p = p ∙ ap (λ (b : Bool). cond b (did NoTurn own) (byChoice rs m own (least (enabled rs m k (own .state)) 64))) (sym q) ∙ empty
+    pub turn-chooses : {r : Turned} → own .procedure .running ≡ false → r ≡ byChoice rs m own (chosen rs m k own) → r ≡ turnOf rs m k own
+    turn-chooses q p = p ∙ ap (λ (b : Bool). cond b (did NoTurn own) (byChoice rs m own (chosen rs m k own))) (sym q) ∙ empty
 
   pub turn-responds : {r : Turned} → length (own .queue) ≡ 8 → (own .length ≡ 0 → ⊥)
       → r ≡ byResponse (withQueue own (drop 1 (queueOf own))) (getD (own .queue) 0 0) (moduleMove rs m (own .state) (getD (own .queue) 0 0)) → r ≡ turnOf rs m k own
@@ -128,9 +130,9 @@ module _ (rs : List Record) (m : ℕ) (own : Own) where
     pub wish-runs : own .procedure .running ≡ true → false ≡ wish rs m own
     wish-runs q = ap (λ (b : Bool). not b && someBelow (hasCommand rs m (own .state)) 64) (sym q) ∙ idle-wish
 
-    pub wish-commands : {x : ℕ} → own .procedure .running ≡ false → x ≡ commands rs m (own .state) → not (eqb x 0) ≡ wish rs m own
-    wish-commands q p =
-        ap (λ (y : ℕ). not (eqb y 0)) p ∙ mask-any (hasCommand rs m (own .state)) 64
+    pub wish-commands : {moves x : ℕ} → own .procedure .running ≡ false → moves ≡ movesOf rs m (own .state) → x ≡ commandsAmong rs moves → not (eqb x 0) ≡ wish rs m own
+    wish-commands q f p =
+        ap (λ (y : ℕ). not (eqb y 0)) (p ∙ commands-of rs m (own .state) f) ∙ mask-any (hasCommand rs m (own .state)) 64
         ∙ ap (λ (b : Bool). not b && someBelow (hasCommand rs m (own .state)) 64) (sym q) ∙ idle-wish
 
   pub wish-queued : length (own .queue) ≡ 8 → (own .length ≡ 0 → ⊥) → true ≡ wish rs m own

@@ -1,11 +1,10 @@
 // A turn of a module over a mask of disabled events, and whether it wishes for one. Their rules are specs/Turn.antt of crate modules.
 ghost use mathlib.Core.Path.{_≡_};
 ghost use lib.ListN.{drop};
-ghost use Rattle.bits.specs.Bit.{least};
 ghost use Rattle.places.specs.Places.{recordsBy};
 ghost use Rattle.plan.specs.Plan.{moduleMove};
 ghost use Rattle.modules.specs.Queue.{queueOf, withQueue};
-ghost use Rattle.modules.specs.Turn.{byResponse, byChoice, enabled, turnOf, wish};
+ghost use Rattle.modules.specs.Turn.{byResponse, byChoice, chosen, turnOf, wish};
 use bits::Maybe;
 use modules::Own;
 use modules::Turn;
@@ -31,12 +30,13 @@ fn by_response(image: &[u8], places: Places, m: u8, e: u8, own: Own) -> Turned
     }
 }
 
-// The lowest command that the mask k does not disable.
+// The lowest command among the state's moves that the mask k does not disable.
 fn by_choice(image: &[u8], places: Places, m: u8, k: u64, own: Own) -> Turned
-    ensures { λ r. ⌜ r ≡ byChoice (recordsBy (now (image .entry)) places) m own (least (enabled (recordsBy (now (image .entry)) places) m k (own .state)) 64) ⌝ }
+    ensures { λ r. ⌜ r ≡ byChoice (recordsBy (now (image .entry)) places) m own (chosen (recordsBy (now (image .entry)) places) m k own) ⌝ }
 {
     let st = own.state;
-    let Maybe::Just(e) = bits::lowest(masks::commands(image, places, m, st) & !k) else {
+    let moves = places::moves_of(image, places, m, st);
+    let Maybe::Just(e) = bits::lowest(masks::commands(image, places, moves) & !k) else {
         return Turned {
             turn: Turn::Nothing,
             own,
@@ -89,6 +89,7 @@ pub fn wish(image: &[u8], places: Places, m: u8, own: Own) -> bool
     if s.running {
         false
     } else {
-        masks::commands(image, places, m, own.state) != 0
+        let moves = places::moves_of(image, places, m, own.state);
+        masks::commands(image, places, moves) != 0
     }
 }

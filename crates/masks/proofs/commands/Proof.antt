@@ -2,20 +2,16 @@ use Prim.Native.Nat.{_≤_, _-_}
 use mathlib.Core.Path.{_≡_, refl}
 use Rattle.bits.specs.Bit.{maskOf}
 use Rattle.places.specs.Places.{recordsBy}
-use Rattle.plan.specs.Plan.{hasCommand}
-use Rattle.masks.proofs.Events.{all-bits, command-bit, commands-end}
+use Rattle.masks.proofs.Events.{isCommand, one-bit, all-bits, commands-end}
 use borrow.Author.Needs.{needs}
 use Rattle.masks.proofs.commands.Statement.{statement}
 use Rattle.masks.proofs.commands.Tie as tie
 
 abbrev Inv-loop : tie.InvT-loop
-Inv-loop image places m st moves mask₀ e₀ mask e = (e ≤ 64) × (mask ≡ maskOf (hasCommand (recordsBy image places) m st) e)
+Inv-loop image places moves mask₀ e₀ mask e = (e ≤ 64) × (mask ≡ maskOf (isCommand (recordsBy image places) moves) e)
 
 abbrev μ-loop : tie.MeasureT-loop
-μ-loop image places m st moves mask₀ e₀ mask e = 64 - e
-
-moves-of-requires : tie.Need-moves-of-requires Inv-loop μ-loop
-moves-of-requires c κs = search needs
+μ-loop image places moves mask₀ e₀ mask e = 64 - e
 
 loop-holds : tie.Need-loop-holds Inv-loop μ-loop
 unfolding maskOf
@@ -45,7 +41,7 @@ loop-less c = search needs
 loop-again : tie.Need-loop-again Inv-loop μ-loop
 loop-again c =
     let l = c .before .before .before .before in
-    (search needs, command-bit _ _ _ (l .before .moves-of .ensures) _ (l .loop .inv .1) (c .before .before .before .loop-test .taken) (c .before .is-command .ensures) (c .with-bit .ensures))
+    (search needs, one-bit _ _ (l .loop .inv .1) (c .before .is-command .ensures) (c .with-bit .ensures))
 
 returns-2 : tie.Need-returns-2 Inv-loop μ-loop
 returns-2 c = search all-bits
@@ -56,7 +52,6 @@ commands-spec =
     (tie.spec
     Inv-loop
     μ-loop
-    moves-of-requires
     loop-holds
     cast-if1
     shr-if1

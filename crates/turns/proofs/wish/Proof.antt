@@ -7,6 +7,9 @@ use Rattle.turns.proofs.wish.Tie as tie
 returns : tie.Need-returns
 returns c = search (wish-queued, eight)
 
+moves-of-requires : tie.Need-moves-of-requires
+moves-of-requires c κs = search needs
+
 commands-requires : tie.Need-commands-requires
 commands-requires c κs = search needs
 
@@ -17,4 +20,4 @@ returns-3 : tie.Need-returns-3
 returns-3 c = search wish-commands
 
 pub wish-spec : {M : Type 1} → statement M
-wish-spec = tie.close (tie.spec returns commands-requires returns-2 returns-3)
+wish-spec = tie.close (tie.spec returns moves-of-requires commands-requires returns-2 returns-3)
