@@ -1,9 +1,10 @@
 // The bids that a supervisor has noted, the module that its permit goes to, and whether its state fits: permits/specs/Supervisor.antt.
 ghost use mathlib.Core.Path.{_≡_};
-ghost use mathlib.Core.Bool.{not, _||_};
+ghost use mathlib.Core.Bool.{not, _&&_, _||_};
 ghost use Prim.Native.Nat.{_<_};
 ghost use Rattle.places.specs.Places.{recordsBy};
-ghost use Rattle.bits.specs.Bit.{bit, allBelow, least, optionOf};
+ghost use Rattle.bits.specs.Bit.{bit, allBelow, everyEvent, least, optionOf};
+ghost use Rattle.plan.specs.Plan.{modulesNear};
 ghost use Rattle.permits.specs.Names.{neighbours?};
 ghost use Rattle.permits.specs.Supervisor.{holderFits, supervisorFits, moduleAfter, served};
 ghost use Rattle.noting.specs.Notes.{putNote};
@@ -14,42 +15,42 @@ use places::Places;
 
 // ---- a state that fits
 
-// Whether a module, if it is noted, is a neighbour.
-fn note_fits(image: &[u8], places: Places, v: u8, noted: u16, m: u8) -> bool
-    ensures { λ r. ⌜ r ≡ (not (bit noted m) || neighbours? (recordsBy (now (image .entry)) places) m v) ⌝ }
+// Whether a module is a neighbour, by the mask of those that are. Past 15, which no accepted plan has, it is looked up.
+fn is_near(image: &[u8], places: Places, v: u8, near: u16, m: u8) -> bool
+    requires { ⌜ near ≡ modulesNear (recordsBy (now image) places) v ⌝ }
+    ensures { λ r. ⌜ r ≡ neighbours? (recordsBy (now (image .entry)) places) m v ⌝ }
 {
-    let mask = noted as u64;
-    if bits::has(mask, m) {
-        permits::are_neighbours(image, places, m, v)
+    if m < 16 {
+        let mask = near as u64;
+        bits::has(mask, m)
     } else {
-        true
+        permits::are_neighbours(image, places, m, v)
     }
 }
 
-fn noted_fits(image: &[u8], places: Places, v: u8, noted: u16) -> bool
-    ensures { λ r. ⌜ r ≡ allBelow (λ m. not (bit noted m) || neighbours? (recordsBy (now (image .entry)) places) m v) 16 ⌝ }
+// Whether every noted module is one of a mask.
+fn noted_near(noted: u16, near: u16) -> bool
+    ensures { λ r. ⌜ r ≡ everyEvent noted (bit near) ⌝ }
 {
-    let mask = noted as u64;
-    let mut m: u8 = 0;
-    while m < 16 {
-        // Past the last that is noted nothing is left to ask.
-        if mask >> m == 0 {
-            return true;
-        }
-        if !note_fits(image, places, v, noted, m) {
-            return false;
-        }
-        m += 1;
-    }
-    true
+    bits::within(noted as u64, near as u64)
 }
 
-fn holder_fits(image: &[u8], places: Places, v: u8, holder: Holder) -> bool
-    ensures { λ r. ⌜ r ≡ holderFits (recordsBy (now (image .entry)) places) v holder ⌝ }
+// Whether the noted modules and the holder are neighbours. While nothing is noted and the permit is home, nothing is looked up.
+fn modules_fit(image: &[u8], places: Places, v: u8, noted: u16, holder: Holder) -> bool
+    ensures { λ r. ⌜ r ≡ (allBelow (λ m. not (bit noted m) || neighbours? (recordsBy (now (image .entry)) places) m v) 16 && holderFits (recordsBy (now (image .entry)) places) v holder) ⌝ }
 {
     match holder {
-        Holder::Home => true,
-        Holder::Out(m) => permits::are_neighbours(image, places, m, v),
+        Holder::Home => {
+            if noted == 0 {
+                true
+            } else {
+                noted_near(noted, masks::modules_near(image, places, v))
+            }
+        }
+        Holder::Out(m) => {
+            let near = masks::modules_near(image, places, v);
+            noted_near(noted, near) & is_near(image, places, v, near, m)
+        }
     }
 }
 
@@ -59,8 +60,7 @@ pub fn fits(image: &[u8], places: Places, v: u8, y: Supervisor) -> bool
 {
     let holder = y.holder;
     plan::supervisor_state(image, places, v, y.state)
-        & noted_fits(image, places, v, y.noted)
-        & holder_fits(image, places, v, holder)
+        & modules_fit(image, places, v, y.noted, holder)
         & (y.last < 16)
 }
 

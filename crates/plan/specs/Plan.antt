@@ -14,7 +14,7 @@ use Rattle.records.specs.declared.Record.the-variants.{Head, Event, Module, Mod
 use Rattle.reader.specs.declared.Found.{Found}
 use Rattle.reader.specs.declared.Found.the-variants.{It, Missing}
 use Rattle.reader.specs.Find.{findIn}
-use Rattle.rules.specs.LookUp.{field3, wordField, fieldOf, supervisorsOf, eventsOf, moduleIn, supervisorIn, ownerOf, controllable, alphabetOf}
+use Rattle.rules.specs.LookUp.{field3, wordField, fieldOf, modulesOf, supervisorsOf, eventsOf, moduleIn, supervisorIn, ownerOf, controllable, alphabetOf}
 
 -- the fourth field of a move: the state that it leads to
 unfoldable pub field4 : Record → ℕ
@@ -93,6 +93,10 @@ neighbour rs m v = someBelow (λ e. eqb (ownerOf rs e) m && inAlphabet rs v e) (
 -- the neighbour mask: bit v stands for supervisor v
 abbrev pub neighbours : List Record → ℕ → ℕ
 neighbours rs m = maskOf (λ v. ltb v (supervisorsOf rs) && neighbour rs m v) 32
+
+-- the modules of the plan whose neighbour a supervisor of the plan is: bit m stands for module m
+abbrev pub modulesNear : List Record → ℕ → ℕ
+modulesNear rs v = maskOf (λ m. ltb m (modulesOf rs) && ltb v (supervisorsOf rs) && neighbour rs m v) 16
 
 -- document 01's count of neighbours: "The count of neighbours is the number of ones in the neighbour mask.", by that mask
 abbrev pub neighbourCount : ℕ → ℕ
