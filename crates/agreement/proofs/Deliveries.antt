@@ -35,7 +35,7 @@ use Rattle.protocol.specs.System.{System}
 use Rattle.protocol.proofs.Tools.{and-true, and-intro, eqb-self, Inserted, inserted-all}
 use Rattle.protocol.proofs.Invariant.{Inv, ReleaseNames}
 use Rattle.agreement.specs.PlanOf.{planOf}
-use Rattle.agreement.specs.Compared.{holderOf}
+use Rattle.agreement.specs.Compared.{outTo}
 use Rattle.agreement.proofs.Names.{eventByte, messageOf}
 use Rattle.agreement.proofs.Bytes.{parse-bytes}
 use Rattle.agreement.proofs.Fit.{SameModule, SameSupervisor, near-module, near-supervisor, both-named}
@@ -108,8 +108,8 @@ module _ (rs : List Record) (L : Laws (planOf rs)) where
       or-on true = refl
       or-on false = refl
 
-  held-by : (m : ℕ) (h : Holder) → S.heldBy h m ≡ isNumber (holderOf h) m
-  unfolding S.heldBy holderOf isNumber
+  held-by : (m : ℕ) (h : Holder) → S.heldBy h m ≡ isNumber (outTo h) m
+  unfolding S.heldBy outTo isNumber
   held-by m Home = refl
   held-by m (Out n) = refl
 
@@ -140,7 +140,7 @@ module _ (rs : List Record) (L : Laws (planOf rs)) where
         record {
           state = ap (λ (z : ℕ). S.applied rs v z (eventByte e)) (s .state) ∙ applied-is m v e (y .state) (n .event);
           noted = s .noted;
-          holder = (unfold holderOf in refl);
+          holder = (unfold outTo in refl);
           last = s .last;
         },
       )

@@ -28,7 +28,7 @@ use Rattle.modules.specs.Procedure.{calledBy}
 use Rattle.modules.specs.Turn.{turnOf, emptyOwn}
 use Rattle.modules.specs.Fits.{ownFits, ownEmpty}
 use Rattle.device_states.specs.declared.Device.{Device}
-use Rattle.device.specs.declared.Turning.the-variants.{Turned as DeviceTurned}
+use Rattle.device.specs.declared.Turning.the-variants.{Done as TurnDone}
 use Rattle.words.specs.Lists.{listFrom}
 use Rattle.device_states.specs.States.{ownAt, stateAt, ownSlotFits, stateSlotFits, deviceFits, shownBy, stateAfterTurn, withOwn}
 use Rattle.words.proofs.Lists.{from-at}
@@ -176,7 +176,7 @@ module _ (rs : List Record) (few-modules : modulesOf rs ≤ 16) (few : superviso
   number-none d m h l = ap₂ (λ (a b : Bool). cond a (cond b 0 11) 9) h (lt-ltb m (modulesOf rs) l)
 
   pub turn-call : (v : Verdict) (d : Device) (m : ℕ) → v ≡ Accepted → deviceFits rs d ≡ true → m < modulesOf rs
-      → turnBy v rs d m ≡ record { answer = DeviceTurned (turned rs d m .turn); device = afterTurn rs d m (turned rs d m) }
+      → turnBy v rs d m ≡ record { answer = TurnDone (turned rs d m .turn); device = afterTurn rs d m (turned rs d m) }
   turn-call v d m a h l =
       ap (λ (w : Verdict). turnBy w rs d m) a ∙ (unfold turnBy in (ap (turnIn rs d m) (number-none d m h l) ∙ (unfold turnIn in refl)))
 

@@ -27,7 +27,7 @@ use Rattle.protocol.proofs.Tools.{and-intro}
 use Rattle.protocol.proofs.Neighbours.{neighbour-below, neighbour-module}
 use Rattle.protocol.proofs.Invariant.{Inv, noted-neighbour, holder-neighbour}
 use Rattle.agreement.specs.PlanOf.{planOf}
-use Rattle.agreement.specs.Compared.{holderOf}
+use Rattle.agreement.specs.Compared.{outTo}
 use Rattle.agreement.proofs.Names.{neighbour-same, neighbour-bit, missing-same}
 
 pub record SameModule (x : Module) (y : R.ModuleState) : Type 0 where
@@ -39,7 +39,7 @@ pub record SameModule (x : Module) (y : R.ModuleState) : Type 0 where
 pub record SameSupervisor (x : Supervisor) (y : R.SupervisorState) : Type 0 where
   pub state : x .state ≡ y .state
   pub noted : x .noted ≡ y .noted
-  pub holder : holderOf (x .holder) ≡ y .holder
+  pub holder : outTo (x .holder) ≡ y .holder
   pub last : x .last ≡ y .lastServed
 
 -- where a test implies another
@@ -101,8 +101,8 @@ module _ (rs : List Record) (L : Laws (planOf rs)) where
         bids : (not (x .bid) || isSome (M.missing rs m (x .held))) ≡ true
         bids = implies (x .bid) _ (λ b. ap (λ (h : ℕ). isSome (M.missing rs m h)) (s .held) ∙ missing-some m (D .moduleAt m .outstanding) refl (sym (s .bid) ∙ b))
 
-    holder-fits : (v : ℕ) (h : Holder) → holderOf h ≡ D .supervisorAt v .holder → S.holderFits rs v h ≡ true
-    unfolding S.holderFits holderOf
+    holder-fits : (v : ℕ) (h : Holder) → outTo h ≡ D .supervisorAt v .holder → S.holderFits rs v h ≡ true
+    unfolding S.holderFits outTo
     holder-fits v Home e = refl
     holder-fits v (Out m) e = both-named m v (holder-neighbour (planOf rs) D O I m v (sym e))
 

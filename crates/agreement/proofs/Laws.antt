@@ -12,13 +12,13 @@ use Rattle.modules.specs.declared.Turn.{Turn}
 use Rattle.modules.specs.declared.Turn.the-variants.{Event, Stray, Nothing}
 use Rattle.modules.specs.Turn.{turnOf, startOwn}
 use Rattle.modules.specs.Fits.{ownFits}
-use Rattle.turn_laws.specs.Laws.{TurnLaws, fitsAt, stateFitsAt, Did}
+use Rattle.turn_laws.specs.Laws.{TurnLaws, ownFitsAt, stateFitsAt, Did}
 use Rattle.protocol.specs.Plan.{Laws, OwnLaws, TurnLaw}
 use Rattle.agreement.specs.PlanOf.{planOf}
 
 module _ (rs : List Record) (T : TurnLaws rs) where
   -- of a module and a supervisor of the plan
-  here : (m : ℕ) (own : Own) → m < modulesOf rs → fitsAt rs m own ≡ ownFits rs m own
+  here : (m : ℕ) (own : Own) → m < modulesOf rs → ownFitsAt rs m own ≡ ownFits rs m own
   here m own l = ap (λ (b : Bool). cond b (ownFits rs m own) true) (lt-ltb m (modulesOf rs) l)
 
   there : (v st : ℕ) → v < supervisorsOf rs → stateFitsAt rs v st ≡ supervisorState rs v st

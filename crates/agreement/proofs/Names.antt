@@ -130,7 +130,7 @@ module _ (rs : List Record) (few : supervisorsOf rs ≤ 32) (watched : (v e : �
   unfolding M.choice R.choice
   choice-same m x y o h b =
       args (missing-same m (x .held) ∙ ap (R.missing (planOf rs) m) h) (has-same m) b (ap (λ (k : ℕ). not (eqb k 0)) h) (wished ∙ ap (planOf rs .wish m) o)
-      ∙ chosen (R.missing (planOf rs) m (y .held)) (R.hasNeighbour (planOf rs) m) (y .outstanding) (not (eqb (y .held) 0)) (planOf rs .wish m (y .own))
+      ∙ choice-on (R.missing (planOf rs) m (y .held)) (R.hasNeighbour (planOf rs) m) (y .outstanding) (not (eqb (y .held) 0)) (planOf rs .wish m (y .own))
     where
       wished : wish rs m (x .own) ≡ planOf rs .wish m (x .own)
       wished = unfold planOf in refl
@@ -138,14 +138,14 @@ module _ (rs : List Record) (few : supervisorsOf rs ≤ 32) (watched : (v e : �
       args : {a a′ : Option ℕ} {b b′ c c′ d d′ e e′ : Bool} → a ≡ a′ → b ≡ b′ → c ≡ c′ → d ≡ d′ → e ≡ e′ → M.choiceOn a b c d e ≡ M.choiceOn a′ b′ c′ d′ e′
       args p q r s t = λ i. M.choiceOn (p i) (q i) (r i) (s i) (t i)
 
-      chosen : (a : Option ℕ) (n : Bool) (o : Option ℕ) (h w : Bool) → M.choiceOn a n (isSome o) h w ≡ choiceOf (R.choiceOn a n o h w)
-      chosen none true o h w = unfold M.choiceOn R.choiceOn choiceOf in refl
-      chosen none false o h true = unfold M.choiceOn R.choiceOn choiceOf in refl
-      chosen none false o h false = unfold M.choiceOn R.choiceOn choiceOf in refl
-      chosen (some v) n (some b) h w = unfold M.choiceOn R.choiceOn choiceOf in refl
-      chosen (some v) n none true w = unfold M.choiceOn R.choiceOn choiceOf in refl
-      chosen (some v) n none false true = unfold M.choiceOn R.choiceOn choiceOf in refl
-      chosen (some v) n none false false = unfold M.choiceOn R.choiceOn choiceOf in refl
+      choice-on : (a : Option ℕ) (n : Bool) (o : Option ℕ) (h w : Bool) → M.choiceOn a n (isSome o) h w ≡ choiceOf (R.choiceOn a n o h w)
+      choice-on none true o h w = unfold M.choiceOn R.choiceOn choiceOf in refl
+      choice-on none false o h true = unfold M.choiceOn R.choiceOn choiceOf in refl
+      choice-on none false o h false = unfold M.choiceOn R.choiceOn choiceOf in refl
+      choice-on (some v) n (some b) h w = unfold M.choiceOn R.choiceOn choiceOf in refl
+      choice-on (some v) n none true w = unfold M.choiceOn R.choiceOn choiceOf in refl
+      choice-on (some v) n none false true = unfold M.choiceOn R.choiceOn choiceOf in refl
+      choice-on (some v) n none false false = unfold M.choiceOn R.choiceOn choiceOf in refl
 
   -- the releases of a turn
   event-same : (v : ℕ) (t : Turn) → M.eventFor rs v t ≡ eventByte (R.eventFor (planOf rs) v t)

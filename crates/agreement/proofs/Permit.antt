@@ -27,7 +27,7 @@ use Rattle.permits.specs.Supervisor as S
 use Rattle.protocol.specs.Generic.{update}
 use Rattle.agreement.specs.System as A
 use Rattle.agreement.specs.Compared as C
-use Rattle.agreement.specs.Compared.{holderOf}
+use Rattle.agreement.specs.Compared.{outTo}
 
 -- a claim of both ways holds of the way taken
 either : {X : Type 0} (Q : X → Type 0) (b : Bool) (x y : X) → Q x → Q y → Q (cond b x y)
@@ -36,10 +36,10 @@ either Q false x y p q = q
 
 module _ (rs : List Record) (v : ℕ) (y : Supervisor) where
   abbrev Serves : S.ServeCall → Type 0
-  Serves c = C.afterServing (c .answer) (holderOf (y .holder)) ≡ holderOf (c .state .holder)
+  Serves c = C.afterServing (c .answer) (outTo (y .holder)) ≡ outTo (c .state .holder)
 
   serve-holder : (w : Verdict) (b : List ℕ) → Serves (S.stepBy w rs v y b)
-  unfolding S.stepBy S.stepIn S.answerBy S.stateAfter C.afterServing holderOf
+  unfolding S.stepBy S.stepIn S.answerBy S.stateBy C.afterServing outTo
   serve-holder (Refused n o) b = refl
   serve-holder Accepted b =
       either Serves (ltb v (supervisorsOf rs)) _ _
@@ -71,33 +71,33 @@ module _ (rs : List Record) (v : ℕ) (y : Supervisor) where
       (either Keeps (eqb s v && not (bit (y .noted) m)) (record { answer = Done; state = S.afterNote y m }) (S.callRefused y 12 0) refl refl) w
 
   abbrev Releases : SupervisorCalled → Type 0
-  Releases c = C.afterRelease (c .answer) (holderOf (y .holder)) ≡ holderOf (c .state .holder)
+  Releases c = C.afterRelease (c .answer) (outTo (y .holder)) ≡ outTo (c .state .holder)
 
   release-holder : (w : Verdict) (m s e : ℕ) → Releases (S.deliverBy w rs v y (Whole (Release m s e)))
-  unfolding S.takenBy C.afterRelease holderOf
+  unfolding S.takenBy C.afterRelease outTo
   release-holder w m s e =
       delivers Releases (Release m s e) (λ n o. refl)
       (either Releases (eqb s v && S.heldBy (y .holder) m) (record { answer = Done; state = S.afterRelease rs v y e }) (S.callRefused y 12 0) refl refl) w
 
 -- one supervisor's state changed
 abbrev out : A.System → ℕ → Option ℕ
-out D v = holderOf (D .supervisorAt v .holder)
+out D v = outTo (D .supervisorAt v .holder)
 
-holder-at : (D : A.System) (w v : ℕ) (y : Supervisor) (h : Option ℕ) → (w ≡ v → h ≡ holderOf (y .holder))
-    → cond (eqb w v) h (out D v) ≡ holderOf (update (D .supervisorAt) w y v .holder)
+holder-at : (D : A.System) (w v : ℕ) (y : Supervisor) (h : Option ℕ) → (w ≡ v → h ≡ outTo (y .holder))
+    → cond (eqb w v) h (out D v) ≡ outTo (update (D .supervisorAt) w y v .holder)
 unfolding update
 holder-at D w v y h f = go (eqb w v) refl
   where
-    go : (b : Bool) → eqb w v ≡ b → cond b h (out D v) ≡ holderOf (cond b y (D .supervisorAt v) .holder)
+    go : (b : Bool) → eqb w v ≡ b → cond b h (out D v) ≡ outTo (cond b y (D .supervisorAt v) .holder)
     go true e = f (eqb-true w v e)
     go false e = refl
 
-kept-at : (D : A.System) (w v : ℕ) (y : Supervisor) → y .holder ≡ D .supervisorAt w .holder → out D v ≡ holderOf (update (D .supervisorAt) w y v .holder)
+kept-at : (D : A.System) (w v : ℕ) (y : Supervisor) → y .holder ≡ D .supervisorAt w .holder → out D v ≡ outTo (update (D .supervisorAt) w y v .holder)
 unfolding update
 kept-at D w v y k = go (eqb w v) refl
   where
-    go : (b : Bool) → eqb w v ≡ b → out D v ≡ holderOf (cond b y (D .supervisorAt v) .holder)
-    go true e = ap (out D) (sym (eqb-true w v e)) ∙ ap holderOf (sym k)
+    go : (b : Bool) → eqb w v ≡ b → out D v ≡ outTo (cond b y (D .supervisorAt v) .holder)
+    go true e = ap (out D) (sym (eqb-true w v e)) ∙ ap outTo (sym k)
     go false e = refl
 
 module _ (image : List ℕ) (v : ℕ) where
@@ -134,11 +134,11 @@ module _ (image : List ℕ) (v : ℕ) where
   permit-holder D (a ∷ l) = ap (C.permitAfter image (A.step image D a) v l) (act-holder D a) ∙ permit-holder (A.step image D a) l
 
 -- ---- the start
-home-at : (rs : List Record) (v : ℕ) (w : Verdict) → holderOf (S.startBy w rs v .state .holder) ≡ none
-unfolding S.startBy holderOf
+home-at : (rs : List Record) (v : ℕ) (w : Verdict) → outTo (S.startBy w rs v .state .holder) ≡ none
+unfolding S.startBy outTo
 home-at rs v (Refused n o) = refl
-home-at rs v Accepted = either (λ (c : SupervisorCalled). holderOf (c .state .holder) ≡ none) (ltb v (supervisorsOf rs)) _ _ refl refl
+home-at rs v Accepted = either (λ (c : SupervisorCalled). outTo (c .state .holder) ≡ none) (ltb v (supervisorsOf rs)) _ _ refl refl
 
-pub start-home : (image : List ℕ) (v : ℕ) → holderOf (A.start image .supervisorAt v .holder) ≡ none
+pub start-home : (image : List ℕ) (v : ℕ) → outTo (A.start image .supervisorAt v .holder) ≡ none
 unfolding A.start
 start-home image v = home-at (recordsOf image) v (verdictOf image)

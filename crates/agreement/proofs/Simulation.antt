@@ -268,21 +268,21 @@ module _ (image : List ℕ) (plan : IsPlan image) (L : Laws (planOf (recordsOf i
       ∙ sym (map-append bytesOf (D .underWay) (permitOf (planOf rs) v (D .supervisorAt v) t))
 
   supervisor-sim : (v : ℕ) (t : Option ℕ) → v < supervisorsOf rs
-      → Sim rs (A.withSupervisor B v (S.stateAfter (B .supervisorAt v) t) (A.send (B .sent) (map messageBytes (S.sentTo rs v (B .supervisorAt v) t)))) (P.afterSupervisorStep (planOf rs) D v t)
+      → Sim rs (A.withSupervisor B v (S.stateBy (B .supervisorAt v) t) (A.send (B .sent) (map messageBytes (S.sentTo rs v (B .supervisorAt v) t)))) (P.afterSupervisorStep (planOf rs) D v t)
   unfolding P.afterSupervisorStep
   supervisor-sim v (some m) l = with-supervisor rs B D s v _ _ _ _ (unfold afterServing in (serving-is rs v (B .supervisorAt v) (D .supervisorAt v) (s .supervisors v l) (some m))) (unfold permitOf in (supervisor-wire v (some m) l))
   supervisor-sim v none l =
-      subst (λ (w : List A.Sent). Sim rs (A.withSupervisor B v (S.stateAfter (B .supervisorAt v) none) w) D) (sym none-sent) (unfold S.stateAfter in (still-supervisor rs B D s v))
+      subst (λ (w : List A.Sent). Sim rs (A.withSupervisor B v (S.stateBy (B .supervisorAt v) none) w) D) (sym none-sent) (unfold S.stateBy in (still-supervisor rs B D s v))
     where
       none-sent : A.send (B .sent) (map messageBytes (S.sentTo rs v (B .supervisorAt v) none)) ≡ B .sent
       none-sent = unfold S.sentTo in (append-nil (B .sent))
 
   pub supervisor-call : (v : ℕ) (b : List ℕ) → v < supervisorsOf rs → length b ≡ bufferLength
       → S.supervisorStep image v (B .supervisorAt v) b
-      ≡ record { answer = S.answerBy (S.stepBytes rs v (B .supervisorAt v) (R.served (D .supervisorAt v))) (R.served (D .supervisorAt v)); state = S.stateAfter (B .supervisorAt v) (R.served (D .supervisorAt v)); buffer = written (S.stepBytes rs v (B .supervisorAt v) (R.served (D .supervisorAt v))) b }
+      ≡ record { answer = S.answerBy (S.stepBytes rs v (B .supervisorAt v) (R.served (D .supervisorAt v))) (R.served (D .supervisorAt v)); state = S.stateBy (B .supervisorAt v) (R.served (D .supervisorAt v)); buffer = written (S.stepBytes rs v (B .supervisorAt v) (R.served (D .supervisorAt v))) b }
   supervisor-call v b l n =
       serve-is rs v (B .supervisorAt v) (verdictOf image) b plan l (supervisor-fits rs L D O I v (B .supervisorAt v) l (s .supervisors v l)) n
-      ∙ ap (λ (t : Option ℕ). record { answer = S.answerBy (S.stepBytes rs v (B .supervisorAt v) t) t; state = S.stateAfter (B .supervisorAt v) t; buffer = written (S.stepBytes rs v (B .supervisorAt v) t) b })
+      ∙ ap (λ (t : Option ℕ). record { answer = S.answerBy (S.stepBytes rs v (B .supervisorAt v) t) t; state = S.stateBy (B .supervisorAt v) t; buffer = written (S.stepBytes rs v (B .supervisorAt v) t) b })
       (served-is rs v (B .supervisorAt v) (D .supervisorAt v) (s .supervisors v l))
 
   pub supervisor-done : (v : ℕ) (b : List ℕ) → length b ≡ bufferLength → Done image B D (A.supervisorStep v b)

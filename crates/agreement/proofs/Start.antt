@@ -28,7 +28,7 @@ use Rattle.protocol.specs.System as P
 use Rattle.agreement.specs.PlanOf.{planOf}
 use Rattle.agreement.specs.System as A
 use Rattle.words.proofs.Lists.{from-at, from-length}
-use Rattle.agreement.specs.Compared.{holderOf}
+use Rattle.agreement.specs.Compared.{outTo}
 use Rattle.agreement.proofs.Device.{Same, OwnSlot, StateSlot, fits-of}
 use Rattle.agreement.proofs.Fit.{few-modules, SameModule, SameSupervisor, few}
 use Rattle.agreement.proofs.Simulation.{Sim}
@@ -51,7 +51,7 @@ module _ (image : List ℕ) (plan : IsPlan image) (L : Laws (planOf (recordsOf i
   supervisor-start v l = rw (plan, lt-ltb v (supervisorsOf rs) l)
 
   pub start-sim : Sim rs (A.start image) (P.startSystem (planOf rs))
-  unfolding A.start A.underWay P.startSystem planOf holderOf
+  unfolding A.start A.underWay P.startSystem planOf outTo
   start-sim = record {
     modules = λ m l. subst (λ (x : Module). SameModule x (P.startSystem (planOf rs) .moduleAt m)) (sym (module-start m l)) (record { own = refl; held = refl; received = refl; bid = refl });
     supervisors = λ v l. subst (λ (y : Supervisor). SameSupervisor y (P.startSystem (planOf rs) .supervisorAt v)) (sym (supervisor-start v l)) (record { state = refl; noted = refl; holder = refl; last = refl });

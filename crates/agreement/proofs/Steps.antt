@@ -33,7 +33,7 @@ use Rattle.protocol.specs.Plan.{Plan, Laws}
 use Rattle.protocol.specs.Rules as R
 use Rattle.agreement.specs.PlanOf.{planOf}
 use Rattle.agreement.specs.System.{wrote, wroteOut}
-use Rattle.agreement.specs.Compared.{holderOf}
+use Rattle.agreement.specs.Compared.{outTo}
 use Rattle.agreement.proofs.Names.{messageOf, choiceOf, choice-same, releases-same}
 use Rattle.agreement.proofs.Bytes.{AsReleases, pieces-of, length-releases}
 use Rattle.agreement.proofs.Fit.{SameModule, SameSupervisor, few, watched}
@@ -137,7 +137,7 @@ module _ (rs : List Record) (v : ℕ) (x : Supervisor) where
 
   pub serve-is : (w : Verdict) (b : List ℕ) → w ≡ Accepted → v < supervisorsOf rs → S.supervisorFits rs v x ≡ true → length b ≡ bufferLength
       → S.stepBy w rs v x b
-      ≡ record { answer = S.answerBy (S.stepBytes rs v x (S.served x)) (S.served x); state = S.stateAfter x (S.served x); buffer = written (S.stepBytes rs v x (S.served x)) b }
+      ≡ record { answer = S.answerBy (S.stepBytes rs v x (S.served x)) (S.served x); state = S.stateBy x (S.served x); buffer = written (S.stepBytes rs v x (S.served x)) b }
   unfolding S.stepBy S.stepIn
   serve-is w b a l f n =
       let r : ltb (length b) (length (S.stepBytes rs v x (S.served x))) ≡ false = le-ltb (length b) (length (S.stepBytes rs v x (S.served x))) (omega (arith, serve-room (S.served x))) in
@@ -174,10 +174,10 @@ module _ (rs : List Record) (v : ℕ) (x : Supervisor) (y : R.SupervisorState) (
       ∙ (unfold R.firstNoted in refl)
 
   pub served-is : S.served x ≡ R.served y
-  unfolding R.served S.servedOn R.servedOn holderOf
+  unfolding R.served S.servedOn R.servedOn outTo
   served-is = go (x .holder) (s .holder)
     where
-      go : (h : Holder) → holderOf h ≡ y .holder → S.servedOn x h ≡ R.servedOn (y .holder) (R.firstNoted y)
+      go : (h : Holder) → outTo h ≡ y .holder → S.servedOn x h ≡ R.servedOn (y .holder) (R.firstNoted y)
       go Home e = first-is ∙ ap (λ (o : Option ℕ). R.servedOn o (R.firstNoted y)) e
       go (Out m) e = ap (λ (o : Option ℕ). R.servedOn o (R.firstNoted y)) e
 
@@ -186,7 +186,7 @@ module _ (rs : List Record) (v : ℕ) (x : Supervisor) (y : R.SupervisorState) (
   permit-is none = refl
   permit-is (some m) = ap (λ (z : ℕ). Permit v m (shown rs v z) ∷ []) (s .state) ∙ (unfold planOf messageOf in refl)
 
-  pub serving-is : (t : Option ℕ) → SameSupervisor (S.stateAfter x t) (afterServing y t)
-  unfolding S.stateAfter afterServing R.afterSending
+  pub serving-is : (t : Option ℕ) → SameSupervisor (S.stateBy x t) (afterServing y t)
+  unfolding S.stateBy afterServing R.afterSending
   serving-is none = s
-  serving-is (some m) = record { state = s .state; noted = ap (λ (n : ℕ). putBit n m false) (s .noted); holder = (unfold holderOf in refl); last = refl }
+  serving-is (some m) = record { state = s .state; noted = ap (λ (n : ℕ). putBit n m false) (s .noted); holder = (unfold outTo in refl); last = refl }

@@ -17,7 +17,7 @@ use Rattle.modules.specs.declared.Replied.{Replied}
 use Rattle.modules.specs.Procedure.{calledBy, respondOf, tickOf}
 use Rattle.modules.specs.Fits.{ownFits}
 use Rattle.device_states.specs.declared.Device.{Device}
-use Rattle.device.specs.declared.Turning.the-variants.{Turned}
+use Rattle.device.specs.declared.Turning.the-variants.{Done as TurnDone}
 use Rattle.device_states.specs.States as States
 use Rattle.device.specs.Device as Dev
 use Rattle.protocol.specs.Plan.{Plan, Laws}
@@ -123,10 +123,10 @@ module _ (image : List ℕ) (plan : IsPlan image) (L : Laws (planOf (recordsOf i
     turned-is : Dev.turned rs d m ≡ R.deviceTurn (planOf rs) O m
     turned-is = turn-same rs (few-modules rs L) (few rs L) (watched rs L) kept d O m s l
 
-    call-is : Dev.turnBy (verdictOf image) rs d m ≡ record { answer = Turned (R.deviceTurn (planOf rs) O m .turn); device = Dev.afterTurn rs d m (R.deviceTurn (planOf rs) O m) }
+    call-is : Dev.turnBy (verdictOf image) rs d m ≡ record { answer = TurnDone (R.deviceTurn (planOf rs) O m .turn); device = Dev.afterTurn rs d m (R.deviceTurn (planOf rs) O m) }
     call-is =
         turn-call rs (few-modules rs L) (few rs L) (watched rs L) kept (verdictOf image) d m plan (s .fits) l
-        ∙ ap (λ t. record { answer = Turned (t .turn); device = Dev.afterTurn rs d m t }) turned-is
+        ∙ ap (λ t. record { answer = TurnDone (t .turn); device = Dev.afterTurn rs d m t }) turned-is
 
     turn-after : Same rs (Dev.afterTurn rs d m (R.deviceTurn (planOf rs) O m)) after
     turn-after = after-same rs (few-modules rs L) (few rs L) (watched rs L) kept d O m (R.deviceTurn (planOf rs) O m) s l f

@@ -16,9 +16,9 @@ use Rattle.device_states.specs.States.{ownAt}
 use Rattle.device.specs.Device.{turnCall, respondCall, tickCall}
 use Rattle.device_states.specs.declared.Device.{Device}
 use Rattle.device.specs.declared.Turning.{Turning}
-use Rattle.device.specs.declared.Turning.the-variants.{Turned as DeviceTurned, Refused as DeviceRefused}
+use Rattle.device.specs.declared.Turning.the-variants.{Done as TurnDone, Refused as DeviceRefused}
 use Rattle.permits.specs.declared.Stepped.{Stepped}
-use Rattle.permits.specs.declared.Stepped.the-variants.{Turned, Bids, Waits, Refused}
+use Rattle.permits.specs.declared.Stepped.the-variants.{Turns, Bids, Waits, Refused}
 use Rattle.permits.specs.declared.Served.{Served}
 use Rattle.permits.specs.declared.Served.the-variants.{Sends, Waits as SupervisorWaits, Refused as SupervisorRefused}
 use Rattle.permits.specs.declared.Holder.{Holder}
@@ -40,7 +40,7 @@ pub data Seen : Type 0 where
   callSeen : ℕ → Called → Own → Seen
 
 unfoldable pub stepSeen : ℕ → Stepped → Own → List Seen
-stepSeen m (Turned t n) own = turnSeen m t own ∷ []
+stepSeen m (Turns t n) own = turnSeen m t own ∷ []
 stepSeen m (Bids v n) own = []
 stepSeen m Waits own = []
 stepSeen m (Refused n o) own = []
@@ -92,7 +92,7 @@ deviceRun image d [] = d
 deviceRun image d (a ∷ l) = deviceRun image (deviceStep image d a) l
 
 unfoldable pub turningSeen : ℕ → Turning → Own → Seen
-turningSeen m (DeviceTurned t) own = turnSeen m t own
+turningSeen m (TurnDone t) own = turnSeen m t own
 turningSeen m (DeviceRefused n o) own = refusalSeen m n own
 
 unfoldable pub deviceActSeen : List ℕ → Device → DeviceAct → Seen
@@ -144,10 +144,10 @@ permitAfter image D v [] h = h
 permitAfter image D v (a ∷ l) h = permitAfter image (step image D a) v l (actPermit image D v a h)
 
 -- the same as a supervisor's state has it
-unfoldable pub holderOf : Holder → Option ℕ
-holderOf Home = none
-holderOf (Out m) = some m
+unfoldable pub outTo : Holder → Option ℕ
+outTo Home = none
+outTo (Out m) = some m
 
 -- and after a list of calls: at its beginning the permits are where the states have them, at the start home
 abbrev pub permitOf : List ℕ → System → List Act → ℕ → Option ℕ
-permitOf image D acts v = permitAfter image D v acts (holderOf (D .supervisorAt v .holder))
+permitOf image D acts v = permitAfter image D v acts (outTo (D .supervisorAt v .holder))

@@ -32,7 +32,7 @@ use Rattle.protocol.specs.System.{commandsOf, Position, replay, startPosition, 
 use Rattle.protocol.specs.Language.{Supervised}
 use Rattle.agreement.specs.PlanOf.{planOf}
 use Rattle.agreement.specs.System.{Sent, System, Act, deliver, bufferLength, AllLent, at, step, start, run}
-use Rattle.agreement.specs.Compared.{Seen, DeviceAct, seen, fed, deviceRun, deviceSeen, recordOfEvents, holderOf, permitOf}
+use Rattle.agreement.specs.Compared.{Seen, DeviceAct, seen, fed, deviceRun, deviceSeen, recordOfEvents, outTo, permitOf}
 
 -- ---- what the statement speaks of, each by one name
 
@@ -142,7 +142,7 @@ module _ (image : List ℕ) (D : System) (d : Device) (p : Position) (acts : Lis
     -- the record is a word of the modules under their supervisors, in the terms of 004, chapter 2
     pub supervised : Supervised (imagePlan image) p listRecord
     -- the supervisor's state tells where its permit is
-    pub holder : (v : ℕ) → permitAtEnd v ≡ holderOf (supervisorAtEnd v .holder)
+    pub holder : (v : ℕ) → permitAtEnd v ≡ outTo (supervisorAtEnd v .holder)
     -- no delivery of a message under way is refused
     pub taken : (k : ℕ) (g : Sent) → at k (atEnd .sent) ≡ some g → g .delivered ≡ false
         → answerTo image atEnd (g .bytes) (parse (g .bytes)) ≡ Done
@@ -158,7 +158,7 @@ module _ (image : List ℕ) (D : System) (d : Device) (p : Position) (acts : Lis
 
 -- "begun at the starting state", which also is where the one-device controller and the replay begin. Document 01 of it: "permits are home".
 pub record FromStart (image : List ℕ) (acts : List Act) : Type 0 where
-  pub permits-home : (v : ℕ) → holderOf (start image .supervisorAt v .holder) ≡ none
+  pub permits-home : (v : ℕ) → outTo (start image .supervisorAt v .holder) ≡ none
   pub demand : Demand3 image (start image) (startCall image .device) (startPosition (imagePlan image)) acts
   pub besides : Besides image (start image) (startCall image .device) (startPosition (imagePlan image)) acts
 

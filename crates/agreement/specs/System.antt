@@ -14,7 +14,7 @@ use Rattle.messages.specs.declared.Parsed.the-variants.{Whole, Misshapen}
 use Rattle.permits.specs.declared.Module.{Module}
 use Rattle.permits.specs.declared.Supervisor.{Supervisor}
 use Rattle.permits.specs.declared.Stepped.{Stepped}
-use Rattle.permits.specs.declared.Stepped.the-variants.{Turned, Bids, Waits, Refused}
+use Rattle.permits.specs.declared.Stepped.the-variants.{Turns, Bids, Waits, Refused}
 use Rattle.permits.specs.declared.Served.{Served}
 use Rattle.permits.specs.declared.Served.the-variants.{Sends, Waits as SupervisorWaits, Refused as SupervisorRefused}
 use Rattle.permits.specs.Module as M
@@ -56,7 +56,7 @@ AllLent (a ∷ l) = Lent a × AllLent l
 
 -- "A message is sent by the accepted step that writes it"; "each release is sent as a message by itself"
 unfoldable pub wrote : Stepped → List ℕ → List (List ℕ)
-wrote (Turned t n) b = pieces releaseSize (n / releaseSize) b
+wrote (Turns t n) b = pieces releaseSize (n / releaseSize) b
 wrote (Bids v n) b = take n b ∷ []
 wrote Waits b = []
 wrote (Refused n o) b = []

@@ -20,7 +20,7 @@ use Rattle.modules.specs.declared.Called.the-variants.{Done, Refused as CallRef
 use Rattle.messages.specs.Message.{messageBytes}
 use Rattle.messages.specs.declared.Message.{Message}
 use Rattle.permits.specs.declared.Stepped.{Stepped}
-use Rattle.permits.specs.declared.Stepped.the-variants.{Turned, Bids, Waits, Refused as StepRefused}
+use Rattle.permits.specs.declared.Stepped.the-variants.{Turns, Bids, Waits, Refused as StepRefused}
 use Rattle.permits.proofs.Stepped as SteppedType
 use Rattle.permits.specs.declared.Served.{Served}
 use Rattle.permits.specs.declared.Served.the-variants.{Sends, Waits as ServedWaits, Refused as ServeRefused}
@@ -105,7 +105,7 @@ module _ {a : Answer} {r : Text} where
 -- an answer that has a number is printed by it
 refused-line : (a : Answer) → answerNumber a ≢ 0 → answerLine a ≡ refusedLine (answerNumber a)
 unfolding answerLine steppedLine servedLine deliveryLine responseLine tickLine
-refused-line (Module m (Turned t n)) h = absurd (h refl)
+refused-line (Module m (Turns t n)) h = absurd (h refl)
 refused-line (Module m (Bids v n)) h = absurd (h refl)
 refused-line (Module m Waits) h = absurd (h refl)
 refused-line (Module m (StepRefused n o)) h = refl
@@ -145,12 +145,12 @@ module _ {a : Answer} {m : ℕ} (s : Stepped) (i : a ≡ Module m s) where
   fired-unturned q = go s q ∙ ap fired (sym i)
     where
       go : (x : Stepped) → OneOf (1 ∷ 2 ∷ 3 ∷ []) (tagOf SteppedType.the-type x) → Nothing ≡ stepEvent x
-      go (Turned t n) p = absurd (miss (1 ∷ 2 ∷ 3 ∷ []) 0 tt p)
+      go (Turns t n) p = absurd (miss (1 ∷ 2 ∷ 3 ∷ []) 0 tt p)
       go (Bids v n) p = refl
       go Waits p = refl
       go (StepRefused n o) p = refl
 
-  module _ (t : Turn) {n : ℕ} (j : s ≡ Turned t n) where
+  module _ (t : Turn) {n : ℕ} (j : s ≡ Turns t n) where
     pub fired-eventless : OneOf (1 ∷ 2 ∷ []) (tagOf TurnType.the-type t) → Nothing ≡ fired a
     unfolding fired stepEvent eventOf
     fired-eventless q = go t q ∙ ap stepEvent (sym j) ∙ ap fired (sym i)

@@ -22,7 +22,7 @@ use Rattle.texts.specs.Text.{textOf}
 use Rattle.script.specs.Answers.{refusedLine, responseLine}
 use Rattle.script.specs.SimulationLines.{deliveredLine, steppedLine, servedLine, tickLine, nothingLine}
 use Rattle.permits.specs.declared.Stepped.{Stepped}
-use Rattle.permits.specs.declared.Stepped.the-variants.{Turned, Bids, Waits, Refused as StepRefused}
+use Rattle.permits.specs.declared.Stepped.the-variants.{Turns, Bids, Waits, Refused as StepRefused}
 use Rattle.simulation.specs.declared.Answer.{Answer}
 use Rattle.simulation.specs.declared.Answer.the-variants.{Module, Supervisor, Delivery, NoMessage, Response, Tick, Misshapen}
 use Rattle.simulation.specs.Numbers.{answerNumber}
@@ -53,7 +53,7 @@ eventOf (Stray e) = Nothing
 eventOf NoTurn = Nothing
 
 unfoldable pub stepEvent : Stepped → Maybe
-stepEvent (Turned t n) = eventOf t
+stepEvent (Turns t n) = eventOf t
 stepEvent (Bids v n) = Nothing
 stepEvent Waits = Nothing
 stepEvent (StepRefused n o) = Nothing

@@ -72,7 +72,7 @@ pub fn fired(a: Answer) -> Maybe
     let Answer::Module(_, s) = a else {
         return Maybe::Nothing;
     };
-    let Stepped::Turned(t, _) = s else {
+    let Stepped::Turns(t, _) = s else {
         return Maybe::Nothing;
     };
     let Turn::Event(e) = t else {

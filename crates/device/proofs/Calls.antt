@@ -23,7 +23,7 @@ use Rattle.modules.proofs.Turn.{the-type}
 use Rattle.device_states.specs.declared.Device.{Device}
 use Rattle.device.specs.declared.DeviceTurned.{DeviceTurned}
 use Rattle.device.specs.declared.DeviceCalled.{DeviceCalled}
-use Rattle.device.specs.declared.Turning.the-variants.{Turned as Turns}
+use Rattle.device.specs.declared.Turning.the-variants.{Done as TurnDone}
 use Rattle.words.specs.Lists.{listFrom}
 use Rattle.modules.specs.Procedure.{respondOf, tickOf}
 use Rattle.water.specs.declared.Flow.{Flow}
@@ -56,11 +56,11 @@ module _ (rs : List Record) (d : Device) (m : ℕ) (t : Turned) {w : Device} whe
 
 module _ (rs : List Record) (d : Device) (m n : ℕ) (e : n ≡ deviceNumber rs d m) where
   pub turn-taken : {t : Turned} {next : Device} → n ≡ 0 → t ≡ turned rs d m → next ≡ afterTurn rs d m t
-      → record { answer = Turns (t .turn); device = next } ≡ turnIn rs d m (deviceNumber rs d m)
+      → record { answer = TurnDone (t .turn); device = next } ≡ turnIn rs d m (deviceNumber rs d m)
   unfolding turnIn
   turn-taken {t = t} z g h =
-      ap (λ (x : Device). record { answer = Turns (t .turn); device = x }) h
-      ∙ ap (λ (x : Turned). record { answer = Turns (x .turn); device = afterTurn rs d m x }) g
+      ap (λ (x : Device). record { answer = TurnDone (t .turn); device = x }) h
+      ∙ ap (λ (x : Turned). record { answer = TurnDone (x .turn); device = afterTurn rs d m x }) g
       ∙ ap (turnIn rs d m) (sym z ∙ e)
 
   pub turn-numbered : (n ≡ 0 → ⊥) → turnRefused d n 0 ≡ turnIn rs d m (deviceNumber rs d m)

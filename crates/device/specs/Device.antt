@@ -19,7 +19,7 @@ use Rattle.modules.specs.Procedure.{calledBy, tickOf, respondOf}
 use Rattle.modules.specs.Turn.{turnOf}
 use Rattle.device_states.specs.States.{ownAt, stateAt, deviceFits, shownBy, withOwn, statesAfter, emptyDevice, startDevice}
 use Rattle.device_states.specs.declared.Device.{Device}
-use Rattle.device.specs.declared.Turning.the-variants.{Turned as Turns, Refused as TurnRefused}
+use Rattle.device.specs.declared.Turning.the-variants.{Done as TurnDone, Refused as TurnRefused}
 use Rattle.device.specs.declared.DeviceTurned.{DeviceTurned}
 use Rattle.device.specs.declared.DeviceCalled.{DeviceCalled}
 
@@ -39,7 +39,7 @@ abbrev pub turnRefused : Device → ℕ → ℕ → DeviceTurned
 turnRefused d n o = record { answer = TurnRefused n o; device = d }
 
 unfoldable pub turnIn : List Record → Device → ℕ → ℕ → DeviceTurned
-turnIn rs d m zero = record { answer = Turns (turned rs d m .turn); device = afterTurn rs d m (turned rs d m) }
+turnIn rs d m zero = record { answer = TurnDone (turned rs d m .turn); device = afterTurn rs d m (turned rs d m) }
 turnIn rs d m (suc n) = turnRefused d (suc n) 0
 
 unfoldable pub turnBy : Verdict → List Record → Device → ℕ → DeviceTurned

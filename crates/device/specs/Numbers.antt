@@ -3,25 +3,25 @@ use Prim.Native.Nat.{ℕ}
 use mathlib.Core.Option.{Option, none, some}
 use Rattle.modules.specs.declared.Turn.the-variants.{Event, Stray, Nothing}
 use Rattle.device.specs.declared.Turning.{Turning}
-use Rattle.device.specs.declared.Turning.the-variants.{Turned, Refused}
+use Rattle.device.specs.declared.Turning.the-variants.{Done as TurnDone, Refused}
 
 abbrev pub turningNumber : Turning → ℕ
-turningNumber (Turned t) = 0
+turningNumber (TurnDone t) = 0
 turningNumber (Refused n o) = n
 
 abbrev pub turningOffset : Turning → ℕ
-turningOffset (Turned t) = 0
+turningOffset (TurnDone t) = 0
 turningOffset (Refused n o) = o
 
 -- "turn 1 event 2", "`turn M stray E`" and "turn 0 none": the event that fired, and the one that was stray
 abbrev pub turningEvent : Turning → Option ℕ
-turningEvent (Turned (Event e)) = some e
-turningEvent (Turned (Stray e)) = none
-turningEvent (Turned Nothing) = none
+turningEvent (TurnDone (Event e)) = some e
+turningEvent (TurnDone (Stray e)) = none
+turningEvent (TurnDone Nothing) = none
 turningEvent (Refused n o) = none
 
 abbrev pub turningStray : Turning → Option ℕ
-turningStray (Turned (Event e)) = none
-turningStray (Turned (Stray e)) = some e
-turningStray (Turned Nothing) = none
+turningStray (TurnDone (Event e)) = none
+turningStray (TurnDone (Stray e)) = some e
+turningStray (TurnDone Nothing) = none
 turningStray (Refused n o) = none

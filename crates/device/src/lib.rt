@@ -18,7 +18,7 @@ use water::Flow;
 
 // What a turn got.
 pub enum Turning {
-    Turned(Turn),
+    Done(Turn),
     Refused(u8, usize),
 }
 
@@ -91,7 +91,7 @@ fn turn_in(image: &[u8], places: Places, d: Device, m: u8) -> DeviceTurned
         let next = after_turn(image, places, d, m, t);
         let did = t.turn;
         DeviceTurned {
-            answer: Turning::Turned(did),
+            answer: Turning::Done(did),
             device: next,
         }
     } else {

@@ -33,7 +33,7 @@ use Rattle.device_bytes.specs.Device.{slotsSize, deviceSize, ownsBytes, 
 pub owns-size : (l : List Own) → OwnsEncodable l → length (ownsBytes l) ≡ length l * ownSize
 unfolding ownsBytes
 owns-size [] h = refl
-owns-size (x ∷ l) h = omega (arith, length-append (ownBytes x) (ownsBytes l), own-parts .size x (h .0 .places), owns-size l (h .1))
+owns-size (x ∷ l) h = omega (arith, length-append (ownBytes x) (ownsBytes l), own-parts .size x (h .0 .cells), owns-size l (h .1))
 
 -- own parts behind other bytes p, which are i own parts long
 module _ (rest : List ℕ) where
@@ -45,7 +45,7 @@ module _ (rest : List ℕ) where
     here i e = drop-at p ((ownBytes x ++ ownsBytes l) ++ rest) (i * ownSize) e ∙ append-assoc (ownBytes x) (ownsBytes l) rest
 
     further : (i : ℕ) → OwnEncodable x → length p ≡ i * ownSize → length (p ++ ownBytes x) ≡ suc i * ownSize
-    further i h e = omega (arith, length-append p (ownBytes x), own-parts .size x (h .places))
+    further i h e = omega (arith, length-append p (ownBytes x), own-parts .size x (h .cells))
 
   slots-back : (l : List Own) (p : List ℕ) (i : ℕ) → length p ≡ i * ownSize → OwnsEncodable l → listFrom (slotOf (p ++ (ownsBytes l ++ rest))) i (length l) ≡ l
   unfolding listFrom ownsBytes slotOf

@@ -36,7 +36,7 @@ deviceBytes d = ownsBytes (d .modules) ++ d .supervisors
 unfoldable pub devicePut : Device → List ℕ → List ℕ
 devicePut d s = cond (leb deviceSize (length s)) (written (deviceBytes d) s) s
 
--- the device that the bytes are, by their places
+-- the device that the bytes are, by their offsets
 unfoldable pub slotOf : List ℕ → ℕ → Own
 slotOf b m = ownOf (drop (m * ownSize) b)
 

@@ -43,7 +43,7 @@ use Rattle.device_states.specs.States.{ownAt, stateOf, deviceFits, shownBy, sta
 use Rattle.words.proofs.Lists.{from-length}
 use Rattle.device.specs.declared.DeviceCalled.{DeviceCalled}
 use Rattle.device.specs.declared.DeviceTurned.{DeviceTurned}
-use Rattle.device.specs.declared.Turning.the-variants.{Turned as Turns}
+use Rattle.device.specs.declared.Turning.the-variants.{Done as TurnDone}
 use Rattle.device_bytes.specs.Device as bytes
 use Rattle.device_bytes.specs.Device.{slotsSize, deviceSize, deviceBytes, devicePut, isDevice, deviceAt, deviceOf, statesIn, ownIn, slotPut}
 use Rattle.device_bytes.proofs.InPlace.{device-moved, device-kept, fits-stands, states-taken, own-taken}
@@ -142,7 +142,7 @@ module _ (rs : List Record) (s : List ℕ) (m : ℕ) {n : ℕ} (e : n ≡ device
   states-read = states-taken s stands
 
   pub turn-done : {states s1 : List ℕ} {own : Own} {t : Turned} {r : ℕ} → states ≡ statesIn s → own ≡ ownIn s m
-      → t ≡ turnOf rs m (shownBy rs (stateOf states) (supervisorsOf rs)) own → s1 ≡ devicePut (afterTurn rs (deviceAt s) m t) s → r ≡ turningAnswer (Turns (t .turn))
+      → t ≡ turnOf rs m (shownBy rs (stateOf states) (supervisorsOf rs)) own → s1 ≡ devicePut (afterTurn rs (deviceAt s) m t) s → r ≡ turningAnswer (TurnDone (t .turn))
       → Answered (turnedOn (turnIn rs (deviceOf s) m (deviceNumber rs (deviceOf s) m)) s) r s1 []
   turn-done {states} {s1} {own} {t} {r} u v w k a =
       let is : t ≡ turned rs (deviceOf s) m =

@@ -13,14 +13,14 @@ use Rattle.packing.specs.Answer.{Answer, calledAnswer, turningAnswer, lentAfter
 use Rattle.packing.specs.Flow.{flowOf}
 
 -- the state's bytes s after a call of number n that leaves the device d
-abbrev pub deviceAfter : ℕ → Device → List ℕ → List ℕ
-deviceAfter n d s = lentAfter n (devicePut d s) s
+abbrev pub deviceBytesAfter : ℕ → Device → List ℕ → List ℕ
+deviceBytesAfter n d s = lentAfter n (devicePut d s) s
 
 abbrev pub calledOn : DeviceCalled → List ℕ → Answer
-calledOn c s = record { number = calledAnswer (c .answer); state = deviceAfter (calledNumber (c .answer)) (c .device) s; buffer = [] }
+calledOn c s = record { number = calledAnswer (c .answer); state = deviceBytesAfter (calledNumber (c .answer)) (c .device) s; buffer = [] }
 
 abbrev pub turnedOn : DeviceTurned → List ℕ → Answer
-turnedOn c s = record { number = turningAnswer (c .answer); state = deviceAfter (turningNumber (c .answer)) (c .device) s; buffer = [] }
+turnedOn c s = record { number = turningAnswer (c .answer); state = deviceBytesAfter (turningNumber (c .answer)) (c .device) s; buffer = [] }
 
 unfoldable pub startBytes : List ℕ → List ℕ → Answer
 startBytes image b = startAnswer deviceSize (startCall image .answer) (deviceBytes (startCall image .device)) b

@@ -64,7 +64,7 @@ fn turn_in(image: &[u8], places: Places, state: &mut [u8], m: u8) -> u64
     let t = device::turn_by(image, places, states, m, own);
     let did = t.turn;
     keep_turn(image, places, &mut *state, m, states, t);
-    packing::turning(Turning::Turned(did))
+    packing::turning(Turning::Done(did))
 }
 
 pub fn turn(image: &[u8], state: &mut [u8], m: u8) -> u64

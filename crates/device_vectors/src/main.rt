@@ -46,7 +46,7 @@ fn print_turn(turn: Turn) {
 
 fn print_turning(answer: Turning) {
     match answer {
-        Turning::Turned(turn) => print_turn(turn),
+        Turning::Done(turn) => print_turn(turn),
         Turning::Refused(number, offset) => print_refused(number, offset),
     }
 }

@@ -13,8 +13,8 @@ use Rattle.water.specs.declared.Flow.the-variants.{Litres, NoSensor}
 use Rattle.water.specs.declared.Water.{Water}
 use Rattle.modules.specs.declared.Procedure.{Procedure}
 use Rattle.modules.specs.declared.Own.{Own}
-use Rattle.modules.specs.Own.{withState, withPlaces, withProcedure, withOutputs}
-use Rattle.example_states.specs.Setting.{floatIn, flowIn, withWater, withPlace, withQueued, withField}
+use Rattle.modules.specs.Own.{withState, withCells, withProcedure, withOutputs}
+use Rattle.example_states.specs.Setting.{floatIn, flowIn, withWater, withProcedureField, withQueued, withField}
 
 module _ (k : ℕ) (s : List ℕ) where
   module _ {l : ℕ} (p : l ≡ letterIn k 0 s) where
@@ -47,58 +47,58 @@ module _ (k : ℕ) (s : List ℕ) where
   queued-out queue h e l = sym (set-out queue (numberIn (k + 1) s) (numberIn (k + 2) s % 256) (omega arith))
 
   module _ (p : Procedure) {l : ℕ} (e : l ≡ letterIn k 0 s) where
-    pub place-running : {n : ℕ} → l ≡ 114 → n ≡ numberIn (k + 1) s
-        → record { running = eqb n 1; event = p .event; index = p .index; count = p .count; water = p .water } ≡ withPlace k s p
-    unfolding withPlace
-    place-running q f = rw (← e, q, f)
+    pub procedure-running : {n : ℕ} → l ≡ 114 → n ≡ numberIn (k + 1) s
+        → record { running = eqb n 1; event = p .event; index = p .index; count = p .count; water = p .water } ≡ withProcedureField k s p
+    unfolding withProcedureField
+    procedure-running q f = rw (← e, q, f)
 
-    pub place-event : {b : ℕ} → l ≡ 101 → b ≡ numberIn (k + 1) s % 256
-        → record { running = p .running; event = b; index = p .index; count = p .count; water = p .water } ≡ withPlace k s p
-    unfolding withPlace
-    place-event q f = rw (← e, q, f)
+    pub procedure-event : {b : ℕ} → l ≡ 101 → b ≡ numberIn (k + 1) s % 256
+        → record { running = p .running; event = b; index = p .index; count = p .count; water = p .water } ≡ withProcedureField k s p
+    unfolding withProcedureField
+    procedure-event q f = rw (← e, q, f)
 
-    pub place-index : {b : ℕ} → l ≡ 105 → b ≡ numberIn (k + 1) s % 256
-        → record { running = p .running; event = p .event; index = b; count = p .count; water = p .water } ≡ withPlace k s p
-    unfolding withPlace
-    place-index q f = rw (← e, q, f)
+    pub procedure-index : {b : ℕ} → l ≡ 105 → b ≡ numberIn (k + 1) s % 256
+        → record { running = p .running; event = p .event; index = b; count = p .count; water = p .water } ≡ withProcedureField k s p
+    unfolding withProcedureField
+    procedure-index q f = rw (← e, q, f)
 
-    pub place-count : {n : ℕ} → l ≡ 99 → n ≡ numberIn (k + 1) s
-        → record { running = p .running; event = p .event; index = p .index; count = n % 65536; water = p .water } ≡ withPlace k s p
-    unfolding withPlace
-    place-count q f = rw (← e, q, f)
+    pub procedure-count : {n : ℕ} → l ≡ 99 → n ≡ numberIn (k + 1) s
+        → record { running = p .running; event = p .event; index = p .index; count = n % 65536; water = p .water } ≡ withProcedureField k s p
+    unfolding withProcedureField
+    procedure-count q f = rw (← e, q, f)
 
-    pub place-water : {w : Water} → l ≡ 116 → w ≡ withWater k s (p .water)
-        → record { running = p .running; event = p .event; index = p .index; count = p .count; water = w } ≡ withPlace k s p
-    unfolding withPlace
-    place-water q f = rw (← e, q, f)
+    pub procedure-water : {w : Water} → l ≡ 116 → w ≡ withWater k s (p .water)
+        → record { running = p .running; event = p .event; index = p .index; count = p .count; water = w } ≡ withProcedureField k s p
+    unfolding withProcedureField
+    procedure-water q f = rw (← e, q, f)
 
-    pub place-other : (l ≡ 114 → ⊥) → (l ≡ 101 → ⊥) → (l ≡ 105 → ⊥) → (l ≡ 99 → ⊥) → (l ≡ 116 → ⊥) → p ≡ withPlace k s p
-    unfolding withPlace
-    place-other r n i c t = simp (← e, ne-eqb l 114 r, ne-eqb l 101 n, ne-eqb l 105 i, ne-eqb l 99 c, ne-eqb l 116 t)
+    pub procedure-other : (l ≡ 114 → ⊥) → (l ≡ 101 → ⊥) → (l ≡ 105 → ⊥) → (l ≡ 99 → ⊥) → (l ≡ 116 → ⊥) → p ≡ withProcedureField k s p
+    unfolding withProcedureField
+    procedure-other r n i c t = simp (← e, ne-eqb l 114 r, ne-eqb l 101 n, ne-eqb l 105 i, ne-eqb l 99 c, ne-eqb l 116 t)
 
   module _ (own : Own) {l : ℕ} (e : l ≡ letterIn k 0 s) where
     pub field-state : {b : ℕ} → l ≡ 115 → b ≡ numberIn (k + 1) s % 256
         → withState own b ≡ withField k s own
-    unfolding withField withPlace
+    unfolding withField withProcedureField
     field-state q f = rw (← e, q, f)
 
     pub field-length : {b : ℕ} → l ≡ 108 → b ≡ numberIn (k + 1) s % 256
-        → withPlaces own (own .queue) b ≡ withField k s own
-    unfolding withField withPlace
+        → withCells own (own .queue) b ≡ withField k s own
+    unfolding withField withProcedureField
     field-length q f = rw (← e, q, f)
 
     pub field-queue : {b : List ℕ} → l ≡ 112 → b ≡ withQueued k s (own .queue)
-        → withPlaces own b (own .length) ≡ withField k s own
-    unfolding withField withPlace
+        → withCells own b (own .length) ≡ withField k s own
+    unfolding withField withProcedureField
     field-queue q f = rw (← e, q, f)
 
     pub field-outputs : {n : ℕ} → l ≡ 111 → n ≡ bitsIn (k + 1) s
         → withOutputs own (n % 2 ^ 32) ≡ withField k s own
-    unfolding withField withPlace
+    unfolding withField withProcedureField
     field-outputs q f = rw (← e, q, f)
 
-    pub field-place : {p : Procedure} → (l ≡ 115 → ⊥) → (l ≡ 108 → ⊥) → (l ≡ 112 → ⊥) → (l ≡ 111 → ⊥)
-        → p ≡ withPlace k s (own .procedure)
+    pub field-procedure : {p : Procedure} → (l ≡ 115 → ⊥) → (l ≡ 108 → ⊥) → (l ≡ 112 → ⊥) → (l ≡ 111 → ⊥)
+        → p ≡ withProcedureField k s (own .procedure)
         → withProcedure own p ≡ withField k s own
     unfolding withField
-    field-place a b c d f = simp (← e, ne-eqb l 115 a, ne-eqb l 108 b, ne-eqb l 112 c, ne-eqb l 111 d) (rw f)
+    field-procedure a b c d f = simp (← e, ne-eqb l 115 a, ne-eqb l 108 b, ne-eqb l 112 c, ne-eqb l 111 d) (rw f)

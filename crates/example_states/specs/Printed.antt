@@ -19,8 +19,8 @@ abbrev pub floatText : Float → List ℕ
 floatText x = bitsText (toBits binary64 x)
 
 -- a procedure, from the space before its word on
-unfoldable pub placeText : Procedure → List ℕ
-placeText p =
+unfoldable pub procedureText : Procedure → List ℕ
+procedureText p =
     ascii " procedure"
     ++ spaced (flagByte (p .running))
     ++ spaced (p .event)
@@ -38,6 +38,6 @@ ownText own =
     ++ ascii " queue"
     ++ spaced (own .length)
     ++ spacedAll (own .queue)
-    ++ placeText (own .procedure)
+    ++ procedureText (own .procedure)
     ++ ascii " outputs "
     ++ hexDigits 8 (own .outputs)

@@ -1,4 +1,4 @@
--- How a line of the examples gives a reading, and how it sets a field of a module's own part: `FIELD VALUE`, or `place K VALUE` for a place of the
+-- How a line of the examples gives a reading, and how it sets a field of a module's own part: `FIELD VALUE`, or `place K VALUE` for a cell of the
 -- queue. The fields are `state`, `length`, `place`, `outputs`, and of the procedure `running`, `event`, `index`, `count`, `target` and `total`.
 use Prim.Native.Nat.{ℕ, _+_, _%_, _^_}
 use Prim.Native.Char.{code}
@@ -35,8 +35,8 @@ withWater k s w =
     (record { target = w .target; total = floatIn (k + 1) s })
 
 -- the procedure with the field set that a line names, if it is one of its own
-unfoldable pub withPlace : ℕ → List ℕ → Procedure → Procedure
-withPlace k s p =
+unfoldable pub withProcedureField : ℕ → List ℕ → Procedure → Procedure
+withProcedureField k s p =
     record {
       running = cond (hasLetter k s (code "r")) (eqb (numberIn (k + 1) s) 1) (p .running);
       event = cond (hasLetter k s (code "e")) (numberIn (k + 1) s % 256) (p .event);
@@ -45,7 +45,7 @@ withPlace k s p =
       water = cond (hasLetter k s (code "t")) (withWater k s (p .water)) (p .water);
     }
 
--- the queue with a place set; a place past the last is none
+-- the queue with a cell set; a cell past the last is none
 abbrev pub withQueued : ℕ → List ℕ → List ℕ → List ℕ
 withQueued k s queue = set queue (numberIn (k + 1) s) (numberIn (k + 2) s % 256)
 
@@ -56,6 +56,6 @@ withField k s own =
       state = cond (hasLetter k s (code "s")) (numberIn (k + 1) s % 256) (own .state);
       queue = cond (hasLetter k s (code "p")) (withQueued k s (own .queue)) (own .queue);
       length = cond (hasLetter k s (code "l")) (numberIn (k + 1) s % 256) (own .length);
-      procedure = withPlace k s (own .procedure);
+      procedure = withProcedureField k s (own .procedure);
       outputs = cond (hasLetter k s (code "o")) (bitsIn (k + 1) s % 2 ^ 32) (own .outputs);
     }

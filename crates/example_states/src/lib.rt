@@ -2,8 +2,8 @@
 ghost use mathlib.Core.Path.{_≡_};
 ghost use Prim.Native.Nat.{_≤_};
 ghost use Rattle.texts.specs.Text.{appended};
-ghost use Rattle.example_states.specs.Setting.{floatIn, flowIn, withWater, withPlace, withQueued, withField};
-ghost use Rattle.example_states.specs.Printed.{floatText, placeText, ownText};
+ghost use Rattle.example_states.specs.Setting.{floatIn, flowIn, withWater, withProcedureField, withQueued, withField};
+ghost use Rattle.example_states.specs.Printed.{floatText, procedureText, ownText};
 use modules::Own;
 use modules::Procedure;
 use texts::Text;
@@ -53,9 +53,9 @@ fn with_water(w: Water, s: &[u8], k: usize) -> Water
 }
 
 // The procedure with another field: `running`, `event`, `index`, `count`, or `target` or `total`.
-fn with_place(mut p: Procedure, s: &[u8], k: usize) -> Procedure
+fn with_procedure_field(mut p: Procedure, s: &[u8], k: usize) -> Procedure
     requires { ⌜ k ≤ 255 ⌝ }
-    ensures { λ r. ⌜ r ≡ withPlace k (now (s .entry)) p ⌝ }
+    ensures { λ r. ⌜ r ≡ withProcedureField k (now (s .entry)) p ⌝ }
 {
     match example_lines::letter_in(s, k, 0) {
         b'r' => {
@@ -118,7 +118,7 @@ fn with_named(mut own: Own, s: &[u8], k: usize) -> Own
             own
         }
         _ => {
-            own.procedure = with_place(own.procedure, s, k);
+            own.procedure = with_procedure_field(own.procedure, s, k);
             own
         }
     }
@@ -144,8 +144,8 @@ fn push_float(t: Text, x: f64) -> Text
     }
 }
 
-fn push_place(t: Text, p: Procedure) -> Text
-    ensures { λ r. ⌜ r ≡ appended t (placeText p) ⌝ }
+fn push_procedure(t: Text, p: Procedure) -> Text
+    ensures { λ r. ⌜ r ≡ appended t (procedureText p) ⌝ }
 {
     let water = p.water;
     let t = texts::push_field(
@@ -164,6 +164,6 @@ pub fn push_own(t: Text, own: Own) -> Text
     let queue = own.queue;
     let t = texts::push_field(texts::push_all(t, b"state"), own.state);
     let t = texts::push_field(texts::push_all(t, b" queue"), own.length);
-    let t = push_place(texts::push_numbers(t, &queue), own.procedure);
+    let t = push_procedure(texts::push_numbers(t, &queue), own.procedure);
     texts::push_digits(texts::push_all(t, b" outputs "), own.outputs as u64, 8)
 }

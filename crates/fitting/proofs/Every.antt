@@ -28,7 +28,7 @@ module _ (p : ℕ → Bool) (l : List ℕ) (i : ℕ) {x : Bool} (s : every p (dr
   unfolding every
   ends h = ap (every p) (sym (drop-of-length-le l h)) ∙ s
 
--- ---- places that hold 0
+-- ---- cells that hold 0
 
 module _ (q : List ℕ) (i : ℕ) {x : Bool} (e : length q ≡ 8) (s : every (λ x. eqb x 0) (drop i q) ≡ x) where
   pub zero-stops : i < 8 → (getD q i 0 ≡ 0 → ⊥) → false ≡ x

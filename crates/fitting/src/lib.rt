@@ -13,7 +13,7 @@ use modules::Procedure;
 use places::Places;
 use water::Water;
 
-// Whether the places from n on hold 0.
+// Whether the cells from n on hold 0.
 fn zeros_from(q: [u8; 8], n: usize) -> bool
     ensures { λ r. ⌜ r ≡ every (λ x. eqb x 0) (drop n q) ⌝ }
 {
@@ -27,7 +27,7 @@ fn zeros_from(q: [u8; 8], n: usize) -> bool
     true
 }
 
-// Whether the first n places hold uncontrollable events of module m.
+// Whether the first n cells hold uncontrollable events of module m.
 fn responses_fit(image: &[u8], places: Places, m: u8, q: [u8; 8], n: usize) -> bool
     requires { ⌜ n ≤ 8 ⌝ }
     ensures { λ r. ⌜ r ≡ every (ownUncontrollable (recordsBy (now (image .entry)) places) m) (take n q) ⌝ }

@@ -88,8 +88,8 @@ counted-is false x y c = ap not (eq-eqb x y c)
 abbrev pub keptAt : ℕ → ℕ → ℕ → Bool
 keptAt n h v = not (bit n v) || bit h v
 
-abbrev pub fitsAt : ℕ → ℕ → ℕ → Bool
-fitsAt n h v = not (bit h v) || (bit n v && allBelow (keptAt n h) v)
+abbrev pub heldFitsAt : ℕ → ℕ → ℕ → Bool
+heldFitsAt n h v = not (bit h v) || (bit n v && allBelow (keptAt n h) v)
 
 other : (a b : Bool) → (not a || b) ≡ not (a && not b)
 other true true = refl
@@ -98,35 +98,35 @@ other false b = refl
 
 -- the loop of `held_fits`, from what it is told at v
 module _ (adjacent held v : ℕ) {next have whole : Bool} (e : next ≡ bit adjacent v) (f : have ≡ bit held v) (g : whole ≡ allBelow (keptAt adjacent held) v) where
-  tested : fitsAt adjacent held v ≡ not (have && not (next && whole))
+  tested : heldFitsAt adjacent held v ≡ not (have && not (next && whole))
   tested = sym (ap₂ (λ (a b : Bool). not a || b) f (ap₂ _&&_ e g)) ∙ other have (next && whole)
 
   pub held-out : v < 32 → (have && not (next && whole)) ≡ true → false ≡ heldIn adjacent held
   unfolding heldIn
   held-out h t =
-      same-test false (allBelow (fitsAt adjacent held) 32) (λ x. absurd x)
-      (λ x. holds false (sym (tested ∙ ap not t) ∙ is-true _ (all-at (fitsAt adjacent held) 32 x v h)))
+      same-test false (allBelow (heldFitsAt adjacent held) 32) (λ x. absurd x)
+      (λ x. holds false (sym (tested ∙ ap not t) ∙ is-true _ (all-at (heldFitsAt adjacent held) 32 x v h)))
 
-  pub held-more : (have && not (next && whole)) ≡ false → allBelow (fitsAt adjacent held) v ≡ true → allBelow (fitsAt adjacent held) (v + 1) ≡ true
-  held-more t s = ap (allBelow (fitsAt adjacent held)) (add-one v) ∙ (unfold allBelow in ap₂ _&&_ (tested ∙ ap not t) s)
+  pub held-more : (have && not (next && whole)) ≡ false → allBelow (heldFitsAt adjacent held) v ≡ true → allBelow (heldFitsAt adjacent held) (v + 1) ≡ true
+  held-more t s = ap (allBelow (heldFitsAt adjacent held)) (add-one v) ∙ (unfold allBelow in ap₂ _&&_ (tested ∙ ap not t) s)
 
   pub whole-more : ((not next || have) && whole) ≡ allBelow (keptAt adjacent held) (v + 1)
   whole-more = ap₂ _&&_ (ap₂ (λ (a b : Bool). not a || b) e f) g ∙ sym (ap (allBelow (keptAt adjacent held)) (add-one v) ∙ (unfold allBelow in refl))
 
-pub held-in : (adjacent held v : ℕ) → v ≤ 32 → 32 ≤ v → allBelow (fitsAt adjacent held) v ≡ true → true ≡ heldIn adjacent held
+pub held-in : (adjacent held v : ℕ) → v ≤ 32 → 32 ≤ v → allBelow (heldFitsAt adjacent held) v ≡ true → true ≡ heldIn adjacent held
 unfolding heldIn
-held-in adjacent held v l h s = sym s ∙ ap (allBelow (fitsAt adjacent held)) (let w : v ≡ 32 = omega arith in w)
+held-in adjacent held v l h s = sym s ∙ ap (allBelow (heldFitsAt adjacent held)) (let w : v ≡ 32 = omega arith in w)
 
 -- past the last that is held
-pub held-rest : (adjacent held v : ℕ) → v ≤ 32 → held / 2 ^ v ≡ 0 → allBelow (fitsAt adjacent held) v ≡ true → true ≡ heldIn adjacent held
+pub held-rest : (adjacent held v : ℕ) → v ≤ 32 → held / 2 ^ v ≡ 0 → allBelow (heldFitsAt adjacent held) v ≡ true → true ≡ heldIn adjacent held
 unfolding heldIn
-held-rest adjacent held v l z s = sym (is-true _ (all-of (fitsAt adjacent held) 32 each))
+held-rest adjacent held v l z s = sym (is-true _ (all-of (heldFitsAt adjacent held) 32 each))
   where
-    go : (k : ℕ) (b : Bool) → ltb k v ≡ b → T (fitsAt adjacent held k)
-    go k true q = all-at (fitsAt adjacent held) v (holds _ s) k (ltb-true k v q)
+    go : (k : ℕ) (b : Bool) → ltb k v ≡ b → T (heldFitsAt adjacent held k)
+    go k true q = all-at (heldFitsAt adjacent held) v (holds _ s) k (ltb-true k v q)
     go k false q = holds _ (ap (λ (b : Bool). not b || (bit adjacent k && allBelow (keptAt adjacent held) k)) (bit-above v held k (shr-none held v z) (ltb-false k v q)))
 
-    each : (k : ℕ) → k < 32 → T (fitsAt adjacent held k)
+    each : (k : ℕ) → k < 32 → T (heldFitsAt adjacent held k)
     each k h = go k (ltb k v) refl
 
 pub held-none : (adjacent held : ℕ) → held ≡ 0 → true ≡ heldIn adjacent held
@@ -139,7 +139,7 @@ module _ (adjacent held : ℕ) (p : adjacent < 2 ^ 32) (q : held < 2 ^ 32) where
   within : heldIn adjacent held ≡ true → (v : ℕ) → v < 32 → bit held v ≡ true → bit adjacent v ≡ true
   unfolding heldIn
   within f v l t =
-      let a : T (fitsAt adjacent held v) = all-at (fitsAt adjacent held) 32 (holds _ f) v l in
+      let a : T (heldFitsAt adjacent held v) = all-at (heldFitsAt adjacent held) 32 (holds _ f) v l in
       is-true (bit adjacent v) (and-l (bit adjacent v) (allBelow (keptAt adjacent held) v) (subst (λ (b : Bool). T (not b || (bit adjacent v && allBelow (keptAt adjacent held) v))) t a))
 
   pub lacks-by : Lacking adjacent held (not (eqb (ones held) (ones adjacent)))

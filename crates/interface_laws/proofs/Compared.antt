@@ -30,11 +30,11 @@ use Rattle.device_states.specs.States.{ownAt, deviceFits, shownBy, stateAt}
 use Rattle.device_states.specs.declared.Device.{Device}
 use Rattle.device.specs.Device.{turned, deviceNumber, turnIn, turnBy, turnCall, respondCall, tickCall}
 use Rattle.device.specs.declared.Turning.{Turning}
-use Rattle.device.specs.declared.Turning.the-variants.{Turned as DeviceTurned, Refused as DeviceRefused}
+use Rattle.device.specs.declared.Turning.the-variants.{Done as TurnDone, Refused as DeviceRefused}
 use Rattle.permits.specs.Module as M
 use Rattle.permits.specs.declared.Module.{Module}
 use Rattle.permits.specs.declared.Stepped.{Stepped}
-use Rattle.permits.specs.declared.Stepped.the-variants.{Turned, Bids, Waits, Refused}
+use Rattle.permits.specs.declared.Stepped.the-variants.{Turns, Bids, Waits, Refused}
 use Rattle.refusals.specs.Table as Table
 use Rattle.refusals.specs.Table.{InTable, CallKind}
 use Rattle.refusals.specs.Refusals.{CallAnswer}
@@ -78,7 +78,7 @@ outcomeOf (callSeen m a own) = callOutcome m a (ownBytes own)
 
 -- whether a step took a turn, by its answer
 abbrev tookIn : Stepped → Bool
-tookIn (Turned t k) = true
+tookIn (Turns t k) = true
 tookIn (Bids v k) = false
 tookIn Waits = false
 tookIn (Refused n o) = false
@@ -114,7 +114,7 @@ module _ (m : ℕ) (s b own : List ℕ) where
 
   step-taken : (a : Stepped) → StepSmall a → tookTurn (answerBy (steppedAnswer a)) ≡ tookIn a
   unfolding steppedAnswer
-  step-taken (Turned t k) h = turn-taken t k (h .0)
+  step-taken (Turns t k) h = turn-taken t k (h .0)
   step-taken (Bids v k) h = is-turn 0 4 v k (lit< tt) (lit< tt) (h .0)
   step-taken Waits h = is-turn 0 6 0 0 (lit< tt) (lit< tt) (lit< tt)
   step-taken (Refused n o) h =
@@ -126,7 +126,7 @@ module _ (m : ℕ) (s b own : List ℕ) where
   step-outcomes a o h e = ap (λ (t : Bool). cond t (outcome m (answerBy (steppedAnswer a)) own ∷ []) []) (step-taken a h) ∙ go a h
     where
       go : (a : Stepped) → StepSmall a → cond (tookIn a) (outcome m (answerBy (steppedAnswer a)) own ∷ []) [] ≡ map outcomeOf (stepSeen m a o)
-      go (Turned t k) h = ap (λ (x : Outcome). x ∷ []) (turn-outcome t k (h .0)) ∙ ap (λ (w : List ℕ). turnOutcome m t w ∷ []) e
+      go (Turns t k) h = ap (λ (x : Outcome). x ∷ []) (turn-outcome t k (h .0)) ∙ ap (λ (w : List ℕ). turnOutcome m t w ∷ []) e
       go (Bids v k) h = refl
       go Waits h = refl
       go (Refused n k) h = refl
@@ -140,7 +140,7 @@ own-first x h =
     let q : List ℕ = quadBytes (x .held) in
     let w : List ℕ = wordBytes (x .received) in
     let f : List ℕ = flagByte (x .bid) ∷ [] in
-    ap (take ownSize) (append-assoc (o ++ q) w f ∙ append-assoc o q (w ++ f)) ∙ take-at o (q ++ (w ++ f)) ownSize (own-parts .size (x .own) (h .own .places))
+    ap (take ownSize) (append-assoc (o ++ q) w f ∙ append-assoc o q (w ++ f)) ∙ take-at o (q ++ (w ++ f)) ownSize (own-parts .size (x .own) (h .own .cells))
 
 compared : (b : Bool) (x : Seen) (y : Outcome) → y ≡ outcomeOf x → cond b (y ∷ []) [] ≡ map outcomeOf (cond b (x ∷ []) [])
 compared true x y e = ap (λ (o : Outcome). o ∷ []) e
@@ -233,11 +233,11 @@ owns-slot : (l : List Own) (rest : List ℕ) (m : ℕ) → OwnsEncodable l → m
 unfolding ownsBytes
 owns-slot [] rest m h b = absurd (omega arith)
 owns-slot (x ∷ l) rest zero h b =
-    ap (take ownSize) (append-assoc (ownBytes x) (ownsBytes l) rest) ∙ take-at (ownBytes x) (ownsBytes l ++ rest) ownSize (own-parts .size x (h .0 .places))
+    ap (take ownSize) (append-assoc (ownBytes x) (ownsBytes l) rest) ∙ take-at (ownBytes x) (ownsBytes l ++ rest) ownSize (own-parts .size x (h .0 .cells))
 owns-slot (x ∷ l) rest (suc m) h b =
     let n : suc m * ownSize ≡ ownSize + m * ownSize = omega arith in
     ap₂ (λ (k : ℕ) (t : List ℕ). take ownSize (drop k t)) n (append-assoc (ownBytes x) (ownsBytes l) rest)
-    ∙ ap (take ownSize) (sym (drop-drop (m * ownSize) ownSize (ownBytes x ++ (ownsBytes l ++ rest))) ∙ ap (drop (m * ownSize)) (drop-at (ownBytes x) (ownsBytes l ++ rest) ownSize (own-parts .size x (h .0 .places))))
+    ∙ ap (take ownSize) (sym (drop-drop (m * ownSize) ownSize (ownBytes x ++ (ownsBytes l ++ rest))) ∙ ap (drop (m * ownSize)) (drop-at (ownBytes x) (ownsBytes l ++ rest) ownSize (own-parts .size x (h .0 .cells))))
     ∙ owns-slot l rest m (h .1) (omega arith)
 
 slot : (d : Device) (m : ℕ) → DeviceEncodable d → m < 16 → take ownSize (drop (m * ownSize) (deviceBytes d)) ≡ ownBytes (ownAt d m)
@@ -254,13 +254,13 @@ below-joined [] b h k = k
 below-joined (x ∷ a) b h k = (h .0, below-joined a b (h .1) k)
 
 abbrev TurningSmall : Turning → Type 0
-TurningSmall (DeviceTurned t) = TurnSmall t
+TurningSmall (TurnDone t) = TurnSmall t
 TurningSmall (DeviceRefused n o) = InTable n
 
 turning-outcome : (m : ℕ) (s b : List ℕ) (a : Turning) (own : Own) → TurningSmall a
     → outcome m (record { number = turningAnswer a; state = s; buffer = b }) (ownBytes own) ≡ outcomeOf (turningSeen m a own)
 unfolding turningAnswer turningSeen
-turning-outcome m s b (DeviceTurned t) own h = turn-outcome m s b (ownBytes own) t 0 h
+turning-outcome m s b (TurnDone t) own h = turn-outcome m s b (ownBytes own) t 0 h
 turning-outcome m s b (DeviceRefused n o) own h = parts m s b (ownBytes own) n 0 0 o (listed .byte n h) (lit< tt) (lit< tt)
 
 module _ (image : List ℕ) (accepted : IsPlan image) where

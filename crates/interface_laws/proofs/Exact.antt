@@ -40,10 +40,10 @@ module _ (b : List ℕ) (g : Bytes b) where
   number-at : (o : ℕ) → isFloat b o ≡ true → Number (floatAt b o)
   number-at o h = record { fit = ofBits-fits binary64 (wordAt b o); number = sym (nanBits-is binary64 (wordAt b o)) ∙ not-true (nanBits binary64 (wordAt b o)) h }
 
-  places-bytes : (n o : ℕ) → Bytes (bytesFrom b o n)
+  range-bytes : (n o : ℕ) → Bytes (bytesFrom b o n)
   unfolding bytesFrom
-  places-bytes zero o = bytes-none
-  places-bytes (suc n) o = bytes-more (getD b o 0) (bytesFrom b (suc o) n) (g o) (places-bytes n (suc o))
+  range-bytes zero o = bytes-none
+  range-bytes (suc n) o = bytes-more (getD b o 0) (bytesFrom b (suc o) n) (g o) (range-bytes n (suc o))
 
   own-encodable : isOwn b ≡ true → OwnEncodable (ownOf b)
   unfolding isOwn ownOf procedureOf bytesFrom
@@ -54,8 +54,8 @@ module _ (b : List ℕ) (g : Bytes b) where
       record {
         state = g 0;
         queued = g 1;
-        places = refl;
-        queue = places-bytes 8 2;
+        cells = refl;
+        queue = range-bytes 8 2;
         event = g 11;
         index = g 12;
         count = half-small 13;

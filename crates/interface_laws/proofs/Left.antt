@@ -48,7 +48,7 @@ unfit-own =
     record {
       state = e .state;
       queued = lit< tt;
-      places = e .places;
+      cells = e .cells;
       queue = e .queue;
       event = e .event;
       index = e .index;
@@ -92,15 +92,15 @@ left of to n put s x g w again kept unchanged = go (eqb n 0) refl
     go false e = record { bytes = g; state = sym (unchanged (eqb-false n 0 e)) }
 
 module-left : (n : ℕ) (s : List ℕ) (x : Module) → Bytes s → ModuleEncodable x → (isModule s ≡ false → n ≢ 0) → (n ≢ 0 → x ≡ moduleOf s)
-    → ReadAs moduleOf (ModuleCalls.moduleAfter n x s) x
-module-left n s x g h r u = left moduleOf moduleBytes n _ s x g (exact .module-bytes x h) (exact .module-again x h) (module-kept s x (h .own .places) r) u
+    → ReadAs moduleOf (ModuleCalls.moduleBytesAfter n x s) x
+module-left n s x g h r u = left moduleOf moduleBytes n _ s x g (exact .module-bytes x h) (exact .module-again x h) (module-kept s x (h .own .cells) r) u
 
 supervisor-left : (n : ℕ) (s : List ℕ) (y : Supervisor) → Bytes s → SupervisorEncodable y → (isSupervisor s ≡ false → n ≢ 0) → (n ≢ 0 → y ≡ supervisorOf s)
-    → ReadAs supervisorOf (SupervisorCalls.supervisorAfter n y s) y
+    → ReadAs supervisorOf (SupervisorCalls.supervisorBytesAfter n y s) y
 supervisor-left n s y g h r u = left supervisorOf supervisorBytes n _ s y g (exact .supervisor-bytes y h) (exact .supervisor-again y h) (supervisor-kept s y r) u
 
 device-left : (n : ℕ) (s : List ℕ) (d : Device) → Bytes s → DeviceEncodable d → (isDevice s ≡ false → n ≢ 0) → (n ≢ 0 → d ≡ deviceOf s)
-    → ReadAs deviceOf (DeviceCalls.deviceAfter n d s) d
+    → ReadAs deviceOf (DeviceCalls.deviceBytesAfter n d s) d
 device-left n s d g h r u = left deviceOf deviceBytes n _ s d g (exact .device-bytes d h) (exact .device-again d h) (device-kept s d (device-parts .size d h) r) u
 
 -- of a check in pieces

@@ -34,12 +34,12 @@ use Rattle.modules.specs.declared.Called.the-variants.{Done, Refused}
 use Rattle.device.specs.Numbers.{turningNumber}
 use Rattle.device.specs.Device.{startCall}
 use Rattle.device.specs.declared.Turning.{Turning}
-use Rattle.device.specs.declared.Turning.the-variants.{Turned, Refused as TurnRefused}
+use Rattle.device.specs.declared.Turning.the-variants.{Done as TurnDone, Refused as TurnRefused}
 use Rattle.permits.specs.Numbers.{steppedNumber, servedNumber}
 use Rattle.permits.specs.Module.{moduleStart}
 use Rattle.permits.specs.Supervisor.{supervisorStart}
 use Rattle.permits.specs.declared.Stepped.{Stepped}
-use Rattle.permits.specs.declared.Stepped.the-variants.{Turned as Turns, Bids, Waits, Refused as StepRefused}
+use Rattle.permits.specs.declared.Stepped.the-variants.{Turns, Bids, Waits, Refused as StepRefused}
 use Rattle.permits.specs.declared.Served.{Served}
 use Rattle.permits.specs.declared.Served.the-variants.{Sends, Waits as ServedWaits, Refused as ServeRefused}
 use Rattle.pieces.specs.Pieces.{starting, verdictBy}
@@ -150,7 +150,7 @@ turn-number Nothing s = accepted 3 0 s
 
 turning-number : (a : Turning) → TurnAnswer a → turningAnswer a % 256 ≡ turningNumber a
 unfolding turningAnswer
-turning-number (Turned t) h = turn-number t 0
+turning-number (TurnDone t) h = turn-number t 0
 turning-number (TurnRefused n o) h = number Table.turn n o (h .numbered n o refl)
 
 stepped-number : (a : Stepped) → StepAnswer a → steppedAnswer a % 256 ≡ steppedNumber a

@@ -1,4 +1,4 @@
--- An own part that fits the plan can be encoded, if its queue has eight places, its water is of f64 numbers and its outputs have 32 bits; and
+-- An own part that fits the plan can be encoded, if its queue has eight cells, its water is of f64 numbers and its outputs have 32 bits; and
 -- a turn, a response and a tick keep these.
 use mathlib.Core.Path.{_≡_, refl, sym, subst}
 use mathlib.Core.List.{List, [], _∷_}
@@ -21,7 +21,7 @@ use Rattle.records.specs.declared.Record.{Record}
 use Rattle.reader.specs.Find.{found}
 use Rattle.rules.specs.LookUp.{modulesOf, eventsOf}
 use Rattle.rules.proofs.Valid.{both}
-use Rattle.plan.specs.Plan.{ownUncontrollable, stepIn, operationOf, operandOf}
+use Rattle.plan.specs.Plan.{ownUncontrollable, procedureStep, operationOf, operandOf}
 use Rattle.accepted.specs.Plan.{Sound}
 use Rattle.roundtrip.specs.Fits.{Byte, Bytes}
 use Rattle.water.specs.Water.{flowOk, noWater, waterOf, added, reached, running}
@@ -38,11 +38,11 @@ use Rattle.modules.specs.declared.Procedure.{Procedure}
 use Rattle.modules.specs.declared.Replied.{Replied}
 use Rattle.modules.proofs.Steps.{step-counts, on-small}
 use Rattle.turn_laws.proofs.Procedure.{parts, at-step}
-use Rattle.turn_laws.proofs.Queue.{responses, queue-places}
+use Rattle.turn_laws.proofs.Queue.{responses, queue-cells}
 use Rattle.turn_laws.proofs.Own.{sizes, start-fits}
-use Rattle.turn_laws.proofs.Turn.{turn-cases, turn-places, turn-fits}
-use Rattle.turn_laws.proofs.Respond.{respond-places, respond-fits}
-use Rattle.turn_laws.proofs.Tick.{tick-places, tick-fits}
+use Rattle.turn_laws.proofs.Turn.{turn-cases, turn-cells, turn-fits}
+use Rattle.turn_laws.proofs.Respond.{respond-cells, respond-fits}
+use Rattle.turn_laws.proofs.Tick.{tick-cells, tick-fits}
 use Rattle.fields.specs.Fields.{Number}
 use Rattle.own_bytes.specs.Own.{OwnEncodable}
 use Rattle.own_bytes.proofs.Reading.{fits-whole}
@@ -88,7 +88,7 @@ module _ (rs : List Record) where
   arrive-f64 : (e i : ℕ) → InF64 (arriveAt rs e i .water)
   unfolding arriveAt
   arrive-f64 e i =
-      choose (λ (p : Procedure). InF64 (p .water)) (found (stepIn rs e i)) _ _
+      choose (λ (p : Procedure). InF64 (p .water)) (found (procedureStep rs e i)) _ _
       (λ h. choose InF64 (eqb (operationOf rs e i) 4) _ _ (λ q. start-f64 (operandOf rs e i)) (λ q. none-f64)) (λ h. none-f64)
 
   turn-rest : (m k : ℕ) (own : Own) → Rest own → Rest (turnOf rs m k own .own)
@@ -121,7 +121,7 @@ module _ (rs : List Record) where
     goes-on : Rest (advanced rs own)
     goes-on = record { outputs = r .outputs; water = arrive-f64 e (suc i) }
 
-    performed-rest : found (stepIn rs e i) ≡ true → Rest (performed rs o x f own)
+    performed-rest : found (procedureStep rs e i) ≡ true → Rest (performed rs o x f own)
     unfolding performed
     performed-rest h =
         choose Rest (eqb o 1) _ _ (λ q. next (outputOn (own .outputs) x) (or-lt 32 (own .outputs) (2 ^ x) (r .outputs) (pow-lt (on-small e i o x (step-counts rs e i h) (eqb-true o 1 q))))) (λ a.
@@ -135,7 +135,7 @@ module _ (rs : List Record) where
     unfolding tickOf
     tick-rest =
         choose (λ (a : Replied). Rest (a .own)) (flowOk f) _ _
-        (λ k. choose Rest (own .procedure .running && found (stepIn rs e i)) _ _ (λ h. performed-rest (there (own .procedure .running) _ h)) (λ h. r)) (λ k. r)
+        (λ k. choose Rest (own .procedure .running && found (procedureStep rs e i)) _ _ (λ h. performed-rest (there (own .procedure .running) _ h)) (λ h. r)) (λ k. r)
       where
         there : (a b : Bool) → (a && b) ≡ true → b ≡ true
         there true b h = h
@@ -185,8 +185,8 @@ module _ (rs : List Record) (plan : Sound rs) (m : ℕ) where
       record {
         state = omega (arith, sizes rs plan m own t .state);
         queued = omega (arith, sizes rs plan m own t .responses);
-        places = n;
-        queue = subst Bytes (sym (queue-places rs m own (a .queue) n)) (bytes-joined (queueOf own) (replicate (8 - length (queueOf own)) 0) (events (queueOf own) (responses rs m own (a .queue))) (bytes-zeros (8 - length (queueOf own))));
+        cells = n;
+        queue = subst Bytes (sym (queue-cells rs m own (a .queue) n)) (bytes-joined (queueOf own) (replicate (8 - length (queueOf own)) 0) (events (queueOf own) (responses rs m own (a .queue))) (bytes-zeros (8 - length (queueOf own))));
         event = s .event;
         index = s .index;
         count = s .count;
@@ -203,13 +203,13 @@ module _ (rs : List Record) (plan : Sound rs) (m : ℕ) where
     few = sizes rs plan m own t .responses
 
     pub turn-encodable : (k : ℕ) → OwnEncodable (turnOf rs m k own .own)
-    turn-encodable k = encodable (turnOf rs m k own .own) (turn-places rs m own k (h .places)) (turn-rest rs m k own rest) (turn-fits rs m own plan k t)
+    turn-encodable k = encodable (turnOf rs m k own .own) (turn-cells rs m own k (h .cells)) (turn-rest rs m k own rest) (turn-fits rs m own plan k t)
 
     pub respond-encodable : (e : ℕ) → OwnEncodable (respondOf rs m e own .own)
-    respond-encodable e = encodable (respondOf rs m e own .own) (respond-places rs m e own few (h .places)) (respond-rest rs m e own rest) (respond-fits rs m e own t)
+    respond-encodable e = encodable (respondOf rs m e own .own) (respond-cells rs m e own few (h .cells)) (respond-rest rs m e own rest) (respond-fits rs m e own t)
 
     pub tick-encodable : (f : Flow) → OwnEncodable (tickOf rs f own .own)
-    tick-encodable f = encodable (tickOf rs f own .own) (tick-places rs own f few (h .places)) (tick-rest rs f own rest) (tick-fits rs own plan m t f)
+    tick-encodable f = encodable (tickOf rs f own .own) (tick-cells rs own f few (h .cells)) (tick-rest rs f own rest) (tick-fits rs own plan m t f)
 
   pub start-encodable : m < modulesOf rs → OwnEncodable (startOwn rs m)
   start-encodable l = encodable (startOwn rs m) (unfold startOwn in refl) (unfold startOwn in record { outputs = pow-pos 32; water = none-f64 }) (start-fits rs plan m l)
@@ -219,7 +219,7 @@ empty-encodable =
     record {
       state = lit< tt;
       queued = lit< tt;
-      places = refl;
+      cells = refl;
       queue = bytes-zeros 8;
       event = lit< tt;
       index = lit< tt;

@@ -173,12 +173,12 @@ pub served-small : (y : Supervisor) (m : ℕ) → S.served y ≡ some m → m < 
 unfolding S.nextNoted S.moduleAfter S.servedOn
 served-small y m e = holds-at (y .holder) e
   where
-    place : (o : Option ℕ) → S.nextNoted y o ≡ some m → m < 16
-    place none q = let z : _≡_ {A = ℕ} 0 1 = cc in absurd (omega arith)
-    place (some k) q = let z : (y .last + suc k) % 16 ≡ m = cc in omega arith
+    in-range : (o : Option ℕ) → S.nextNoted y o ≡ some m → m < 16
+    in-range none q = let z : _≡_ {A = ℕ} 0 1 = cc in absurd (omega arith)
+    in-range (some k) q = let z : (y .last + suc k) % 16 ≡ m = cc in omega arith
 
     holds-at : (a : Holder) → S.servedOn y a ≡ some m → m < 16
-    holds-at Home q = place (least (λ k. bit (y .noted) (S.moduleAfter (y .last) k)) 16) q
+    holds-at Home q = in-range (least (λ k. bit (y .noted) (S.moduleAfter (y .last) k)) 16) q
     holds-at (Out n) q = let z : _≡_ {A = ℕ} 0 1 = cc in absurd (omega arith)
 
 module _ (rs : List Record) (plan : Sound rs) where
@@ -227,8 +227,8 @@ module _ (rs : List Record) (plan : Sound rs) where
     received (Whole g) =
         choose Kept (ltb v (supervisorsOf rs)) _ _ (λ l. choose Kept (S.supervisorFits rs v y) _ _ (λ f. choose Kept (named rs g) _ _ (λ n. takes g n) (λ n. h)) (λ f. h)) (λ l. h)
 
-    sent : (o : Option ℕ) → S.served y ≡ o → SupervisorEncodable (S.stateAfter y o)
-    unfolding S.stateAfter holderByte
+    sent : (o : Option ℕ) → S.served y ≡ o → SupervisorEncodable (S.stateBy y o)
+    unfolding S.stateBy holderByte
     sent none e = h
     sent (some m) e =
         let l : m < 16 = served-small y m e in

@@ -70,10 +70,10 @@ after-call n put before after p r = go (eqb n 0) refl
 -- ---- modules
 
 module _ (n : ℕ) (x z : Module) (h : ModuleEncodable x) (k : ModuleEncodable z) (r : n ≢ 0 → z ≡ x) where
-  module-left : ModuleCalls.moduleAfter n z (moduleBytes x) ≡ moduleBytes z
+  module-left : ModuleCalls.moduleBytesAfter n z (moduleBytes x) ≡ moduleBytes z
   module-left =
       after-call n (putAt (moduleBytes z) 0 (moduleBytes x)) (moduleBytes x) (moduleBytes z)
-      (put-over (moduleBytes z) (moduleBytes x) (module-parts .size z (k .own .places) ∙ sym (module-parts .size x (h .own .places)))) (λ e. ap moduleBytes (r e))
+      (put-over (moduleBytes z) (moduleBytes x) (module-parts .size z (k .own .cells) ∙ sym (module-parts .size x (h .own .cells)))) (λ e. ap moduleBytes (r e))
 
 module-called : (x : Module) (h : ModuleEncodable x) (call : Module → ModuleCalled) → ModuleEncodable (call x .state) → (calledNumber (call x .answer) ≢ 0 → call x .state ≡ x)
     → ModuleCalls.calledOn (call (moduleOf (moduleBytes x))) (moduleBytes x) ≡ moduleAnswer (call x)
@@ -92,7 +92,7 @@ module-stepped image m x b h =
 -- ---- supervisors
 
 module _ (n : ℕ) (y z : Supervisor) (r : n ≢ 0 → z ≡ y) where
-  supervisor-left : SupervisorCalls.supervisorAfter n z (supervisorBytes y) ≡ supervisorBytes z
+  supervisor-left : SupervisorCalls.supervisorBytesAfter n z (supervisorBytes y) ≡ supervisorBytes z
   supervisor-left =
       after-call n (putAt (supervisorBytes z) 0 (supervisorBytes y)) (supervisorBytes y) (supervisorBytes z)
       (put-over (supervisorBytes z) (supervisorBytes y) (supervisor-parts .size z ∙ sym (supervisor-parts .size y))) (λ e. ap supervisorBytes (r e))
@@ -115,7 +115,7 @@ supervisor-stepped image v y b h =
 -- ---- one device
 
 module _ (n : ℕ) (d z : Device) (h : DeviceEncodable d) (k : DeviceEncodable z) (r : n ≢ 0 → z ≡ d) where
-  device-left : DeviceCalls.deviceAfter n z (deviceBytes d) ≡ deviceBytes z
+  device-left : DeviceCalls.deviceBytesAfter n z (deviceBytes d) ≡ deviceBytes z
   device-left =
       after-call n (devicePut z (deviceBytes d)) (deviceBytes d) (deviceBytes z)
       (put-device z (deviceBytes d) (device-parts .size d h) (device-parts .size z k)) (λ e. ap deviceBytes (r e))
@@ -168,7 +168,7 @@ unfolding ModuleCalls.startBytes M.startBy startAnswer
 module-zeros image m =
     judged image (λ v. Zeros (M.startBy v (recordsOf image) m))
     (λ plan. choose Zeros (ltb m (modulesOf (recordsOf image))) _ _
-    (λ l. in-zeros moduleSize (moduleBytes (M.startModule (recordsOf image) m)) (module-parts .size (M.startModule (recordsOf image) m) (start-encodable (recordsOf image) plan m (ltb-true m (modulesOf (recordsOf image)) l) .places)))
+    (λ l. in-zeros moduleSize (moduleBytes (M.startModule (recordsOf image) m)) (module-parts .size (M.startModule (recordsOf image) m) (start-encodable (recordsOf image) plan m (ltb-true m (modulesOf (recordsOf image)) l) .cells)))
     (λ l. module-zero))
     (λ n o. module-zero)
   where
@@ -216,7 +216,7 @@ same-calls =
       deviceTick = λ image d m s l h. unfold DeviceCalls.tickBytes in
           device-called d h (λ z. tickCall image z m (flowOf s l)) (all-encodable .deviceTick image d m (flowOf s l) h) (refusals .device .tick image d m (flowOf s l) .state);
       moduleStart = λ image m l h. unfold ModuleCalls.startBytes in
-          started moduleSize (M.moduleStart image m .answer) (moduleBytes (M.moduleStart image m .state)) l h (module-parts .size (M.moduleStart image m .state) (all-encodable .moduleStart image m .own .places));
+          started moduleSize (M.moduleStart image m .answer) (moduleBytes (M.moduleStart image m .state)) l h (module-parts .size (M.moduleStart image m .state) (all-encodable .moduleStart image m .own .cells));
       supervisorStart = λ image v l h. unfold SupervisorCalls.startBytes in
           started supervisorSize (S.supervisorStart image v .answer) (supervisorBytes (S.supervisorStart image v .state)) l h (supervisor-parts .size (S.supervisorStart image v .state));
       deviceStart = λ image l h. unfold DeviceCalls.startBytes in

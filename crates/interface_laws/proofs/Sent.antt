@@ -37,7 +37,7 @@ use Rattle.permits.specs.Supervisor as S
 use Rattle.permits.specs.declared.Module.{Module}
 use Rattle.permits.specs.declared.Supervisor.{Supervisor}
 use Rattle.permits.specs.declared.Stepped.{Stepped}
-use Rattle.permits.specs.declared.Stepped.the-variants.{Turned, Bids, Waits, Refused}
+use Rattle.permits.specs.declared.Stepped.the-variants.{Turns, Bids, Waits, Refused}
 use Rattle.permits.specs.declared.Served.{Served}
 use Rattle.permits.specs.declared.Served.the-variants.{Sends, Waits as ServedWaits, Refused as ServeRefused}
 use Rattle.permits.proofs.Stepping.{bytes-append}
@@ -63,7 +63,7 @@ TurnSmall (Stray e) = Byte e
 TurnSmall Nothing = Unit {0}
 
 abbrev pub StepSmall : Stepped → Type 0
-StepSmall (Turned t n) = TurnSmall t × (n < 2 ^ 32)
+StepSmall (Turns t n) = TurnSmall t × (n < 2 ^ 32)
 StepSmall (Bids v n) = Byte v × (n < 2 ^ 32)
 StepSmall Waits = Unit {0}
 StepSmall (Refused n o) = InTable n
@@ -116,7 +116,7 @@ module _ (s b : List ℕ) where
 
   pub module-sends : (a : Stepped) → StepSmall a → moduleSends (record { number = steppedAnswer a; state = s; buffer = b }) ≡ wrote a b
   unfolding steppedAnswer wrote
-  module-sends (Turned t n) h = turn-sends t n (h .0) (h .1)
+  module-sends (Turns t n) h = turn-sends t n (h .0) (h .1)
   module-sends (Bids v n) h = by-module 4 v n (lit< tt) (h .0) (h .1)
   module-sends Waits h = by-module 6 0 0 (lit< tt) (lit< tt) (lit< tt) ∙ (unfold pieces in refl)
   module-sends (Refused n o) h = none-by-module n o h
@@ -215,25 +215,25 @@ module _ (rs : List Record) (plan : Sound rs) (m : ℕ) where
     unfolding M.choice M.missingIn
     module-bid v e = least-some (λ w. bit (neighbours rs m) w && not (bit (x .held) w)) 32 v (bid-to (M.missing rs m (x .held)) _ _ _ _ v e) .below
 
-    chosen : T (ownFits rs m (x .own)) → Byte m → (c : M.Choice) → M.choice rs m x ≡ c → length (M.stepBytes rs m x c) ≤ bufferLength
+    chosen-sent : T (ownFits rs m (x .own)) → Byte m → (c : M.Choice) → M.choice rs m x ≡ c → length (M.stepBytes rs m x c) ≤ bufferLength
         → StepSmall (M.answerBy rs m x c) × AllBytes (wrote (M.answerBy rs m x c) (written (M.stepBytes rs m x c) b))
     unfolding M.answerBy M.sentBy wrote
-    chosen t h M.takesTurn e r =
+    chosen-sent t h M.takesTurn e r =
         let u : TurnSmall (M.turnTaken rs m x .turn) = turn-small (x .received) (x .own) t in
         let g : Bytes (M.stepBytes rs m x M.takesTurn) = releases-bytes (M.turnTaken rs m x .turn) u h 32 (omega arith) in
         ((u, omega arith), in-pieces (length (M.stepBytes rs m x M.takesTurn) / releaseSize) (written (M.stepBytes rs m x M.takesTurn) b) (λ j k. first-written (M.stepBytes rs m x M.takesTurn) b g j (omega arith)))
-    chosen t h (M.bidsTo v) e r =
+    chosen-sent t h (M.bidsTo v) e r =
         let k : v < 32 = module-bid v e in
         let g : Bytes (M.stepBytes rs m x (M.bidsTo v)) = one-message (Bid m v) (h, omega arith) in
         ((omega arith, omega arith), (taken (length (M.stepBytes rs m x (M.bidsTo v))) (written (M.stepBytes rs m x (M.bidsTo v)) b) (first-written (M.stepBytes rs m x (M.bidsTo v)) b g), tt))
-    chosen t h M.waits e r = (tt, tt)
+    chosen-sent t h M.waits e r = (tt, tt)
 
     module-sent-in : Sendable (M.stepBy Accepted rs m x b)
     unfolding M.stepBy M.stepIn wrote
     module-sent-in =
         choose Sendable (ltb m (modulesOf rs)) _ _ (λ p. choose Sendable (M.moduleFits rs m x) _ _
         (λ f. choose Sendable (short (M.stepBytes rs m x (M.choice rs m x)) b) _ _ (λ q. (refl, tt))
-        (λ q. chosen (own-fits rs m x f) (omega (arith, ltb-true m (modulesOf rs) p, plan .modules .1)) (M.choice rs m x) refl (omega (arith, ltb-false (length b) (length (M.stepBytes rs m x (M.choice rs m x))) q))))
+        (λ q. chosen-sent (own-fits rs m x f) (omega (arith, ltb-true m (modulesOf rs) p, plan .modules .1)) (M.choice rs m x) refl (omega (arith, ltb-false (length b) (length (M.stepBytes rs m x (M.choice rs m x))) q))))
         (λ f. (refl, tt))) (λ p. (refl, tt))
 
 pub module-sent : (image : List ℕ) → IsPlan image → (m : ℕ) (x : Module) (b : List ℕ) → length b ≡ bufferLength → Sendable (M.moduleStep image m x b)

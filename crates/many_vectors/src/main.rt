@@ -53,7 +53,7 @@ fn turn_text(turn: Turn, n: usize) -> Text {
 
 fn stepped_text(answer: Stepped) -> Text {
     match answer {
-        Stepped::Turned(turn, n) => turn_text(turn, n),
+        Stepped::Turns(turn, n) => turn_text(turn, n),
         Stepped::Bids(v, n) => wrote(b"bids", v, n),
         Stepped::Waits => texts::word(b"waits"),
         Stepped::Refused(number, offset) => refused(number, offset),

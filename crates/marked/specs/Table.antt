@@ -34,7 +34,7 @@ use Rattle.words.specs.Lists.{listFrom}
 use Rattle.device_states.specs.States.{ownSlotFits, stateSlotFits, startSlot, startState, deviceFits, shownBy, stateAfterTurn, ownAt, stateAt}
 use Rattle.device.specs.Device.{turned, afterTurn, turnIn, turnBy, turnCall, replyIn, replyBy, respondCall, tickCall, startBy, startCall}
 use Rattle.device_states.specs.declared.Device.{Device}
-use Rattle.device.specs.declared.Turning.the-variants.{Turned}
+use Rattle.device.specs.declared.Turning.the-variants.{Done as TurnDone}
 use Rattle.messages.specs.Message.{bufferLength, messageBytes, parse}
 use Rattle.permits.specs.Names.{named}
 use Rattle.permits.specs.Module as M
@@ -42,7 +42,7 @@ use Rattle.permits.specs.Supervisor as S
 use Rattle.permits.specs.Step.{bytesOfMessages}
 use Rattle.permits.specs.declared.Module.{Module}
 use Rattle.permits.specs.declared.Supervisor.{Supervisor}
-use Rattle.permits.specs.declared.Stepped.the-variants.{Bids, Turned as Turns}
+use Rattle.permits.specs.declared.Stepped.the-variants.{Bids, Turns}
 use Rattle.permits.specs.declared.Served.the-variants.{Sends}
 use Rattle.marked.specs.Sheet.{planP}
 
@@ -101,13 +101,13 @@ pub record Marked : Type 0 where
   pub end-alone : verdictOf (0x1f ∷ []) ≡ Refused 4 0
   pub undeclared : verdictOf (0x10 ∷ 1 ∷ 0 ∷ 1 ∷ 0x1f ∷ []) ≡ Refused 8 4
   -- "the six turns and responses above"
-  pub first : turnCall planP d0 0 .answer ≡ Turned Nothing
-  pub second : turnCall planP d1 1 .answer ≡ Turned (Event 2)
-  pub third : turnCall planP d2 0 .answer ≡ Turned (Event 0)
+  pub first : turnCall planP d0 0 .answer ≡ TurnDone Nothing
+  pub second : turnCall planP d1 1 .answer ≡ TurnDone (Event 2)
+  pub third : turnCall planP d2 0 .answer ≡ TurnDone (Event 0)
   pub fourth : respondCall planP d3 1 3 .answer ≡ Done
   pub fourth-queued : queueOf (ownAt d4 1) ≡ 3 ∷ []
-  pub fifth : turnCall planP d4 1 .answer ≡ Turned (Event 3)
-  pub sixth : turnCall planP d5 0 .answer ≡ Turned Nothing
+  pub fifth : turnCall planP d4 1 .answer ≡ TurnDone (Event 3)
+  pub sixth : turnCall planP d5 0 .answer ≡ TurnDone Nothing
   -- not marked: the last line of the sheet, `states 1 0 0`
   pub module-0 : ownAt (turnCall planP d5 0 .device) 0 .state ≡ 1
   pub module-1 : ownAt (turnCall planP d5 0 .device) 1 .state ≡ 0
@@ -131,7 +131,7 @@ pub record Marked : Type 0 where
   pub reading-more : tickCall planP d0 0 (Litres (f64 513 8)) .answer ≡ NotDone 14 0
 
 pub marked : Marked
-unfolding planP d0 d1 d2 d3 d4 d5 m0 m1 m2 v0 v1 bit allBelow putBit least orElse someBelow maskOf wordAt wordBytes isEighths count eighths round add ofBits bodyLen kindOf inRange operandInRange keyOf sameKey precedes recordOf walkOf recordsIn findIn field1 field2 field3 wordField found fieldOf stepsOf indexRuns inOrder namesDeclared keepsRules allDeclared faultOf checkWalk verdictOf field4 target stateOr supervisorAfter counting waterOf flowOk added sum arriveAt performed tickOf respondOf byResponse byCommand enabled chosen byChoice turnOn turnOf queuedAny wish startOwn every queueFits idleFits stepFits procedureFits ownFits ownEmpty listFrom ownSlotFits stateSlotFits startSlot startState deviceFits shownBy stateAfterTurn turned afterTurn turnIn turnBy calledBy replyIn replyBy startBy messageBytes parse named M.missingIn M.heldIn M.fitsIn M.choiceOn M.choice M.eventFor M.releasesIn bytesOfMessages M.sentBy M.answerBy M.stateBy M.stepIn M.stepBy M.isFor M.bidWith M.takenBy M.deliverIn M.deliverBy M.startBy S.holderFits S.supervisorFits S.moduleAfter S.nextNoted S.servedOn S.sentTo S.answerBy S.stateAfter S.stepIn S.stepBy S.takenBy S.deliverIn S.deliverBy S.startBy
+unfolding planP d0 d1 d2 d3 d4 d5 m0 m1 m2 v0 v1 bit allBelow putBit least orElse someBelow maskOf wordAt wordBytes isEighths count eighths round add ofBits bodyLen kindOf inRange operandInRange keyOf sameKey precedes recordOf walkOf recordsIn findIn field1 field2 field3 wordField found fieldOf stepsOf indexRuns inOrder namesDeclared keepsRules allDeclared faultOf checkWalk verdictOf field4 target stateOr supervisorAfter counting waterOf flowOk added sum arriveAt performed tickOf respondOf byResponse byCommand enabled chosen byChoice turnOn turnOf queuedAny wish startOwn every queueFits idleFits stepFits procedureFits ownFits ownEmpty listFrom ownSlotFits stateSlotFits startSlot startState deviceFits shownBy stateAfterTurn turned afterTurn turnIn turnBy calledBy replyIn replyBy startBy messageBytes parse named M.missingIn M.heldIn M.fitsIn M.choiceOn M.choice M.eventFor M.releasesIn bytesOfMessages M.sentBy M.answerBy M.stateBy M.stepIn M.stepBy M.isFor M.bidWith M.takenBy M.deliverIn M.deliverBy M.startBy S.holderFits S.supervisorFits S.moduleAfter S.nextNoted S.servedOn S.sentTo S.answerBy S.stateBy S.stepIn S.stepBy S.takenBy S.deliverIn S.deliverBy S.startBy
 marked = record {
   p-length = refl;
   p-accepted = refl;

@@ -19,7 +19,7 @@ pub use Rattle.words.specs.Word.{written}
 abbrev pub noEvent : ℕ
 noEvent = 255
 
--- the bytes of each: its kind and its body
+-- the bytes of each, its kind and its body, and so one more than the body's length
 abbrev pub bidSize : ℕ
 bidSize = 3
 
@@ -47,7 +47,7 @@ pieces size (suc k) b = take size b ∷ pieces size k (drop size b)
 abbrev pub short : List ℕ → List ℕ → Bool
 short answer buffer = ltb (length buffer) (length answer)
 
--- the kind 01, 02 or 03 and exactly its body's bytes after it
+-- the kind 01, 02 or 03, and exactly so many bytes in all
 abbrev pub shaped : ℕ → ℕ → List ℕ → Bool
 shaped kind size bs = eqb (getD bs 0 0) kind && eqb (length bs) size
 

@@ -14,14 +14,14 @@ use Rattle.packing.specs.Answer.{Answer, calledAnswer, steppedAnswer, lentAfter
 use Rattle.packing.specs.Flow.{flowOf}
 
 -- the state's bytes s after a call of number n that leaves the module x
-abbrev pub moduleAfter : ℕ → Module → List ℕ → List ℕ
-moduleAfter n x s = lentAfter n (putAt (moduleBytes x) 0 s) s
+abbrev pub moduleBytesAfter : ℕ → Module → List ℕ → List ℕ
+moduleBytesAfter n x s = lentAfter n (putAt (moduleBytes x) 0 s) s
 
 abbrev pub calledOn : ModuleCalled → List ℕ → Answer
-calledOn c s = record { number = calledAnswer (c .answer); state = moduleAfter (calledNumber (c .answer)) (c .state) s; buffer = [] }
+calledOn c s = record { number = calledAnswer (c .answer); state = moduleBytesAfter (calledNumber (c .answer)) (c .state) s; buffer = [] }
 
 abbrev pub steppedOn : Stepped → Module → List ℕ → List ℕ → Answer
-steppedOn a x s buffer = record { number = steppedAnswer a; state = moduleAfter (steppedNumber a) x s; buffer = buffer }
+steppedOn a x s buffer = record { number = steppedAnswer a; state = moduleBytesAfter (steppedNumber a) x s; buffer = buffer }
 
 unfoldable pub startBytes : List ℕ → ℕ → List ℕ → Answer
 startBytes image m b = startAnswer moduleSize (moduleStart image m .answer) (moduleBytes (moduleStart image m .state)) b

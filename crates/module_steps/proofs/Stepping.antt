@@ -31,7 +31,7 @@ use Rattle.permits.specs.Step.{bytesOfMessages, Gave}
 use Rattle.permits.specs.declared.Module.{Module}
 use Rattle.permits.specs.declared.ModuleStepped.{ModuleStepped}
 use Rattle.permits.specs.declared.Stepped.{Stepped}
-use Rattle.permits.specs.declared.Stepped.the-variants.{Turned as Turns, Bids, Waits, Refused as StepRefused}
+use Rattle.permits.specs.declared.Stepped.the-variants.{Turns, Bids, Waits, Refused as StepRefused}
 use Rattle.permits.proofs.Stepping.{gives}
 use Rattle.module_steps.specs.Choice.{choiceOf}
 use Rattle.module_steps.specs.declared.Chosen.{Chosen}

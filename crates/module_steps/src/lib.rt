@@ -94,7 +94,7 @@ fn take_turn(
         state.held = 0;
         state.received = 0;
         ModuleStepped {
-            answer: Stepped::Turned(did, n),
+            answer: Stepped::Turns(did, n),
             state,
         }
     } else {

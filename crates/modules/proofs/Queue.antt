@@ -1,4 +1,4 @@
--- Laws of the queue's eight places.
+-- Laws of the queue's eight cells.
 use Prim.Native.Nat.{ℕ, suc, min, _+_, _-_, _≤_, _<_}
 use native.Mathlib.Numerals.{add-one}
 use native.Mathlib.Omega.{arith}
@@ -12,30 +12,30 @@ use borrow.Author.Tests.{ltb-true, ltb-false, lt-leb, le-leb}
 use Rattle.records.specs.declared.Record.{Record}
 use Rattle.plan.specs.Plan.{ownUncontrollable}
 use Rattle.modules.specs.declared.Own.{Own}
-use Rattle.modules.specs.Own.{withPlaces}
-use Rattle.modules.specs.Queue.{queueOf, places, withQueue, queued}
+use Rattle.modules.specs.Own.{withCells}
+use Rattle.modules.specs.Queue.{queueOf, cells, withQueue, queued}
 use Rattle.modules.specs.Procedure.{respondOf, taken, refused}
 
 -- what is told of an own part's array
 pub eight : (l : List ℕ) → length (map (λ (x : ℕ). x) l) ≡ 8 → length l ≡ 8
 eight l h = sym (length-map l (λ (x : ℕ). x)) ∙ h
 
--- ---- one place of a queue of n responses
+-- ---- one cell of a queue of n responses
 
 module _ (q : List ℕ) (n i : ℕ) {w : ℕ} (e : w ≡ n) where
-  pub at-place : i < w → getD q i 0 ≡ getD (take n q) i 0
-  at-place h = let l : i < n = omega arith in sym (getD-take n q i 0 l)
+  pub at-cell : i < w → getD q i 0 ≡ getD (take n q) i 0
+  at-cell h = let l : i < n = omega arith in sym (getD-take n q i 0 l)
 
   pub past-responses : w ≤ i → 0 ≡ getD (take n q) i 0
   past-responses h = let l : length (take n q) ≤ i = omega (arith, length-take n q) in sym (List·getD-eq-default (take n q) 0 l)
 
-pub past-places : (q : List ℕ) (n i : ℕ) → length q ≡ 8 → 8 ≤ i → 0 ≡ getD (take n q) i 0
-past-places q n i e h = let l : length (take n q) ≤ i = omega (arith, length-take n q) in sym (List·getD-eq-default (take n q) 0 l)
+pub past-cells : (q : List ℕ) (n i : ℕ) → length q ≡ 8 → 8 ≤ i → 0 ≡ getD (take n q) i 0
+past-cells q n i e h = let l : length (take n q) ≤ i = omega (arith, length-take n q) in sym (List·getD-eq-default (take n q) 0 l)
 
--- ---- the eight places
+-- ---- the eight cells
 
-pub places-length : (l : List ℕ) → length l ≤ 8 → length (places l) ≡ 8
-places-length l h = omega (arith, length-append l (replicate (8 - length l) 0), length-replicate {A = ℕ} (8 - length l) 0)
+pub cells-length : (l : List ℕ) → length l ≤ 8 → length (cells l) ≡ 8
+cells-length l h = omega (arith, length-append l (replicate (8 - length l) 0), length-replicate {A = ℕ} (8 - length l) 0)
 
 zeros-at : (k j : ℕ) → getD {A = ℕ} (replicate k 0) j 0 ≡ 0
 zeros-at k j = go (ltb j k) refl
@@ -47,55 +47,55 @@ zeros-at k j = go (ltb j k) refl
         List·getD-eq-default (replicate k 0) 0 l
 
 -- past the responses stands 0
-places-at : (l : List ℕ) (i : ℕ) → getD (places l) i 0 ≡ getD l i 0
-places-at l i = go (ltb i (length l)) refl
+cells-at : (l : List ℕ) (i : ℕ) → getD (cells l) i 0 ≡ getD l i 0
+cells-at l i = go (ltb i (length l)) refl
   where
     z : List ℕ
     z = replicate (8 - length l) 0
 
-    go : (b : Bool) → ltb i (length l) ≡ b → getD (places l) i 0 ≡ getD l i 0
+    go : (b : Bool) → ltb i (length l) ≡ b → getD (cells l) i 0 ≡ getD l i 0
     go true h = List·getD-append l z 0 i (ltb-true i (length l) h)
     go false h =
         let g : length l ≤ i = ltb-false i (length l) h in
         let e : i ≡ length l + (i - length l) = omega arith in
-        ap (λ (j : ℕ). getD (places l) j 0) e ∙ getD-append-add l z (i - length l) 0 ∙ zeros-at (8 - length l) (i - length l) ∙ sym (List·getD-eq-default l 0 g)
+        ap (λ (j : ℕ). getD (cells l) j 0) e ∙ getD-append-add l z (i - length l) 0 ∙ zeros-at (8 - length l) (i - length l) ∙ sym (List·getD-eq-default l 0 g)
 
--- ---- the places written one by one
+-- ---- the cells written one by one
 
 module _ (q : List ℕ) (n k : ℕ) where
   abbrev rest : List ℕ
   rest = drop k (take n q)
 
-  rest-length : length q ≡ 8 → length (places rest) ≡ 8
-  rest-length e = places-length rest (omega (arith, length-drop k (take n q), length-take n q))
+  rest-length : length q ≡ 8 → length (cells rest) ≡ 8
+  rest-length e = cells-length rest (omega (arith, length-drop k (take n q), length-take n q))
 
   pub written-on : (r : List ℕ) (i : ℕ) {v from : ℕ} → length q ≡ 8 → length r ≡ 8 → i < 8 → from ≡ k → v ≡ getD (take n q) (from + i) 0
-      → take i r ≡ take i (places rest) → take (i + 1) (set r i v) ≡ take (i + 1) (places rest)
+      → take i r ≡ take i (cells rest) → take (i + 1) (set r i v) ≡ take (i + 1) (cells rest)
   written-on r i {v} {from} e l h w p s =
       let g : i < length r = omega arith in
-      let g' : i < length (places rest) = omega (arith, rest-length e) in
-      let x : v ≡ getD (places rest) i 0 = p ∙ ap (λ (j : ℕ). getD (take n q) (j + i) 0) w ∙ sym (getD-drop k (take n q) i 0) ∙ sym (places-at rest i) in
+      let g' : i < length (cells rest) = omega (arith, rest-length e) in
+      let x : v ≡ getD (cells rest) i 0 = p ∙ ap (λ (j : ℕ). getD (take n q) (j + i) 0) w ∙ sym (getD-drop k (take n q) i 0) ∙ sym (cells-at rest i) in
       ap (λ (j : ℕ). take j (set r i v)) (add-one i) ∙ take-suc-set r i v g ∙ ap₂ (λ (a : List ℕ) (b : ℕ). a ++ (b ∷ [])) s x
-      ∙ sym (ap (λ (j : ℕ). take j (places rest)) (add-one i) ∙ take-suc (places rest) i 0 g')
+      ∙ sym (ap (λ (j : ℕ). take j (cells rest)) (add-one i) ∙ take-suc (cells rest) i 0 g')
 
-  pub all-written : (r : List ℕ) (i : ℕ) → length q ≡ 8 → length r ≡ 8 → 8 ≤ i → take i r ≡ take i (places rest) → r ≡ places rest
+  pub all-written : (r : List ℕ) (i : ℕ) → length q ≡ 8 → length r ≡ 8 → 8 ≤ i → take i r ≡ take i (cells rest) → r ≡ cells rest
   all-written r i e l h s =
       let a : length r ≤ i = omega arith in
-      let b : length (places rest) ≤ i = omega (arith, rest-length e) in
-      sym (take-all i r a) ∙ s ∙ take-all i (places rest) b
+      let b : length (cells rest) ≤ i = omega (arith, rest-length e) in
+      sym (take-all i r a) ∙ s ∙ take-all i (cells rest) b
 
 pub set-length : (r : List ℕ) (i v : ℕ) → length r ≡ 8 → length (set r i v) ≡ 8
 set-length r i v e = length-set r i v ∙ e
 
 -- ---- one response more, and the head removed
 
-with-places : (own : Own) (q r : List ℕ) (n : ℕ) → r ≡ places q → n ≡ length q
-    → withPlaces own r n ≡ withQueue own q
-with-places own q r n e l = ap₂ (withPlaces own) e l
+with-cells : (own : Own) (q r : List ℕ) (n : ℕ) → r ≡ cells q → n ≡ length q
+    → withCells own r n ≡ withQueue own q
+with-cells own q r n e l = ap₂ (withCells own) e l
 
 module _ (own : Own) (e8 : length (own .queue) ≡ 8) {r : List ℕ} where
-  pub queued-by : (e : ℕ) {i : ℕ} → own .length < 8 → i ≡ own .length → r ≡ places (queueOf own)
-      → withPlaces own (set r i e) (own .length + 1) ≡ queued own e
+  pub queued-by : (e : ℕ) {i : ℕ} → own .length < 8 → i ≡ own .length → r ≡ cells (queueOf own)
+      → withCells own (set r i e) (own .length + 1) ≡ queued own e
   queued-by e {i} h w p =
       let q : List ℕ = queueOf own in
       let l : length q ≡ own .length = omega (arith, length-take (own .length) (own .queue)) in
@@ -104,29 +104,29 @@ module _ (own : Own) (e8 : length (own .queue) ≡ 8) {r : List ℕ} where
       let one : 8 - length q ≡ suc k = omega arith in
       let after : 8 - length (q ++ (e ∷ [])) ≡ k = omega arith in
       let at : length q ≡ i = omega arith in
-      with-places own (q ++ (e ∷ [])) (set r i e) (own .length + 1)
+      with-cells own (q ++ (e ∷ [])) (set r i e) (own .length + 1)
       (ap (λ (a : List ℕ). set a i e) (p ∙ ap (λ (j : ℕ). q ++ replicate j 0) one) ∙ set-at q 0 (replicate k 0) e i at
       ∙ sym (ap (λ (j : ℕ). (q ++ (e ∷ [])) ++ replicate j 0) after ∙ append-assoc q (e ∷ []) (replicate k 0)))
       (omega arith)
 
-  module _ (p : r ≡ places (drop 1 (queueOf own))) where
+  module _ (p : r ≡ cells (drop 1 (queueOf own))) where
     removed : (n : ℕ) → n ≡ length (drop 1 (queueOf own))
-        → withPlaces own r n ≡ withQueue own (drop 1 (queueOf own))
-    removed n h = with-places own (drop 1 (queueOf own)) r n p h
+        → withCells own r n ≡ withQueue own (drop 1 (queueOf own))
+    removed n h = with-cells own (drop 1 (queueOf own)) r n p h
 
     left : length (drop 1 (queueOf own)) ≡ min (own .length) 8 - 1
     left = omega (arith, length-drop 1 (queueOf own), length-take (own .length) (own .queue))
 
     pub removed-none : own .length ≡ 0
-        → withPlaces own r (own .length) ≡ withQueue own (drop 1 (queueOf own))
+        → withCells own r (own .length) ≡ withQueue own (drop 1 (queueOf own))
     removed-none g = removed (own .length) (omega (arith, left))
 
     pub removed-by : (own .length ≡ 0 → ⊥) → own .length < 8
-        → withPlaces own r (own .length - 1) ≡ withQueue own (drop 1 (queueOf own))
+        → withCells own r (own .length - 1) ≡ withQueue own (drop 1 (queueOf own))
     removed-by f g = removed (own .length - 1) (omega (arith, left))
 
     pub removed-from-full : 8 ≤ own .length
-        → withPlaces own r 7 ≡ withQueue own (drop 1 (queueOf own))
+        → withCells own r 7 ≡ withQueue own (drop 1 (queueOf own))
     removed-from-full g = removed 7 (omega (arith, left))
 
 -- ---- a response

@@ -21,7 +21,7 @@ use Rattle.reader.specs.declared.Found.{Found}
 use Rattle.reader.specs.declared.Found.the-variants.{It, Missing}
 use Rattle.rules.specs.LookUp.{field3, wordField, fieldOf}
 use Rattle.rules.proofs.Valid.{both}
-use Rattle.plan.specs.Plan.{counts, counting, stepIn, operationOf, operandOf}
+use Rattle.plan.specs.Plan.{counts, counting, procedureStep, operationOf, operandOf}
 use Rattle.modules.specs.declared.StepFields.{StepFields}
 use Rattle.modules.specs.StepFields.{stepFieldsOf}
 
@@ -45,7 +45,7 @@ step-key e i (Step a b o x) t =
 
 module _ (rs : List Record) (e i : ℕ) where
   -- what is found as a step counts
-  step-found : (r : Record) → stepIn rs e i ≡ It r → (Step e i (field3 r) (wordField r) ≡ r) × (counts r ≡ true)
+  step-found : (r : Record) → procedureStep rs e i ≡ It r → (Step e i (field3 r) (wordField r) ≡ r) × (counts r ≡ true)
   unfolding counting
   step-found r h = go (findIn (keyBy 0x17 e i 0) rs) refl h
     where
@@ -60,17 +60,17 @@ module _ (rs : List Record) (e i : ℕ) where
       go Missing k h = let z : _≡_ {A = ℕ} 0 1 = cc in absurd (omega arith)
 
   -- the same by its fields
-  pub step-counts : found (stepIn rs e i) ≡ true → counts (Step e i (operationOf rs e i) (operandOf rs e i)) ≡ true
+  pub step-counts : found (procedureStep rs e i) ≡ true → counts (Step e i (operationOf rs e i) (operandOf rs e i)) ≡ true
   unfolding found fieldOf
-  step-counts h = go (stepIn rs e i) refl h
+  step-counts h = go (procedureStep rs e i) refl h
     where
-      go : (f : Found) → stepIn rs e i ≡ f → found f ≡ true → counts (Step e i (fieldOf field3 f) (fieldOf wordField f)) ≡ true
+      go : (f : Found) → procedureStep rs e i ≡ f → found f ≡ true → counts (Step e i (fieldOf field3 f) (fieldOf wordField f)) ≡ true
       go (It r) k h = let p = step-found r k in ap counts (p .0) ∙ p .1
       go Missing k h = absurd (false≢true h)
 
   -- ---- what the code is told of a step
 
-  module _ {y : Found} (p : y ≡ stepIn rs e i) where
+  module _ {y : Found} (p : y ≡ procedureStep rs e i) where
     pub no-step : {w : StepFields} → y ≡ Missing → w ≡ record { present = false; operation = 0; operand = 0 } → w ≡ stepFieldsOf rs e i
     unfolding found fieldOf
     no-step q z = z ∙ ap (λ (f : Found). record { present = found f; operation = fieldOf field3 f; operand = fieldOf wordField f }) (sym q ∙ p)

@@ -14,7 +14,7 @@ use Rattle.litres.specs.Eighths.{litresOk}
 use Rattle.records.specs.declared.Record.{Record}
 use Rattle.records.specs.declared.Record.the-variants.{Step}
 use Rattle.reader.specs.Find.{found}
-use Rattle.plan.specs.Plan.{counts, stepIn, operationOf, operandOf}
+use Rattle.plan.specs.Plan.{counts, procedureStep, operationOf, operandOf}
 use Rattle.water.specs.Water.{flowOk, noWater, waterOf, added, reached, running, Summed, Compared}
 use Rattle.water.specs.declared.Water.{Water}
 use Rattle.water.specs.declared.Flow.{Flow}
@@ -148,7 +148,7 @@ module _ (rs : List Record) (f : Flow) (own : Own) {w : StepFields} (p : w ≡ s
 -- no procedure, no step
 pub ticked-idle : (rs : List Record) (f : Flow) (own : Own) → not (own .procedure .running) ≡ true → own ≡ ticked rs f own
 ticked-idle rs f own n =
-    sym (ap (λ (b : Bool). cond (b && found (stepIn rs (own .procedure .event) (own .procedure .index))) (performed rs (operationOf rs (own .procedure .event) (own .procedure .index)) (operandOf rs (own .procedure .event) (own .procedure .index)) f own) own) (not-true (own .procedure .running) n))
+    sym (ap (λ (b : Bool). cond (b && found (procedureStep rs (own .procedure .event) (own .procedure .index))) (performed rs (operationOf rs (own .procedure .event) (own .procedure .index)) (operandOf rs (own .procedure .event) (own .procedure .index)) f own) own) (not-true (own .procedure .running) n))
 
 -- litres are taken or refused as they are judged
 module _ (f : Flow) {x : Float} (e : f ≡ Litres x) {b : Bool} (p : b ≡ litresOk x) where

@@ -7,7 +7,7 @@ use lib.Dec.{eqb, leb, ltb}
 use Rattle.records.specs.declared.Record.{Record}
 use Rattle.reader.specs.Find.{found}
 use Rattle.rules.specs.LookUp.{moduleState}
-use Rattle.plan.specs.Plan.{stepIn, operationOf, operandOf, ownEvent, ownUncontrollable}
+use Rattle.plan.specs.Plan.{procedureStep, operationOf, operandOf, ownEvent, ownUncontrollable}
 use Rattle.water.specs.Water.{waterZero, running}
 use Rattle.modules.specs.declared.Own.{Own}
 use Rattle.modules.specs.declared.Procedure.{Procedure}
@@ -18,7 +18,7 @@ unfoldable pub every : (ℕ → Bool) → List ℕ → Bool
 every p [] = true
 every p (x ∷ xs) = p x && every p xs
 
--- "the queue holds at most 8, all the module's uncontrollable events"; the places past its length hold 0
+-- "the queue holds at most 8, all the module's uncontrollable events"; the cells past its length hold 0
 unfoldable pub queueFits : List Record → ℕ → Own → Bool
 queueFits rs m own = leb (own .length) 8 && every (ownUncontrollable rs m) (queueOf own) && every (λ x. eqb x 0) (drop (own .length) (own .queue))
 
@@ -30,7 +30,7 @@ idleFits p = eqb (p .event) 0 && eqb (p .index) 0 && eqb (p .count) 0 && waterZe
 -- below it"
 unfoldable pub stepFits : List Record → ℕ → Procedure → Bool
 stepFits rs m p =
-    found (stepIn rs (p .event) (p .index)) && ownEvent rs m (p .event)
+    found (procedureStep rs (p .event) (p .index)) && ownEvent rs m (p .event)
     && cond (eqb (operationOf rs (p .event) (p .index)) 3) (ltb (p .count) (operandOf rs (p .event) (p .index))) (eqb (p .count) 0)
     && cond (eqb (operationOf rs (p .event) (p .index)) 4) (running (operandOf rs (p .event) (p .index)) (p .water)) (waterZero (p .water))
 

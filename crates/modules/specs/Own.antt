@@ -8,9 +8,9 @@ use Rattle.modules.specs.declared.Procedure.{Procedure}
 abbrev pub withState : Own → ℕ → Own
 withState own st = record { state = st; queue = own .queue; length = own .length; procedure = own .procedure; outputs = own .outputs }
 
--- the queue by its places and its length
-abbrev pub withPlaces : Own → List ℕ → ℕ → Own
-withPlaces own q n = record { state = own .state; queue = q; length = n; procedure = own .procedure; outputs = own .outputs }
+-- the queue by its cells and its length
+abbrev pub withCells : Own → List ℕ → ℕ → Own
+withCells own q n = record { state = own .state; queue = q; length = n; procedure = own .procedure; outputs = own .outputs }
 
 abbrev pub withProcedure : Own → Procedure → Own
 withProcedure own p = record { state = own .state; queue = own .queue; length = own .length; procedure = p; outputs = own .outputs }

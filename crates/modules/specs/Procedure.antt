@@ -6,7 +6,7 @@ use lib.Bits.{bitOr, bitAnd}
 use lib.Dec.{eqb, ltb}
 use Rattle.records.specs.declared.Record.{Record}
 use Rattle.reader.specs.Find.{found}
-use Rattle.plan.specs.Plan.{stepIn, operationOf, operandOf, ownUncontrollable}
+use Rattle.plan.specs.Plan.{procedureStep, operationOf, operandOf, ownUncontrollable}
 use Rattle.water.specs.Water.{flowOk, noWater, waterOf, added, reached, running}
 use Rattle.water.specs.declared.Water.{Water}
 use Rattle.water.specs.declared.Flow.{Flow}
@@ -28,7 +28,7 @@ idle = record { running = false; event = 0; index = 0; count = 0; water = noWate
 -- procedure is idle: "without steps it stays idle", "After the last step the procedure is idle."
 unfoldable pub arriveAt : List Record → ℕ → ℕ → Procedure
 arriveAt rs e i =
-    cond (found (stepIn rs e i))
+    cond (found (procedureStep rs e i))
     (record { running = true; event = e; index = i; count = 0; water = cond (eqb (operationOf rs e i) 4) (waterOf (operandOf rs e i)) noWater })
     idle
 
@@ -71,7 +71,7 @@ performed rs o x f own =
 
 abbrev pub ticked : List Record → Flow → Own → Own
 ticked rs f own =
-    cond (own .procedure .running && found (stepIn rs (own .procedure .event) (own .procedure .index)))
+    cond (own .procedure .running && found (procedureStep rs (own .procedure .event) (own .procedure .index)))
     (performed rs (operationOf rs (own .procedure .event) (own .procedure .index)) (operandOf rs (own .procedure .event) (own .procedure .index)) f own)
     own
 

@@ -3,8 +3,8 @@ use Prim.Native.Nat.{ℕ}
 use mathlib.Core.List.{List}
 use Rattle.records.specs.declared.Record.{Record}
 use Rattle.reader.specs.Find.{found}
-use Rattle.plan.specs.Plan.{stepIn, operationOf, operandOf}
+use Rattle.plan.specs.Plan.{procedureStep, operationOf, operandOf}
 use Rattle.modules.specs.declared.StepFields.{StepFields}
 
 abbrev pub stepFieldsOf : List Record → ℕ → ℕ → StepFields
-stepFieldsOf rs e i = record { present = found (stepIn rs e i); operation = operationOf rs e i; operand = operandOf rs e i }
+stepFieldsOf rs e i = record { present = found (procedureStep rs e i); operation = operationOf rs e i; operand = operandOf rs e i }

@@ -8,7 +8,7 @@ ghost use Rattle.places.specs.Places.{recordsBy};
 ghost use Rattle.plan.specs.Plan.{counts};
 ghost use Rattle.water.specs.Water as Rules;
 ghost use Rattle.water.specs.Water.{flowOk, noWater, waterOf};
-ghost use Rattle.modules.specs.Queue.{queueOf, places, full, withQueue, queued};
+ghost use Rattle.modules.specs.Queue.{queueOf, cells, full, withQueue, queued};
 ghost use Rattle.modules.specs.Own.{withOutputs};
 ghost use Rattle.modules.specs.Procedure.{idle, arriveAt, outputOn, outputOff, counted, calledBy, respondOf, tickOf};
 ghost use Rattle.modules.specs.Procedure as Steps;
@@ -30,7 +30,7 @@ pub struct Procedure {
     pub water: Water,
 }
 
-// The automaton's state, the response queue with the places past its length 0, the procedure, and the 32 outputs.
+// The automaton's state, the response queue with the cells past its length 0, the procedure, and the 32 outputs.
 pub struct Own {
     pub state: u8,
     pub queue: [u8; 8],
@@ -72,8 +72,8 @@ pub enum Called {
 
 // ---- the queue
 
-// What stands at a place of a queue of n responses, and 0 past them.
-fn place(q: [u8; 8], n: u8, i: usize) -> u8
+// What stands in a cell of a queue of n responses, and 0 past them.
+fn cell(q: [u8; 8], n: u8, i: usize) -> u8
     ensures { λ r. ⌜ r ≡ getD (take n q) i 0 ⌝ }
 {
     if i < words::wide(n) {
@@ -83,15 +83,15 @@ fn place(q: [u8; 8], n: u8, i: usize) -> u8
     }
 }
 
-// The eight places of a queue of n responses without its first k.
-fn places_after(q: [u8; 8], n: u8, k: u8) -> [u8; 8]
-    ensures { λ r. ⌜ r ≡ places (drop k (take n q)) ⌝ }
+// The eight cells of a queue of n responses without its first k.
+fn cells_after(q: [u8; 8], n: u8, k: u8) -> [u8; 8]
+    ensures { λ r. ⌜ r ≡ cells (drop k (take n q)) ⌝ }
 {
     let from = words::wide(k);
     let mut r = [0u8; 8];
     let mut i: usize = 0;
     while i < 8 {
-        r[i] = place(q, n, from + i);
+        r[i] = cell(q, n, from + i);
         i += 1;
     }
     r
@@ -105,7 +105,7 @@ fn with_response(own: Own, e: u8) -> Own
     let n = own.length;
     let i = words::wide(n);
     let q = own.queue;
-    let mut after = places_after(q, n, 0);
+    let mut after = cells_after(q, n, 0);
     after[i] = e;
     let mut next = own;
     next.queue = after;
@@ -119,7 +119,7 @@ pub fn without_head(own: Own) -> Own
 {
     let n = own.length;
     let q = own.queue;
-    let after = places_after(q, n, 1);
+    let after = cells_after(q, n, 1);
     let mut next = own;
     next.queue = after;
     if n == 0 {

@@ -20,13 +20,13 @@ lowest-below x {k = k} e f = least-some (bit x) 64 k (sym (ap optionOf (sym f) �
 
 module _ (y : Supervisor) where
   -- the places after the last served go round
-  round-place : (k : ℕ) → moduleAfter (y .last % 16) k ≡ moduleAfter (y .last) k
+  round-last : (k : ℕ) → moduleAfter (y .last % 16) k ≡ moduleAfter (y .last) k
   unfolding moduleAfter
-  round-place k = omega arith
+  round-last k = omega arith
 
   module _ (x : ℕ) (t : least (bit x) 64 ≡ least (λ k. bit (y .noted) (moduleAfter (y .last % 16) k)) 16) where
     first : least (bit x) 64 ≡ least (λ k. bit (y .noted) (moduleAfter (y .last) k)) 16
-    first = t ∙ least-same (λ k. bit (y .noted) (moduleAfter (y .last % 16) k)) (λ k. bit (y .noted) (moduleAfter (y .last) k)) 16 (λ k l. ap (bit (y .noted)) (round-place k))
+    first = t ∙ least-same (λ k. bit (y .noted) (moduleAfter (y .last % 16) k)) (λ k. bit (y .noted) (moduleAfter (y .last) k)) 16 (λ k l. ap (bit (y .noted)) (round-last k))
 
     pub served-some : {o : Maybe} {k : ℕ} → y .holder ≡ Home → optionOf o ≡ least (bit x) 64 → o ≡ Just k → some ((y .last % 16 + 1 + k) % 16) ≡ served y
     unfolding servedOn nextNoted moduleAfter

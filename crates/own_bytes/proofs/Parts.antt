@@ -10,7 +10,7 @@ use Rattle.words.specs.Word.{quadAt, quadBytes, wordAt, wordBytes}
 use Rattle.words.proofs.Laws.{quad-read}
 use Rattle.records.specs.declared.Record.{Record}
 use Rattle.rules.specs.LookUp.{moduleState}
-use Rattle.modules.specs.Own.{withPlaces, withProcedure, withOutputs}
+use Rattle.modules.specs.Own.{withCells, withProcedure, withOutputs}
 use Rattle.modules.specs.Procedure.{idle}
 use Rattle.modules.specs.Fits.{queueFits, procedureFits, ownFits, ownEmpty}
 use Rattle.modules.specs.declared.Own.{Own}
@@ -42,24 +42,24 @@ module _ (b : List ℕ) (g : Bytes b) where
   own-written h =
       ap₂ (λ (x y : List ℕ). getD b 0 0 ∷ getD b 1 0 ∷ (bytesFrom b 2 8 ++ x ++ y)) (procedure-written h) (quad-written b g 31)
 
--- ---- an own part read as it was written, its queue given place by place
+-- ---- an own part read as it was written, its queue given cell by cell
 
 module _ (own : Own) (x : OwnEncodable own) (rest : List ℕ) where
   abbrev bytesWith : List ℕ → List ℕ
   bytesWith q = own .state ∷ own .length ∷ (q ++ procedureBytes (own .procedure) ++ quadBytes (own .outputs)) ++ rest
 
   abbrev ownWith : List ℕ → Own
-  ownWith q = withPlaces own q (own .length)
+  ownWith q = withCells own q (own .length)
 
-  read-places : (a b c d e f g h : ℕ) → isOwn (bytesWith (a ∷ b ∷ c ∷ d ∷ e ∷ f ∷ g ∷ h ∷ [])) ≡ true
+  read-cells : (a b c d e f g h : ℕ) → isOwn (bytesWith (a ∷ b ∷ c ∷ d ∷ e ∷ f ∷ g ∷ h ∷ [])) ≡ true
   unfolding isOwn procedureBytes wordAt wordBytes halfBytes
-  read-places a b c d e f g h =
+  read-cells a b c d e f g h =
       ap₂ (λ (y z : Bool). y && z) (ap₂ (λ (y z : Bool). y && z) (flag-is (own .procedure .running)) (float-is (own .procedure .water .target) (x .target) (floatBytes (own .procedure .water .total))))
       (float-is (own .procedure .water .total) (x .total) [])
 
-  back-places : (a b c d e f g h : ℕ) → ownOf (bytesWith (a ∷ b ∷ c ∷ d ∷ e ∷ f ∷ g ∷ h ∷ [])) ≡ ownWith (a ∷ b ∷ c ∷ d ∷ e ∷ f ∷ g ∷ h ∷ [])
+  back-cells : (a b c d e f g h : ℕ) → ownOf (bytesWith (a ∷ b ∷ c ∷ d ∷ e ∷ f ∷ g ∷ h ∷ [])) ≡ ownWith (a ∷ b ∷ c ∷ d ∷ e ∷ f ∷ g ∷ h ∷ [])
   unfolding ownOf procedureOf bytesFrom procedureBytes wordAt wordBytes halfAt halfBytes quadAt quadBytes
-  back-places a b c d e f g h =
+  back-cells a b c d e f g h =
       let p : Procedure = own .procedure in
       ap₂ (λ (p : Procedure) (o : ℕ). withOutputs (withProcedure (ownWith (a ∷ b ∷ c ∷ d ∷ e ∷ f ∷ g ∷ h ∷ [])) p) o)
       (ap₂ (λ (t u : Float). record { running = flagOf (flagByte (p .running)); event = p .event; index = p .index; count = halfAt (halfBytes (p .count) ++ []) 0; water = record { target = t; total = u } })
@@ -70,11 +70,11 @@ module _ (own : Own) (x : OwnEncodable own) (rest : List ℕ) where
 own-read : (own : Own) (rest : List ℕ) → OwnEncodable own → OwnRead own rest
 unfolding ownBytes bytesFrom
 own-read own rest x =
-    let q : bytesFrom (own .queue) 0 8 ≡ own .queue = ap (bytesFrom (own .queue) 0) (sym (x .places)) ∙ from-all (own .queue) in
+    let q : bytesFrom (own .queue) 0 8 ≡ own .queue = ap (bytesFrom (own .queue) 0) (sym (x .cells)) ∙ from-all (own .queue) in
     let at : ℕ → ℕ = λ i. getD (own .queue) i 0 in
     record {
-      stands = subst (λ (l : List ℕ). isOwn (bytesWith own x rest l) ≡ true) q (read-places own x rest (at 0) (at 1) (at 2) (at 3) (at 4) (at 5) (at 6) (at 7));
-      back = subst (λ (l : List ℕ). ownOf (bytesWith own x rest l) ≡ ownWith own x rest l) q (back-places own x rest (at 0) (at 1) (at 2) (at 3) (at 4) (at 5) (at 6) (at 7));
+      stands = subst (λ (l : List ℕ). isOwn (bytesWith own x rest l) ≡ true) q (read-cells own x rest (at 0) (at 1) (at 2) (at 3) (at 4) (at 5) (at 6) (at 7));
+      back = subst (λ (l : List ℕ). ownOf (bytesWith own x rest l) ≡ ownWith own x rest l) q (back-cells own x rest (at 0) (at 1) (at 2) (at 3) (at 4) (at 5) (at 6) (at 7));
     }
 
 -- ---- an own part that fits no plan

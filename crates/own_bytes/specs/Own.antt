@@ -9,7 +9,7 @@ use lib.ListN.{length, getD}
 use lib.Dec.{ltb}
 use Rattle.roundtrip.specs.Fits.{Byte, Bytes}
 use Rattle.records.specs.declared.Record.{Record}
-use Rattle.modules.specs.Own.{withPlaces}
+use Rattle.modules.specs.Own.{withCells}
 use Rattle.modules.specs.Turn.{emptyOwn}
 use Rattle.modules.specs.Fits.{ownFits, ownEmpty}
 use Rattle.modules.specs.declared.Own.{Own}
@@ -28,7 +28,7 @@ procedureBytes p =
 unfoldable pub ownBytes : Own → List ℕ
 ownBytes own = own .state ∷ own .length ∷ (own .queue ++ procedureBytes (own .procedure) ++ quadBytes (own .outputs))
 
--- the own part that the bytes are, by their places
+-- the own part that the bytes are, by their offsets
 unfoldable pub procedureOf : List ℕ → Procedure
 procedureOf b =
     record {
@@ -49,9 +49,9 @@ isOwn b = isFlag (getD b 10 0) && isFloat b 15 && isFloat b 23
 
 -- an own part that fits no plan: its queue is longer than 8
 abbrev pub unfitOwn : Own
-unfitOwn = withPlaces emptyOwn (emptyOwn .queue) 255
+unfitOwn = withCells emptyOwn (emptyOwn .queue) 255
 
--- what is read of bytes: fewer than its own stand for no own part, and give one that fits no plan
+-- what is read of bytes: fewer than `ownSize` stand for no own part, and give one that fits no plan
 unfoldable pub ownStands : List ℕ → Bool
 ownStands b = cond (ltb (length b) ownSize) false (isOwn b)
 
@@ -64,7 +64,7 @@ ownRead b = cond (ltb (length b) ownSize) unfitOwn (ownOf b)
 pub record OwnEncodable (own : Own) : Type 0 where
   pub state : Byte (own .state)
   pub queued : Byte (own .length)
-  pub places : length (own .queue) ≡ 8
+  pub cells : length (own .queue) ≡ 8
   pub queue : Bytes (own .queue)
   pub event : Byte (own .procedure .event)
   pub index : Byte (own .procedure .index)

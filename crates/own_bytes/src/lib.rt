@@ -71,8 +71,8 @@ fn own_in(s: &[u8]) -> Own
     }
 }
 
-// The own part that the bytes are, by their places; one that fits no plan, if they are too few. It is read from a slice of just its bytes, so that the
-// compiler need not ask for each whether it is there.
+// The own part that the bytes are, by their offsets; one that fits no plan, if they are too few. It is read from a slice of just its bytes, so that
+// the compiler need not ask for each whether it is there.
 pub fn own_of(s: &[u8]) -> Own
     ensures { λ r. ⌜ r ≡ ownRead (now (s .entry)) ⌝ }
 {

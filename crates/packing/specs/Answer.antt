@@ -18,10 +18,10 @@ use Rattle.modules.specs.declared.Called.{Called}
 use Rattle.modules.specs.declared.Called.the-variants.{Done, Refused}
 use Rattle.device.specs.Numbers.{turningNumber, turningOffset}
 use Rattle.device.specs.declared.Turning.{Turning}
-use Rattle.device.specs.declared.Turning.the-variants.{Turned, Refused as TurnRefused}
+use Rattle.device.specs.declared.Turning.the-variants.{Done as TurnDone, Refused as TurnRefused}
 use Rattle.permits.specs.Numbers.{steppedNumber, steppedOffset, servedNumber, servedOffset}
 use Rattle.permits.specs.declared.Stepped.{Stepped}
-use Rattle.permits.specs.declared.Stepped.the-variants.{Turned as Turns, Bids, Waits, Refused as StepRefused}
+use Rattle.permits.specs.declared.Stepped.the-variants.{Turns, Bids, Waits, Refused as StepRefused}
 use Rattle.permits.specs.declared.Served.{Served}
 use Rattle.permits.specs.declared.Served.the-variants.{Sends, Waits as ServedWaits, Refused as ServeRefused}
 
@@ -54,7 +54,7 @@ turnAnswer (Stray e) size = done 2 e size
 turnAnswer Nothing size = done 3 0 size
 
 unfoldable pub turningAnswer : Turning → ℕ
-turningAnswer (Turned t) = turnAnswer t 0
+turningAnswer (TurnDone t) = turnAnswer t 0
 turningAnswer (TurnRefused n o) = refused (turningNumber (TurnRefused n o)) (turningOffset (TurnRefused n o))
 
 -- PEWTERSLUG_BIDS, 4: "a module bids, the value is the supervisor"; PEWTERSLUG_WAITS, 6: "a step that waits"

@@ -63,7 +63,7 @@ pub fn turning(t: Turning) -> u64
     ensures { λ r. ⌜ r ≡ turningAnswer t ⌝ }
 {
     match t {
-        Turning::Turned(did) => turn(did, 0),
+        Turning::Done(did) => turn(did, 0),
         Turning::Refused(n, o) => pack(n, 0, 0, o),
     }
 }
@@ -72,7 +72,7 @@ pub fn stepped(s: Stepped) -> u64
     ensures { λ r. ⌜ r ≡ steppedAnswer s ⌝ }
 {
     match s {
-        Stepped::Turned(t, size) => turn(t, size),
+        Stepped::Turns(t, size) => turn(t, size),
         Stepped::Bids(v, size) => pack(0, 4, v, size),
         Stepped::Waits => pack(0, 6, 0, 0),
         Stepped::Refused(n, o) => pack(n, 0, 0, o),
@@ -103,7 +103,7 @@ pub fn is_stepped(s: Stepped) -> bool
     ensures { λ r. ⌜ r ≡ eqb (steppedNumber s) 0 ⌝ }
 {
     match s {
-        Stepped::Turned(_, _) => true,
+        Stepped::Turns(_, _) => true,
         Stepped::Bids(_, _) => true,
         Stepped::Waits => true,
         Stepped::Refused(n, _) => n == 0,

@@ -19,7 +19,7 @@ pub struct Parties {
 
 // ---- the parties
 
-// The state of a module; of one past the last place the empty state.
+// The state of a module; of a number past the last the empty state.
 pub fn module_of(p: Parties, m: u8) -> Module
     ensures { λ r. ⌜ r ≡ moduleAt p m ⌝ }
 {

@@ -72,7 +72,7 @@ module _ (x : Module) (n : length (x .own .queue) ≡ 8) where
 module-stands : (x : Module) → ModuleEncodable x → isModule (moduleBytes x) ≡ true
 unfolding isModule
 module-stands x h =
-    let n : length (x .own .queue) ≡ 8 = h .own .places in
+    let n : length (x .own .queue) ≡ 8 = h .own .cells in
     ap₂ _&&_
     (ap₂ _&&_ (eq-eqb (length (moduleBytes x)) moduleSize (length-module x n)) (ap isOwn (from-own x n) ∙ own-parts .read (x .own) (b x n ++ (c x n ++ d x n)) (h .own) .stands))
     (ap isFlag (bid-byte x n) ∙ flag-is (x .bid))
@@ -80,7 +80,7 @@ module-stands x h =
 module-back : (x : Module) → ModuleEncodable x → moduleAt (moduleBytes x) ≡ x
 unfolding moduleAt
 module-back x h =
-    let n : length (x .own .queue) ≡ 8 = h .own .places in
+    let n : length (x .own .queue) ≡ 8 = h .own .cells in
     let own : ownOf (moduleBytes x) ≡ x .own = ap ownOf (from-own x n) ∙ own-parts .read (x .own) (b x n ++ (c x n ++ d x n)) (h .own) .back in
     let held : quadAt (moduleBytes x) ownSize ≡ x .held = sym (quad-drop ownSize (moduleBytes x) 0) ∙ ap (λ (s : List ℕ). quadAt s 0) (from-held x n) ∙ quad-read (x .held) (c x n ++ d x n) (h .held) in
     let received : wordAt (moduleBytes x) (ownSize + 4) ≡ x .received = sym (word-drop (ownSize + 4) (moduleBytes x) 0) ∙ ap (λ (s : List ℕ). wordAt s 0) (from-received x n) ∙ word-read (x .received) (d x n) (h .received) in

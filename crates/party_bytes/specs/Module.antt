@@ -21,7 +21,7 @@ moduleSize = ownSize + 13
 unfoldable pub moduleBytes : Module → List ℕ
 moduleBytes x = ownBytes (x .own) ++ quadBytes (x .held) ++ wordBytes (x .received) ++ (flagByte (x .bid) ∷ [])
 
--- the module that the bytes are, by their places
+-- the module that the bytes are, by their offsets
 unfoldable pub moduleAt : List ℕ → Module
 moduleAt b = record { own = ownOf b; held = quadAt b ownSize; received = wordAt b (ownSize + 4); bid = flagOf (getD b (ownSize + 12) 0) }
 

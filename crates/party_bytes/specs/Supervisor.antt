@@ -29,7 +29,7 @@ holderByte (Out m) = m
 unfoldable pub supervisorBytes : Supervisor → List ℕ
 supervisorBytes y = y .state ∷ (halfBytes (y .noted) ++ (flagByte (isOut (y .holder)) ∷ holderByte (y .holder) ∷ y .last ∷ []))
 
--- the supervisor that the bytes are, by their places
+-- the supervisor that the bytes are, by their offsets
 unfoldable pub holderOf : Bool → ℕ → Holder
 holderOf out m = cond out (Out m) Home
 

@@ -32,7 +32,7 @@ use Rattle.messages.specs.declared.Parsed.the-variants.{Whole, Misshapen}
 use Rattle.permits.specs.declared.Module.{Module}
 use Rattle.permits.specs.declared.ModuleCalled.{ModuleCalled}
 use Rattle.permits.specs.declared.Stepped.{Stepped}
-use Rattle.permits.specs.declared.Stepped.the-variants.{Turned as Turns, Bids, Waits, Refused as StepRefused}
+use Rattle.permits.specs.declared.Stepped.the-variants.{Turns, Bids, Waits, Refused as StepRefused}
 use Rattle.permits.specs.Names.{named}
 use Rattle.permits.specs.Step.{bytesOfMessages, Call}
 

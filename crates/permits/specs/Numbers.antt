@@ -2,24 +2,24 @@
 -- wrote "from the buffer's start".
 use Prim.Native.Nat.{ℕ}
 use Rattle.permits.specs.declared.Stepped.{Stepped}
-use Rattle.permits.specs.declared.Stepped.the-variants.{Turned, Bids, Waits, Refused}
+use Rattle.permits.specs.declared.Stepped.the-variants.{Turns, Bids, Waits, Refused}
 use Rattle.permits.specs.declared.Served.{Served}
 use Rattle.permits.specs.declared.Served.the-variants.{Sends, Waits as ServedWaits, Refused as ServedRefused}
 
 abbrev pub steppedNumber : Stepped → ℕ
-steppedNumber (Turned t n) = 0
+steppedNumber (Turns t n) = 0
 steppedNumber (Bids v n) = 0
 steppedNumber Waits = 0
 steppedNumber (Refused n o) = n
 
 abbrev pub steppedOffset : Stepped → ℕ
-steppedOffset (Turned t n) = 0
+steppedOffset (Turns t n) = 0
 steppedOffset (Bids v n) = 0
 steppedOffset Waits = 0
 steppedOffset (Refused n o) = o
 
 abbrev pub steppedBytes : Stepped → ℕ
-steppedBytes (Turned t n) = n
+steppedBytes (Turns t n) = n
 steppedBytes (Bids v n) = n
 steppedBytes Waits = 0
 steppedBytes (Refused n o) = 0

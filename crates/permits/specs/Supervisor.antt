@@ -81,9 +81,9 @@ unfoldable pub answerBy : List ℕ → Option ℕ → Served
 answerBy bytes none = Waits
 answerBy bytes (some m) = Sends m (length bytes)
 
-unfoldable pub stateAfter : Supervisor → Option ℕ → Supervisor
-stateAfter y none = y
-stateAfter y (some m) = afterSend y m
+unfoldable pub stateBy : Supervisor → Option ℕ → Supervisor
+stateBy y none = y
+stateBy y (some m) = afterSend y m
 
 -- a whole call: its answer, the state after it, and the buffer's final contents
 abbrev pub ServeCall : Type 0
@@ -95,7 +95,7 @@ stepRefused y b n o = record { answer = StepRefused n o; state = y; buffer = b }
 unfoldable pub stepIn : List Record → ℕ → Supervisor → List ℕ → Option ℕ → ServeCall
 stepIn rs v y b t =
     cond (short (stepBytes rs v y t) b) (stepRefused y b 15 0)
-    (record { answer = answerBy (stepBytes rs v y t) t; state = stateAfter y t; buffer = written (stepBytes rs v y t) b })
+    (record { answer = answerBy (stepBytes rs v y t) t; state = stateBy y t; buffer = written (stepBytes rs v y t) b })
 
 unfoldable pub stepBy : Verdict → List Record → ℕ → Supervisor → List ℕ → ServeCall
 stepBy Accepted rs v y b =

@@ -38,7 +38,7 @@ pub struct Supervisor {
 
 // What a module step did, with the bytes written: a turn and its releases, a bid, or nothing; or the number and the offset.
 pub enum Stepped {
-    Turned(Turn, usize),
+    Turns(Turn, usize),
     Bids(u8, usize),
     Waits,
     Refused(u8, usize),

@@ -111,11 +111,11 @@ counting (It r) = cond (counts r) (It r) Missing
 counting Missing = Missing
 
 -- a step of an event's procedure
-abbrev pub stepIn : List Record → ℕ → ℕ → Found
-stepIn rs e i = counting (findIn (keyBy 0x17 e i 0) rs)
+abbrev pub procedureStep : List Record → ℕ → ℕ → Found
+procedureStep rs e i = counting (findIn (keyBy 0x17 e i 0) rs)
 
 abbrev pub operationOf : List Record → ℕ → ℕ → ℕ
-operationOf rs e i = fieldOf field3 (stepIn rs e i)
+operationOf rs e i = fieldOf field3 (procedureStep rs e i)
 
 abbrev pub operandOf : List Record → ℕ → ℕ → ℕ
-operandOf rs e i = fieldOf wordField (stepIn rs e i)
+operandOf rs e i = fieldOf wordField (procedureStep rs e i)

@@ -7,7 +7,7 @@ ghost use Rattle.places.specs.Runs.{isMove};
 ghost use Rattle.records.specs.Key.{keyBy};
 ghost use Rattle.reader.specs.Find.{findIn};
 ghost use Rattle.rules.specs.LookUp.{modulesOf, supervisorsOf, eventsOf, moduleState, supervisorState, ownerOf, controllable, alphabetOf};
-ghost use Rattle.plan.specs.Plan.{target, moduleInitial, supervisorInitial, ownEvent, ownUncontrollable, inAlphabet, shown, moduleMove, supervisorMoved, supervisorAfter, stepIn};
+ghost use Rattle.plan.specs.Plan.{target, moduleInitial, supervisorInitial, ownEvent, ownUncontrollable, inAlphabet, shown, moduleMove, supervisorMoved, supervisorAfter, procedureStep};
 ghost use Rattle.plan.specs.Fields.{fieldsOf, FieldsFound};
 use bits::Maybe;
 use places::Places;
@@ -246,7 +246,7 @@ pub fn supervisor_after(image: &[u8], places: Places, v: u8, st: u8, e: u8) -> u
 
 // A step of an event's procedure, which counts with its fields in range and, where it is a respond, with the number of an event.
 pub fn step(image: &[u8], places: Places, e: u8, i: u8) -> Found
-    ensures { λ r. ⌜ r ≡ stepIn (recordsBy (now (image .entry)) places) e i ⌝ }
+    ensures { λ r. ⌜ r ≡ procedureStep (recordsBy (now (image .entry)) places) e i ⌝ }
 {
     let key = RecordKey {
         kind: 0x17,

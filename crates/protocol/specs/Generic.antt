@@ -25,7 +25,7 @@ module _ {A : Type 0} where
   behind a none = none
   behind a (some p) = some (record { item = p .item; rest = a ∷ p .rest })
 
-  -- the member at a place
+  -- the member at an index
   unfoldable pub pick : ℕ → List A → Option (Picked A)
   pick k [] = none
   pick zero (a ∷ l) = some (record { item = a; rest = l })

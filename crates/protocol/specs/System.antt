@@ -29,7 +29,7 @@ pub record System : Type 0 where
 
 pub data Act : Type 0 where
   moduleStep supervisorStep : ℕ → Act
-  -- the message at a place among those under way
+  -- the message at an index among those under way
   deliver : ℕ → Act
   respond : ℕ → ℕ → Act
   tick : ℕ → Flow → Act

@@ -15,7 +15,7 @@ use Rattle.modules.specs.declared.Called.the-variants.{Done, Refused as CallRef
 use Rattle.modules.specs.declared.Reply.{Reply}
 use Rattle.modules.specs.declared.Reply.the-variants.{Taken, Refused}
 use Rattle.refusals.specs.Table.{CallKind, Gives}
-use Rattle.refusals.specs.Refusals.{Placed, Answer, Unchanged, Lent, CallAnswer, Call}
+use Rattle.refusals.specs.Refusals.{OffsetRight, Answer, Unchanged, Lent, CallAnswer, Call}
 
 -- what holds of both answers of a test
 pub either : {A : Type 0} (P : A → Type 0) (b : Bool) {x y : A} → P x → P y → P (cond b x y)
@@ -28,7 +28,7 @@ never e = omega arith
 
 -- ---- answers
 
-pub at-zero : (n : ℕ) → Placed n 0
+pub at-zero : (n : ℕ) → OffsetRight n 0
 at-zero n = record { long = λ e. refl; call = λ h. refl }
 
 module _ {E : Type 0} (c : CallKind) (number offset : E → ℕ) (refusal : ℕ → ℕ → E) where
@@ -36,18 +36,18 @@ module _ {E : Type 0} (c : CallKind) (number offset : E → ℕ) (refusal : ℕ 
   accepts a d i z =
       record {
         numbered = λ n o e. absurd (d n o e);
-        placed = record { long = λ e. z; call = λ h. z };
+        offset-right = record { long = λ e. z; call = λ h. z };
         number-is = λ n o e. absurd (d n o e);
         offset-is = λ n o e. absurd (d n o e);
         accepted = λ h. (i, z);
       }
 
-  pub refuses : ((n o : ℕ) → number (refusal n o) ≡ n) → ((n o : ℕ) → offset (refusal n o) ≡ o) → (n o : ℕ) → Gives c n → Placed n o
+  pub refuses : ((n o : ℕ) → number (refusal n o) ≡ n) → ((n o : ℕ) → offset (refusal n o) ≡ o) → (n o : ℕ) → Gives c n → OffsetRight n o
       → Answer c number offset refusal (refusal n o)
   refuses is at n o t p =
       record {
         numbered = λ k l e. subst (Gives c) (sym (is n o) ∙ ap number e ∙ is k l) t;
-        placed = subst (λ (k : ℕ). Placed k (offset (refusal n o))) (sym (is n o)) (subst (Placed n) (sym (at n o)) p);
+        offset-right = subst (λ (k : ℕ). OffsetRight k (offset (refusal n o))) (sym (is n o)) (subst (OffsetRight n) (sym (at n o)) p);
         number-is = λ k l e. ap number e ∙ is k l;
         offset-is = λ k l e. ap offset e ∙ at k l;
         accepted = λ h. absurd (h n o refl);
@@ -79,14 +79,14 @@ put k a b e h =
 pub done : (c : CallKind) → CallAnswer c Done
 done c = accepts c calledNumber calledOffset CallRefused Done (λ n o e. never (cc)) refl refl
 
-pub call-refused : (c : CallKind) (n o : ℕ) → Gives c n → Placed n o → CallAnswer c (CallRefused n o)
+pub call-refused : (c : CallKind) (n o : ℕ) → Gives c n → OffsetRight n o → CallAnswer c (CallRefused n o)
 call-refused c = refuses c calledNumber calledOffset CallRefused (λ n o. refl) (λ n o. refl)
 
 module _ (c : CallKind) {A : Type 0} (x : A) where
   pub takes : (y : A) → Call c x Done y
   takes y = record { answer = done c; state = taken x y }
 
-  pub turns-down : (n o : ℕ) → Gives c n → Placed n o → Call c x (CallRefused n o) x
+  pub turns-down : (n o : ℕ) → Gives c n → OffsetRight n o → Call c x (CallRefused n o) x
   turns-down n o t p = record { answer = call-refused c n o t p; state = same n x }
 
   pub refused : (n : ℕ) → Gives c n → Call c x (CallRefused n 0) x

@@ -21,7 +21,7 @@ use Rattle.pieces.specs.declared.Stage.the-variants.{Open, Ended, Faulty}
 use Rattle.pieces.specs.declared.CheckState.{CheckState}
 use Rattle.refusals.specs.Numbers.{verdictNumber, verdictOffset}
 use Rattle.refusals.specs.Table.{check, Gives}
-use Rattle.refusals.specs.Refusals.{IsRefusal, OfCheck, Placed, CheckAnswer, Checker}
+use Rattle.refusals.specs.Refusals.{IsRefusal, OfCheck, OffsetRight, CheckAnswer, Checker}
 use Rattle.refusals.proofs.Table.{of-image}
 use Rattle.refusals.proofs.Cases.{either, never, at-zero, accepts, refuses}
 
@@ -72,7 +72,7 @@ judged n rs (more o r w) s = go (eqb (faultOf rs r) 0) refl (judged n (r ∷ rs)
 accepted : CheckAnswer Accepted
 accepted = accepts check verdictNumber verdictOffset Refused Accepted (λ n o e. never (cc)) refl refl
 
-refused : (n o : ℕ) → Gives check n → Placed n o → CheckAnswer (Refused n o)
+refused : (n o : ℕ) → Gives check n → OffsetRight n o → CheckAnswer (Refused n o)
 refused = refuses check verdictNumber verdictOffset Refused (λ n o. refl) (λ n o. refl)
 
 -- what the check says of its verdict

@@ -28,10 +28,10 @@ use Rattle.device.specs.Device.{deviceNumber, turnRefused, turnIn, turnBy, repl
 use Rattle.device.specs.Numbers.{turningNumber, turningOffset, turningEvent, turningStray}
 use Rattle.device_states.specs.declared.Device.{Device}
 use Rattle.device.specs.declared.Turning.{Turning}
-use Rattle.device.specs.declared.Turning.the-variants.{Turned, Refused as TurnRefused}
+use Rattle.device.specs.declared.Turning.the-variants.{Done as TurnDone, Refused as TurnRefused}
 use Rattle.refusals.specs.Table as Table
 use Rattle.refusals.specs.Table.{CallKind, Gives}
-use Rattle.refusals.specs.Refusals.{IsRefusal, Placed, CheckAnswer, CallAnswer, HeldAlone, OwnCall, DeviceTurn, DeviceCall, OwnPart, OneDevice}
+use Rattle.refusals.specs.Refusals.{IsRefusal, OffsetRight, CheckAnswer, CallAnswer, HeldAlone, OwnCall, DeviceTurn, DeviceCall, OwnPart, OneDevice}
 use Rattle.refusals.proofs.Table.{Within, passed}
 use Rattle.refusals.proofs.Cases.{either, never, at-zero, accepts, refuses, taken, same, done, call-refused, turns-down, replied}
 use Rattle.refusals.proofs.Checked.{checked}
@@ -61,28 +61,28 @@ own-part = record { respond = own-respond; tick = own-tick }
 -- ---- one device
 
 -- the event that fired and the one that was stray
-event-of : (a : Turning) → HeldAlone turningEvent (λ e. Turned (Event e)) a
+event-of : (a : Turning) → HeldAlone turningEvent (λ e. TurnDone (Event e)) a
 event-of a = record { is = λ k e. ap turningEvent e; otherwise = go a }
   where
-    go : (a : Turning) → ((k : ℕ) → a ≢ Turned (Event k)) → turningEvent a ≡ none
-    go (Turned (Event k)) h = absurd (h k refl)
-    go (Turned (Stray k)) h = refl
-    go (Turned Nothing) h = refl
+    go : (a : Turning) → ((k : ℕ) → a ≢ TurnDone (Event k)) → turningEvent a ≡ none
+    go (TurnDone (Event k)) h = absurd (h k refl)
+    go (TurnDone (Stray k)) h = refl
+    go (TurnDone Nothing) h = refl
     go (TurnRefused n o) h = refl
 
-stray-of : (a : Turning) → HeldAlone turningStray (λ e. Turned (Stray e)) a
+stray-of : (a : Turning) → HeldAlone turningStray (λ e. TurnDone (Stray e)) a
 stray-of a = record { is = λ k e. ap turningStray e; otherwise = go a }
   where
-    go : (a : Turning) → ((k : ℕ) → a ≢ Turned (Stray k)) → turningStray a ≡ none
-    go (Turned (Event k)) h = refl
-    go (Turned (Stray k)) h = absurd (h k refl)
-    go (Turned Nothing) h = refl
+    go : (a : Turning) → ((k : ℕ) → a ≢ TurnDone (Stray k)) → turningStray a ≡ none
+    go (TurnDone (Event k)) h = refl
+    go (TurnDone (Stray k)) h = absurd (h k refl)
+    go (TurnDone Nothing) h = refl
     go (TurnRefused n o) h = refl
 
 start : (v : Verdict) (rs : List Record) → CheckAnswer v → CallAnswer Table.deviceStart (startBy v rs .answer)
 unfolding startBy
 start Accepted rs j = done Table.deviceStart
-start (Refused n o) rs j = call-refused Table.deviceStart n o (j .numbered n o refl) (j .placed)
+start (Refused n o) rs j = call-refused Table.deviceStart n o (j .numbered n o refl) (j .offset-right)
 
 module _ (rs : List Record) (d : Device) (m : ℕ) where
   -- 9 or 11, or 0
@@ -92,7 +92,7 @@ module _ (rs : List Record) (d : Device) (m : ℕ) where
   its-number : OfDevice (deviceNumber rs d m)
   its-number = either OfDevice (deviceFits rs d) (either OfDevice (ltb m (modulesOf rs)) (λ t. absurd (t refl)) (λ t. refl)) (λ t. refl)
 
-  turn-refused : (n o : ℕ) → Gives Table.turn n → Placed n o → DeviceTurn d (turnRefused d n o)
+  turn-refused : (n o : ℕ) → Gives Table.turn n → OffsetRight n o → DeviceTurn d (turnRefused d n o)
   turn-refused n o t p =
       record {
         answer = refuses Table.turn turningNumber turningOffset TurnRefused (λ n o. refl) (λ n o. refl) n o t p;
@@ -115,7 +115,7 @@ module _ (rs : List Record) (d : Device) (m : ℕ) where
   turn-by : (v : Verdict) → CheckAnswer v → DeviceTurn d (turnBy v rs d m)
   unfolding turnBy
   turn-by Accepted j = turn-in (deviceNumber rs d m) its-number
-  turn-by (Refused n o) j = turn-refused n o (passed Table.check Table.turn refl n (j .numbered n o refl)) (j .placed)
+  turn-by (Refused n o) j = turn-refused n o (passed Table.check Table.turn refl n (j .numbered n o refl)) (j .offset-right)
 
   -- a reply has the numbers of a turn, and those of the own part
   module _ (c own : CallKind) (all-turn : Within Table.turn c) (all-own : Within own c) (r : Replied) (k : OwnCall own (ownAt d m) r) where
@@ -130,7 +130,7 @@ module _ (rs : List Record) (d : Device) (m : ℕ) where
     reply-by : (v : Verdict) → CheckAnswer v → DeviceCall c d (replyBy v rs d m r)
     unfolding replyBy
     reply-by Accepted j = reply-in (deviceNumber rs d m) its-number
-    reply-by (Refused n o) j = turns-down c d n o (passed Table.turn c all-turn n (passed Table.check Table.turn refl n (j .numbered n o refl))) (j .placed)
+    reply-by (Refused n o) j = turns-down c d n o (passed Table.turn c all-turn n (passed Table.check Table.turn refl n (j .numbered n o refl))) (j .offset-right)
 
 pub one-device : OneDevice
 one-device =

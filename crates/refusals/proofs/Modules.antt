@@ -27,7 +27,7 @@ use Rattle.permits.specs.declared.Stepped.{Stepped}
 use Rattle.permits.specs.declared.Stepped.the-variants.{Refused as StepRefused}
 use Rattle.refusals.specs.Table as Table
 use Rattle.refusals.specs.Table.{CallKind, Gives}
-use Rattle.refusals.specs.Refusals.{Placed, CheckAnswer, CallAnswer, StepAnswer, OwnCall, StepBytes, ModuleStep, ModuleCall, Modules}
+use Rattle.refusals.specs.Refusals.{OffsetRight, CheckAnswer, CallAnswer, StepAnswer, OwnCall, StepBytes, ModuleStep, ModuleCall, Modules}
 use Rattle.refusals.proofs.Table.{Within, passed}
 use Rattle.refusals.proofs.Cases.{either, never, at-zero, accepts, refuses, taken, same, untouched, put, done, call-refused, takes, turns-down, refused, replied}
 use Rattle.refusals.proofs.Checked.{checked}
@@ -36,7 +36,7 @@ use Rattle.refusals.proofs.Device.{own-respond, own-tick}
 start : (v : Verdict) (rs : List Record) (m : ℕ) → CheckAnswer v → CallAnswer Table.start (startBy v rs m .answer)
 unfolding startBy
 start Accepted rs m j = either (λ (c : ModuleCalled). CallAnswer Table.start (c .answer)) (ltb m (modulesOf rs)) (done Table.start) (call-refused Table.start 11 0 refl (at-zero 11))
-start (Refused n o) rs m j = call-refused Table.start n o (passed Table.check Table.start refl n (j .numbered n o refl)) (j .placed)
+start (Refused n o) rs m j = call-refused Table.start n o (passed Table.check Table.start refl n (j .numbered n o refl)) (j .offset-right)
 
 -- the answer of an accepted step
 accepted : (rs : List Record) (m : ℕ) (x : Module) (c : Choice) → StepAnswer (answerBy rs m x c)
@@ -51,7 +51,7 @@ step-bytes a = record { turned = λ t k e. ap steppedBytes e; bids = λ v k e. a
 module _ (rs : List Record) (m : ℕ) (x : Module) where
   -- ---- a step
   module _ (b : List ℕ) where
-    step-refused : (n o : ℕ) → Gives Table.moduleStep n → Placed n o → ModuleStep x b (stepRefused x b n o)
+    step-refused : (n o : ℕ) → Gives Table.moduleStep n → OffsetRight n o → ModuleStep x b (stepRefused x b n o)
     step-refused n o t p =
         record {
           answer = refuses Table.moduleStep steppedNumber steppedOffset StepRefused (λ n o. refl) (λ n o. refl) n o t p;
@@ -74,7 +74,7 @@ module _ (rs : List Record) (m : ℕ) (x : Module) where
         either (ModuleStep x b) (ltb m (modulesOf rs))
         (either (ModuleStep x b) (moduleFits rs m x) (step-in (choice rs m x) _ refl) (step-refused 9 0 refl (at-zero 9)))
         (step-refused 11 0 refl (at-zero 11))
-    step-by (Refused n o) j = step-refused n o (passed Table.check Table.moduleStep refl n (j .numbered n o refl)) (j .placed)
+    step-by (Refused n o) j = step-refused n o (passed Table.check Table.moduleStep refl n (j .numbered n o refl)) (j .offset-right)
 
   -- ---- a delivery
   take : (g : Message) → ModuleCall Table.deliver x (takenBy rs m x g)
@@ -97,7 +97,7 @@ module _ (rs : List Record) (m : ℕ) (x : Module) where
   unfolding deliverBy
   deliver-by Accepted p j =
       either (ModuleCall Table.deliver x) (ltb m (modulesOf rs)) (either (ModuleCall Table.deliver x) (moduleFits rs m x) (deliver-in p) (refused Table.deliver x 9 refl)) (to-absent p)
-  deliver-by (Refused n o) p j = turns-down Table.deliver x n o (passed Table.check Table.deliver refl n (j .numbered n o refl)) (j .placed)
+  deliver-by (Refused n o) p j = turns-down Table.deliver x n o (passed Table.check Table.deliver refl n (j .numbered n o refl)) (j .offset-right)
 
   -- ---- a response and a tick
   module _ (c own : CallKind) (all-turn : Within Table.turn c) (all-own : Within own c) where
@@ -108,7 +108,7 @@ module _ (rs : List Record) (m : ℕ) (x : Module) where
         (either (ModuleCall c x) (moduleFits rs m x)
         (replied c x (withOwn x) (x .own) (r .own) (r .reply) refl (λ n e. passed own c all-own n (k .numbered n e)) (k .state)) (refused c x 9 (passed Table.turn c all-turn 9 refl)))
         (refused c x 11 (passed Table.turn c all-turn 11 refl))
-    reply-by (Refused n o) r k j = turns-down c x n o (passed Table.turn c all-turn n (passed Table.check Table.turn refl n (j .numbered n o refl))) (j .placed)
+    reply-by (Refused n o) r k j = turns-down c x n o (passed Table.turn c all-turn n (passed Table.check Table.turn refl n (j .numbered n o refl))) (j .offset-right)
 
 pub modules : Modules
 modules =

@@ -19,7 +19,7 @@ use Rattle.messages.specs.declared.Message.the-variants.{Bid, Permit, Release}
 use Rattle.messages.specs.declared.Parsed.{Parsed}
 use Rattle.messages.specs.declared.Parsed.the-variants.{Whole, Misshapen}
 use Rattle.permits.specs.Names.{named}
-use Rattle.permits.specs.Supervisor.{supervisorFits, served, sentTo, stepBytes, answerBy, stateAfter, stepRefused, stepIn, stepBy, heldBy, takenBy, deliverIn, absent, deliverBy, startBy}
+use Rattle.permits.specs.Supervisor.{supervisorFits, served, sentTo, stepBytes, answerBy, stateBy, stepRefused, stepIn, stepBy, heldBy, takenBy, deliverIn, absent, deliverBy, startBy}
 use Rattle.permits.specs.Step.{bytesOfMessages}
 use Rattle.permits.specs.Numbers.{servedNumber, servedOffset, servedBytes}
 use Rattle.permits.specs.declared.Supervisor.{Supervisor}
@@ -28,7 +28,7 @@ use Rattle.permits.specs.declared.Served.{Served}
 use Rattle.permits.specs.declared.Served.the-variants.{Refused as ServeRefused}
 use Rattle.refusals.specs.Table as Table
 use Rattle.refusals.specs.Table.{Gives}
-use Rattle.refusals.specs.Refusals.{Placed, CheckAnswer, CallAnswer, ServeAnswer, ServeBytes, SupervisorStep, SupervisorCall, Supervisors}
+use Rattle.refusals.specs.Refusals.{OffsetRight, CheckAnswer, CallAnswer, ServeAnswer, ServeBytes, SupervisorStep, SupervisorCall, Supervisors}
 use Rattle.refusals.proofs.Table.{passed}
 use Rattle.refusals.proofs.Cases.{either, never, at-zero, accepts, refuses, taken, same, untouched, put, done, call-refused, takes, turns-down, refused}
 use Rattle.refusals.proofs.Checked.{checked}
@@ -36,7 +36,7 @@ use Rattle.refusals.proofs.Checked.{checked}
 start : (w : Verdict) (rs : List Record) (v : ℕ) → CheckAnswer w → CallAnswer Table.start (startBy w rs v .answer)
 unfolding startBy
 start Accepted rs v j = either (λ (c : SupervisorCalled). CallAnswer Table.start (c .answer)) (ltb v (supervisorsOf rs)) (done Table.start) (call-refused Table.start 11 0 refl (at-zero 11))
-start (Refused n o) rs v j = call-refused Table.start n o (passed Table.check Table.start refl n (j .numbered n o refl)) (j .placed)
+start (Refused n o) rs v j = call-refused Table.start n o (passed Table.check Table.start refl n (j .numbered n o refl)) (j .offset-right)
 
 -- the answer of an accepted step
 accepted : (bytes : List ℕ) (t : Option ℕ) → ServeAnswer (answerBy bytes t)
@@ -50,7 +50,7 @@ serve-bytes a = record { sends = λ m k e. ap servedBytes e; waiting = λ e. ap 
 module _ (rs : List Record) (v : ℕ) (y : Supervisor) where
   -- ---- a step
   module _ (b : List ℕ) where
-    step-refused : (n o : ℕ) → Gives Table.supervisorStep n → Placed n o → SupervisorStep y b (stepRefused y b n o)
+    step-refused : (n o : ℕ) → Gives Table.supervisorStep n → OffsetRight n o → SupervisorStep y b (stepRefused y b n o)
     step-refused n o t p =
         record {
           answer = refuses Table.supervisorStep servedNumber servedOffset ServeRefused (λ n o. refl) (λ n o. refl) n o t p;
@@ -60,7 +60,7 @@ module _ (rs : List Record) (v : ℕ) (y : Supervisor) where
         }
 
     step-in : (t : Option ℕ) (q : Bool) → short (stepBytes rs v y t) b ≡ q
-        → SupervisorStep y b (cond q (stepRefused y b 15 0) (record { answer = answerBy (stepBytes rs v y t) t; state = stateAfter y t; buffer = written (stepBytes rs v y t) b }))
+        → SupervisorStep y b (cond q (stepRefused y b 15 0) (record { answer = answerBy (stepBytes rs v y t) t; state = stateBy y t; buffer = written (stepBytes rs v y t) b }))
     unfolding answerBy sentTo bytesOfMessages
     step-in t true e = step-refused 15 0 refl (at-zero 15)
     step-in none false e = record { answer = accepted (stepBytes rs v y none) none; state = taken y _; bytes = serve-bytes _; buffer = put 0 (stepBytes rs v y none) b refl (ltb-false _ _ e) }
@@ -73,7 +73,7 @@ module _ (rs : List Record) (v : ℕ) (y : Supervisor) where
         either (SupervisorStep y b) (ltb v (supervisorsOf rs))
         (either (SupervisorStep y b) (supervisorFits rs v y) (step-in (served y) _ refl) (step-refused 9 0 refl (at-zero 9)))
         (step-refused 11 0 refl (at-zero 11))
-    step-by (Refused n o) j = step-refused n o (passed Table.check Table.supervisorStep refl n (j .numbered n o refl)) (j .placed)
+    step-by (Refused n o) j = step-refused n o (passed Table.check Table.supervisorStep refl n (j .numbered n o refl)) (j .offset-right)
 
   -- ---- a delivery
   take : (g : Message) → SupervisorCall Table.deliver y (takenBy rs v y g)
@@ -96,7 +96,7 @@ module _ (rs : List Record) (v : ℕ) (y : Supervisor) where
   unfolding deliverBy
   deliver-by Accepted p j =
       either (SupervisorCall Table.deliver y) (ltb v (supervisorsOf rs)) (either (SupervisorCall Table.deliver y) (supervisorFits rs v y) (deliver-in p) (refused Table.deliver y 9 refl)) (to-absent p)
-  deliver-by (Refused n o) p j = turns-down Table.deliver y n o (passed Table.check Table.deliver refl n (j .numbered n o refl)) (j .placed)
+  deliver-by (Refused n o) p j = turns-down Table.deliver y n o (passed Table.check Table.deliver refl n (j .numbered n o refl)) (j .offset-right)
 
 pub supervisors : Supervisors
 supervisors =

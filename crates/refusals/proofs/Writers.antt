@@ -26,7 +26,7 @@ use Rattle.messages.specs.declared.Message.{Message}
 use Rattle.refusals.specs.Numbers.{writtenNumber, writtenOffset, writtenLength, rewrittenNumber, rewrittenOffset, rewrittenLength}
 use Rattle.refusals.specs.Table as Table
 use Rattle.refusals.specs.Table.{Gives}
-use Rattle.refusals.specs.Refusals.{Placed, CheckAnswer, Write, Rewrite, Print, Writers}
+use Rattle.refusals.specs.Refusals.{OffsetRight, CheckAnswer, Write, Rewrite, Print, Writers}
 use Rattle.refusals.proofs.Table.{passed}
 use Rattle.refusals.proofs.Cases.{either, never, at-zero, accepts, refuses, untouched, put}
 use Rattle.refusals.proofs.Checked.{checked}
@@ -56,14 +56,14 @@ write r b = either (Write r b) (inRange r) (go (ltb (length b) (sizeOf r)) refl)
         }
 
 -- an accepted plan
-rewrite-refused : (n o : ℕ) (s b : List ℕ) → Gives Table.rewrite n → Placed n o → Rewrite s b (CopyRefused n o)
+rewrite-refused : (n o : ℕ) (s b : List ℕ) → Gives Table.rewrite n → OffsetRight n o → Rewrite s b (CopyRefused n o)
 unfolding rewriteBuffer
 rewrite-refused n o s b t p =
     record { answer = refuses Table.rewrite rewrittenNumber rewrittenOffset CopyRefused (λ n o. refl) (λ n o. refl) n o t p; bytes = λ k e. ap rewrittenLength e; buffer = untouched n b }
 
 rewrite : (s b : List ℕ) (v : Verdict) → CheckAnswer v → Rewrite s b (rewriteAnswer v s b)
 unfolding rewriteAnswer rewriteBuffer
-rewrite s b (Refused n o) j = rewrite-refused n o s b (passed Table.check Table.rewrite refl n (j .numbered n o refl)) (j .placed)
+rewrite s b (Refused n o) j = rewrite-refused n o s b (passed Table.check Table.rewrite refl n (j .numbered n o refl)) (j .offset-right)
 rewrite s b Accepted j = go (ltb (length b) (length (planBytes s))) refl
   where
     go : (q : Bool) → ltb (length b) (length (planBytes s)) ≡ q → Rewrite s b (cond q (CopyRefused 15 0) (Copied (length (planBytes s))))
@@ -76,14 +76,14 @@ rewrite s b Accepted j = go (ltb (length b) (length (planBytes s))) refl
         }
 
 -- a plan on paper
-print-refused : (n o : ℕ) (s b : List ℕ) → Gives Table.printPlan n → Placed n o → Print s b (PrintRefused n o)
+print-refused : (n o : ℕ) (s b : List ℕ) → Gives Table.printPlan n → OffsetRight n o → Print s b (PrintRefused n o)
 unfolding printBuffer
 print-refused n o s b t p =
     record { answer = refuses Table.printPlan printedNumber printedOffset PrintRefused (λ n o. refl) (λ n o. refl) n o t p; bytes = λ k e. ap printedLength e; buffer = untouched n b }
 
 print : (s b : List ℕ) (v : Verdict) → CheckAnswer v → Print s b (printAnswer v s b)
 unfolding printAnswer printBuffer
-print s b (Refused n o) j = print-refused n o s b (passed Table.check Table.printPlan refl n (j .numbered n o refl)) (j .placed)
+print s b (Refused n o) j = print-refused n o s b (passed Table.check Table.printPlan refl n (j .numbered n o refl)) (j .offset-right)
 print s b Accepted j = go (ltb (length b) (length (planPageSet s))) refl
   where
     go : (q : Bool) → ltb (length b) (length (planPageSet s)) ≡ q → Print s b (cond q (PrintRefused 15 0) (Pages (length (planPageSet s))))

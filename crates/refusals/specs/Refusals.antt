@@ -42,7 +42,7 @@ use Rattle.device.specs.Device.{startCall, turnCall, respondCall, tickCall}
 use Rattle.device.specs.Numbers.{turningNumber, turningOffset, turningEvent, turningStray}
 use Rattle.device_states.specs.declared.Device.{Device}
 use Rattle.device.specs.declared.Turning.{Turning}
-use Rattle.device.specs.declared.Turning.the-variants.{Turned, Refused as TurnRefused}
+use Rattle.device.specs.declared.Turning.the-variants.{Done as TurnDone, Refused as TurnRefused}
 use Rattle.device.specs.declared.DeviceTurned.{DeviceTurned}
 use Rattle.device.specs.declared.DeviceCalled.{DeviceCalled}
 use Rattle.permits.specs.Module.{StepCall, moduleStep, moduleDeliver, moduleRespond, moduleTick, moduleStart}
@@ -51,7 +51,7 @@ use Rattle.permits.specs.Numbers.{steppedNumber, steppedOffset, steppedBytes, s
 use Rattle.permits.specs.declared.Module.{Module}
 use Rattle.permits.specs.declared.ModuleCalled.{ModuleCalled}
 use Rattle.permits.specs.declared.Stepped.{Stepped}
-use Rattle.permits.specs.declared.Stepped.the-variants.{Turned as Turns, Bids, Waits, Refused as StepRefused}
+use Rattle.permits.specs.declared.Stepped.the-variants.{Turns, Bids, Waits, Refused as StepRefused}
 use Rattle.permits.specs.declared.Supervisor.{Supervisor}
 use Rattle.permits.specs.declared.SupervisorCalled.{SupervisorCalled}
 use Rattle.permits.specs.declared.Served.{Served}
@@ -80,7 +80,7 @@ OfCheck Ended = Unit {0}
 OfCheck (Faulty n o) = (2 ≤ n) × (n ≤ 8)
 
 -- the number n stands with the byte offset o: "0 for 1 and for 9 and above"
-pub record Placed (n o : ℕ) : Type 0 where
+pub record OffsetRight (n o : ℕ) : Type 0 where
   pub long : n ≡ 1 → o ≡ 0
   pub call : 9 ≤ n → o ≡ 0
 
@@ -88,7 +88,7 @@ pub record Placed (n o : ℕ) : Type 0 where
 pub record Answer {E : Type 0} (c : CallKind) (number offset : E → ℕ) (refusal : ℕ → ℕ → E) (a : E) : Type 0 where
   -- a refusal has one of the numbers that its call may give
   pub numbered : (n o : ℕ) → a ≡ refusal n o → Gives c n
-  pub placed : Placed (number a) (offset a)
+  pub offset-right : OffsetRight (number a) (offset a)
   -- the definitions give what the refusal holds, and 0 and 0 for what is accepted
   pub number-is : (n o : ℕ) → a ≡ refusal n o → number a ≡ n
   pub offset-is : (n o : ℕ) → a ≡ refusal n o → offset a ≡ o
@@ -190,8 +190,8 @@ pub record DeviceTurn (d : Device) (c : DeviceTurned) : Type 0 where
   pub answer : TurnAnswer (c .answer)
   pub state : Unchanged (turningNumber (c .answer)) d (c .device)
   -- the event that fired and the one that was stray; a refused turn has neither
-  pub event : HeldAlone turningEvent (λ e. Turned (Event e)) (c .answer)
-  pub stray : HeldAlone turningStray (λ e. Turned (Stray e)) (c .answer)
+  pub event : HeldAlone turningEvent (λ e. TurnDone (Event e)) (c .answer)
+  pub stray : HeldAlone turningStray (λ e. TurnDone (Stray e)) (c .answer)
 
 -- the bytes that a step wrote; `Lent` says that a refused one wrote none
 pub record StepBytes (a : Stepped) : Type 0 where

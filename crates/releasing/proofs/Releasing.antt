@@ -117,11 +117,11 @@ module _ (rs : List Record) (m mask : ℕ) (t : Turn) where
   pub record Going (b₀ b : List ℕ) (at v : ℕ) : Type 0 where
     pub below : v ≤ 32
     pub room : length (sent 32) ≤ length b₀
-    pub place : at ≡ length (sent v)
+    pub offset : at ≡ length (sent v)
     pub bytes : b ≡ written (sent v) b₀
 
   pub begins : (b : List ℕ) → length (sent 32) ≤ length b → Going b b 0 0
-  begins b h = record { below = lit≤ tt; room = h; place = unfold releasesIn bytesOfMessages in refl; bytes = unfold releasesIn bytesOfMessages in refl }
+  begins b h = record { below = lit≤ tt; room = h; offset = unfold releasesIn bytesOfMessages in refl; bytes = unfold releasesIn bytesOfMessages in refl }
 
   module _ (b₀ b : List ℕ) (at v : ℕ) (g : Going b₀ b at v) where
     pub long-by : length b ≡ length b₀
@@ -153,9 +153,9 @@ module _ (rs : List Record) (m mask : ℕ) (t : Turn) where
             record {
               below = omega arith;
               room = g .room;
-              place = q ∙ ap (λ (i : ℕ). i + releaseSize) (g .place) ∙ sym (ap length more ∙ longer);
+              offset = q ∙ ap (λ (i : ℕ). i + releaseSize) (g .offset) ∙ sym (ap length more ∙ longer);
               bytes =
-                  p ∙ w ∙ ap₂ (λ (i : ℕ) (l : List ℕ). putAt (one v) i l) (g .place) (g .bytes)
+                  p ∙ w ∙ ap₂ (λ (i : ℕ) (l : List ℕ). putAt (one v) i l) (g .offset) (g .bytes)
                   ∙ written-more (sent v) (one v) b₀ (omega (arith, longer, length-append (sent v) (one v), room-by)) ∙ ap (λ (l : List ℕ). written l b₀) (sym more);
             }
 
@@ -165,7 +165,7 @@ module _ (rs : List Record) (m mask : ℕ) (t : Turn) where
           record {
             below = omega arith;
             room = g .room;
-            place = q ∙ g .place ∙ ap length (sym n);
+            offset = q ∙ g .offset ∙ ap length (sym n);
             bytes = p ∙ g .bytes ∙ ap (λ (l : List ℕ). written l b₀) (sym n);
           }
 

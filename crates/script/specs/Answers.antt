@@ -9,7 +9,7 @@ use Rattle.modules.specs.declared.Called.the-variants.{Done, Refused as CallRef
 use Rattle.modules.specs.Numbers.{calledNumber}
 use Rattle.device_states.specs.declared.Device.{Device}
 use Rattle.device.specs.declared.Turning.{Turning}
-use Rattle.device.specs.declared.Turning.the-variants.{Turned, Refused as TurnRefused}
+use Rattle.device.specs.declared.Turning.the-variants.{Done as TurnDone, Refused as TurnRefused}
 use Rattle.device.specs.Numbers.{turningNumber}
 use Rattle.texts.specs.Ascii.{ascii}
 use Rattle.texts.specs.Numbers.{spaced, spacedAll}
@@ -28,9 +28,9 @@ refusedLine n = ascii "refused" ++ spaced n ++ ascii "\n"
 
 -- "turn 1 event 2", "turn 0 none", "`turn M stray E`"
 unfoldable pub turnLine : ℕ → Turning → List ℕ
-turnLine m (Turned (Event e)) = ascii "turn" ++ spaced m ++ ascii " event" ++ spaced e ++ ascii "\n"
-turnLine m (Turned (Stray e)) = ascii "turn" ++ spaced m ++ ascii " stray" ++ spaced e ++ ascii "\n"
-turnLine m (Turned Nothing) = ascii "turn" ++ spaced m ++ ascii " none\n"
+turnLine m (TurnDone (Event e)) = ascii "turn" ++ spaced m ++ ascii " event" ++ spaced e ++ ascii "\n"
+turnLine m (TurnDone (Stray e)) = ascii "turn" ++ spaced m ++ ascii " stray" ++ spaced e ++ ascii "\n"
+turnLine m (TurnDone Nothing) = ascii "turn" ++ spaced m ++ ascii " none\n"
 turnLine m (TurnRefused n o) = refusedLine (turningNumber (TurnRefused n o))
 
 -- "response 1 queued 3"

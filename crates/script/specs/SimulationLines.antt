@@ -7,7 +7,7 @@ use Rattle.modules.specs.declared.Called.{Called}
 use Rattle.modules.specs.declared.Called.the-variants.{Done, Refused as CallRefused}
 use Rattle.modules.specs.Numbers.{calledNumber}
 use Rattle.permits.specs.declared.Stepped.{Stepped}
-use Rattle.permits.specs.declared.Stepped.the-variants.{Turned, Bids, Waits, Refused as StepRefused}
+use Rattle.permits.specs.declared.Stepped.the-variants.{Turns, Bids, Waits, Refused as StepRefused}
 use Rattle.permits.specs.declared.Served.{Served}
 use Rattle.permits.specs.declared.Served.the-variants.{Sends, Waits as ServedWaits, Refused as ServedRefused}
 use Rattle.permits.specs.Numbers.{steppedNumber, servedNumber}
@@ -27,9 +27,9 @@ tickLine m Done = ascii "tick" ++ spaced m ++ ascii "\n"
 tickLine m (CallRefused n o) = refusedLine (calledNumber (CallRefused n o))
 
 unfoldable pub steppedLine : ℕ → Stepped → List ℕ
-steppedLine m (Turned (Event e) k) = ascii "module" ++ spaced m ++ ascii " event" ++ spaced e ++ ascii "\n"
-steppedLine m (Turned (Stray e) k) = ascii "module" ++ spaced m ++ ascii " stray" ++ spaced e ++ ascii "\n"
-steppedLine m (Turned Nothing k) = ascii "module" ++ spaced m ++ ascii " none\n"
+steppedLine m (Turns (Event e) k) = ascii "module" ++ spaced m ++ ascii " event" ++ spaced e ++ ascii "\n"
+steppedLine m (Turns (Stray e) k) = ascii "module" ++ spaced m ++ ascii " stray" ++ spaced e ++ ascii "\n"
+steppedLine m (Turns Nothing k) = ascii "module" ++ spaced m ++ ascii " none\n"
 steppedLine m (Bids v k) = ascii "module" ++ spaced m ++ ascii " bids" ++ spaced v ++ ascii "\n"
 steppedLine m Waits = ascii "module" ++ spaced m ++ ascii " waits\n"
 steppedLine m (StepRefused n o) = refusedLine (steppedNumber (StepRefused n o))
@@ -39,7 +39,7 @@ servedLine v (Sends m k) = ascii "supervisor" ++ spaced v ++ ascii " permits" ++
 servedLine v ServedWaits = ascii "supervisor" ++ spaced v ++ ascii " waits\n"
 servedLine v (ServedRefused n o) = refusedLine (servedNumber (ServedRefused n o))
 
--- no message stands at the place
+-- no message stands at the index
 unfoldable pub nothingLine : List ℕ
 nothingLine = ascii "nothing\n"
 

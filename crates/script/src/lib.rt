@@ -178,7 +178,7 @@ pub fn turn_line(m: u8, a: Turning) -> Text
     ensures { λ r. ⌜ r ≡ textOf (turnLine m a) ⌝ }
 {
     match a {
-        Turning::Turned(t) => match t {
+        Turning::Done(t) => match t {
             Turn::Event(e) => long_line(b"turn", m, b" event", e),
             Turn::Stray(e) => long_line(b"turn", m, b" stray", e),
             Turn::Nothing => short_line(b"turn", m, b" none\n"),
@@ -254,7 +254,7 @@ pub fn stepped_line(m: u8, a: Stepped) -> Text
     ensures { λ r. ⌜ r ≡ textOf (steppedLine m a) ⌝ }
 {
     match a {
-        Stepped::Turned(t, _) => match t {
+        Stepped::Turns(t, _) => match t {
             Turn::Event(e) => long_line(b"module", m, b" event", e),
             Turn::Stray(e) => long_line(b"module", m, b" stray", e),
             Turn::Nothing => short_line(b"module", m, b" none\n"),

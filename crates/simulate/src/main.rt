@@ -9,7 +9,7 @@ use parties::Parties;
 use places::Places;
 use simulation::Answer;
 use texts::Text;
-use wire::Place;
+use wire::MessageAt;
 use wire::Wire;
 
 // One byte more than a plan may have, so that a longer file is seen to be one.
@@ -58,7 +58,7 @@ fn gathered(word: &[u8], r: Row, event: Maybe) -> Row {
 fn print_sent(w: Wire, from: usize) {
     let mut k = from;
     while k < w.count {
-        let Place::It(g) = wire::message_at(w, k) else {
+        let MessageAt::It(g) = wire::message_at(w, k) else {
             return;
         };
         print(answers::sent_line(g));

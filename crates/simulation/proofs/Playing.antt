@@ -30,15 +30,15 @@ use Rattle.permits.specs.declared.Supervisor.{Supervisor}
 use Rattle.permits.specs.declared.SupervisorCalled.{SupervisorCalled}
 use Rattle.permits.specs.declared.SupervisorStepped.{SupervisorStepped}
 use Rattle.permits.specs.declared.Stepped.{Stepped}
-use Rattle.permits.specs.declared.Stepped.the-variants.{Turned, Bids, Waits, Refused as StepRefused}
+use Rattle.permits.specs.declared.Stepped.the-variants.{Turns, Bids, Waits, Refused as StepRefused}
 use Rattle.permits.specs.declared.Served.{Served}
 use Rattle.permits.specs.declared.Served.the-variants.{Sends, Waits as ServedWaits, Refused as ServedRefused}
 use Rattle.permits.specs.Module.{moduleStep, moduleDeliver, moduleRespond, moduleTick}
 use Rattle.permits.specs.Supervisor.{supervisorStep, supervisorDeliver}
 use Rattle.permits.specs.Step.{Gave}
 use Rattle.wire.specs.declared.Wire.{Wire}
-use Rattle.wire.specs.declared.Place.{Place}
-use Rattle.wire.specs.declared.Place.the-variants.{It, Missing}
+use Rattle.wire.specs.declared.MessageAt.{MessageAt}
+use Rattle.wire.specs.declared.MessageAt.the-variants.{It, Missing}
 use Rattle.wire.specs.Wire.{under, withMessages, nthOf, without}
 use Rattle.acts.specs.declared.Act.{Act}
 use Rattle.acts.specs.declared.Act.the-variants.{Module as ModuleLine, Supervisor as SupervisorLine, Delivery as DeliveryLine, Response as ResponseLine, Tick as TickLine, Unfitted as UnfittedLine, Misshapen as MisshapenLine}
@@ -58,7 +58,7 @@ part-count b n {k} e = sym (length-take-le k b (omega arith))
 -- ---- the state after a step
 
 module _ (image : List ℕ) (p : Parties) (m : ℕ) (b : List ℕ) {a : Stepped} where
-  pub step-turned : {t : Turn} {n k : ℕ} {w : Wire} {d : DeviceTurned} {q r : Parties} → a ≡ Turned t n → k ≡ min n (length b) → w ≡ withMessages (p .wire) (releasesOf (take k b))
+  pub step-turned : {t : Turn} {n k : ℕ} {w : Wire} {d : DeviceTurned} {q r : Parties} → a ≡ Turns t n → k ≡ min n (length b) → w ≡ withMessages (p .wire) (releasesOf (take k b))
       → d ≡ turnCall image (p .device) m → q ≡ withWire p w → r ≡ withDevice q (d .device) → r ≡ afterStep image p m a b
   unfolding afterStep
   step-turned {n = n} e f g h i j =
@@ -195,7 +195,7 @@ module _ (g : Message) {n : ℕ} {b : List ℕ} (e : n ≡ length (messageBytes 
   pub bytes-are : take n b ≡ messageBytes g
   bytes-are = ap₂ (λ (k : ℕ) (l : List ℕ). take k l) e written-is ∙ take-append-seam (messageBytes g) _
 
-module _ (image : List ℕ) (p : Parties) (k : ℕ) {l : Place} (e : l ≡ nthOf (under (p .wire)) k) where
+module _ (image : List ℕ) (p : Parties) (k : ℕ) {l : MessageAt} (e : l ≡ nthOf (under (p .wire)) k) where
   pub delivery-none : l ≡ Missing → record { answer = NoMessage; play = p } ≡ delivered image p k
   unfolding deliveredBy
   delivery-none q = ap (deliveredBy image p k) (sym q ∙ e)
@@ -256,7 +256,7 @@ pub played-as : (image : List ℕ) (p : Parties) (a : Act) {r : Played} → r �
 unfolding played moduleStepped supervisorStepped deliveredBy toModule toSupervisor responded ticked callNumber deliveryNumber
 played-as image p a e = record { answer = e; number = ap (λ (x : Played). answerNumber (x .answer)) e ∙ number a }
   where
-    delivery : (k : ℕ) (l : Place) → answerNumber (deliveredBy image p k l .answer) ≡ deliveryNumber image p l
+    delivery : (k : ℕ) (l : MessageAt) → answerNumber (deliveredBy image p k l .answer) ≡ deliveryNumber image p l
     delivery k Missing = refl
     delivery k (It (Bid m v)) = refl
     delivery k (It (Permit v m x)) = refl

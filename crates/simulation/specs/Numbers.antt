@@ -10,8 +10,8 @@ use Rattle.messages.specs.declared.Message.the-variants.{Bid, Permit, Release}
 use Rattle.permits.specs.Module.{moduleStep, moduleDeliver, moduleRespond, moduleTick}
 use Rattle.permits.specs.Supervisor.{supervisorStep, supervisorDeliver}
 use Rattle.permits.specs.Numbers.{steppedNumber, servedNumber}
-use Rattle.wire.specs.declared.Place.{Place}
-use Rattle.wire.specs.declared.Place.the-variants.{It, Missing}
+use Rattle.wire.specs.declared.MessageAt.{MessageAt}
+use Rattle.wire.specs.declared.MessageAt.the-variants.{It, Missing}
 use Rattle.wire.specs.Wire.{under, nthOf}
 use Rattle.parties.specs.declared.Parties.{Parties}
 use Rattle.parties.specs.Parties.{moduleAt, supervisorAt}
@@ -23,7 +23,7 @@ use Rattle.simulation.specs.declared.Answer.the-variants.{Module, Superv
 use Rattle.simulation.specs.declared.Played.{Played}
 use Rattle.simulation.specs.Play.{lentFor, played}
 
--- that of the call's answer; 10 is "script line misshapen", and a place where no message stands has none
+-- that of the call's answer; 10 is "script line misshapen", and an index where no message stands has none
 abbrev pub answerNumber : Answer → ℕ
 answerNumber (Module m a) = steppedNumber a
 answerNumber (Supervisor v a) = servedNumber a
@@ -34,7 +34,7 @@ answerNumber (Tick m a) = calledNumber a
 answerNumber Misshapen = 10
 
 -- the same by the image, the parties and the line: the number that the call of a line gives
-unfoldable pub deliveryNumber : List ℕ → Parties → Place → ℕ
+unfoldable pub deliveryNumber : List ℕ → Parties → MessageAt → ℕ
 deliveryNumber image p Missing = 0
 deliveryNumber image p (It (Bid m v)) = calledNumber (supervisorDeliver image v (supervisorAt p v) (messageBytes (Bid m v)) .answer)
 deliveryNumber image p (It (Permit v m k)) = calledNumber (moduleDeliver image m (moduleAt p m) (messageBytes (Permit v m k)) .answer)

@@ -18,15 +18,15 @@ use Rattle.messages.specs.declared.Parsed.{Parsed}
 use Rattle.messages.specs.declared.Parsed.the-variants.{Whole, Misshapen as NoMessageBytes}
 use Rattle.device.specs.Device.{turnCall, respondCall, tickCall}
 use Rattle.permits.specs.declared.Stepped.{Stepped}
-use Rattle.permits.specs.declared.Stepped.the-variants.{Turned, Bids, Waits, Refused as StepRefused}
+use Rattle.permits.specs.declared.Stepped.the-variants.{Turns, Bids, Waits, Refused as StepRefused}
 use Rattle.permits.specs.declared.Served.{Served}
 use Rattle.permits.specs.declared.Served.the-variants.{Sends, Waits as ServedWaits, Refused as ServedRefused}
 use Rattle.permits.specs.Module as M
 use Rattle.permits.specs.Supervisor as S
 use Rattle.wire.specs.declared.Sent.{Sent}
 use Rattle.wire.specs.declared.Wire.{Wire}
-use Rattle.wire.specs.declared.Place.{Place}
-use Rattle.wire.specs.declared.Place.the-variants.{It, Missing}
+use Rattle.wire.specs.declared.MessageAt.{MessageAt}
+use Rattle.wire.specs.declared.MessageAt.the-variants.{It, Missing}
 use Rattle.wire.specs.Wire.{under, sent, withMessages, nthOf, without}
 use Rattle.parties.specs.declared.Parties.{Parties}
 use Rattle.parties.specs.Parties.{moduleAt, supervisorAt, withModule, withSupervisor, withWire, withDevice}
@@ -53,12 +53,12 @@ readAll (g ∷ gs) = read g ++ readAll gs
 unfoldable pub releasesOf : List ℕ → List Sent
 releasesOf bytes = readAll (pieces releaseSize (length bytes / releaseSize) bytes)
 
--- "128-byte output buffers"; where n messages more have no places the step is lent no buffer, and refuses by itself what it cannot write
+-- "128-byte output buffers"; where there is no room for n messages more the step is lent no buffer, and refuses by itself what it cannot write
 unfoldable pub lentFor : Wire → ℕ → List ℕ
 lentFor w n = cond (leb (w .count + n) 96) (replicate bufferLength 0) []
 
 unfoldable pub afterStep : List ℕ → Parties → ℕ → Stepped → List ℕ → Parties
-afterStep image p m (Turned t n) b = withDevice (withWire p (withMessages (p .wire) (releasesOf (take n b)))) (turnCall image (p .device) m .device)
+afterStep image p m (Turns t n) b = withDevice (withWire p (withMessages (p .wire) (releasesOf (take n b)))) (turnCall image (p .device) m .device)
 afterStep image p m (Bids v n) b = withWire p (withMessages (p .wire) (read (take n b)))
 afterStep image p m Waits b = p
 afterStep image p m (StepRefused n o) b = p
@@ -97,7 +97,7 @@ toSupervisor image p k v g =
     record { answer = Delivery g (c .answer); play = withWire (withSupervisor p v (c .state)) (wireAfter (p .wire) k (c .answer)) }
 
 -- the k-th message goes to the party that it names and that takes its kind
-unfoldable pub deliveredBy : List ℕ → Parties → ℕ → Place → Played
+unfoldable pub deliveredBy : List ℕ → Parties → ℕ → MessageAt → Played
 deliveredBy image p k Missing = record { answer = NoMessage; play = p }
 deliveredBy image p k (It (Bid m v)) = toSupervisor image p k v (Bid m v)
 deliveredBy image p k (It (Permit v m x)) = toModule image p k m (Permit v m x)

@@ -14,7 +14,7 @@ use parties::Parties;
 use permits::Served;
 use permits::Stepped;
 use water::Flow;
-use wire::Place;
+use wire::MessageAt;
 use wire::Wire;
 
 // What a line got.
@@ -76,7 +76,7 @@ fn after_step(image: &[u8], p: Parties, m: u8, a: Stepped, b: &[u8]) -> Parties
     let w = p.wire;
     let before = p.device;
     match a {
-        Stepped::Turned(_, n) => {
+        Stepped::Turns(_, n) => {
             let k = shorter(n, b.len());
             let next = send_releases(w, &b[..k]);
             let d = device::turn(image, before, m);
@@ -113,7 +113,7 @@ fn module_step(image: &[u8], p: Parties, m: u8) -> Played
 {
     let mut buffer = [0u8; messages::BUFFER_LENGTH];
     let w = p.wire;
-    if wire::has_places(w, 32) {
+    if wire::has_room(w, 32) {
         step_module(image, p, m, &mut buffer)
     } else {
         step_module(image, p, m, &mut buffer[..0])
@@ -155,7 +155,7 @@ fn supervisor_step(image: &[u8], p: Parties, v: u8) -> Played
 {
     let mut buffer = [0u8; messages::BUFFER_LENGTH];
     let w = p.wire;
-    if wire::has_places(w, 1) {
+    if wire::has_room(w, 1) {
         step_supervisor(image, p, v, &mut buffer)
     } else {
         step_supervisor(image, p, v, &mut buffer[..0])
@@ -208,7 +208,7 @@ fn to_supervisor(image: &[u8], p: Parties, k: usize, v: u8, g: Message, bytes: &
 // The message goes to the party that it names.
 fn to_party(image: &[u8], p: Parties, k: usize, g: Message, bytes: &[u8]) -> Played
     requires { ⌜ now bytes ≡ messageBytes g ⌝ }
-    ensures { λ r. ⌜ r ≡ deliveredBy (now (image .entry)) p k (Place.It g) ⌝ }
+    ensures { λ r. ⌜ r ≡ deliveredBy (now (image .entry)) p k (MessageAt.It g) ⌝ }
 {
     match g {
         Message::Bid {
@@ -232,7 +232,7 @@ fn delivery(image: &[u8], p: Parties, k: usize) -> Played
     ensures { λ r. ⌜ r ≡ delivered (now (image .entry)) p k ⌝ }
 {
     let w = p.wire;
-    let Place::It(g) = wire::message_at(w, k) else {
+    let MessageAt::It(g) = wire::message_at(w, k) else {
         return Played {
             answer: Answer::NoMessage,
             play: p,

@@ -30,15 +30,15 @@ use Rattle.device_states.specs.declared.Device.{Device}
 use Rattle.permits.specs.declared.Module.{Module}
 use Rattle.permits.specs.declared.Supervisor.{Supervisor}
 use Rattle.permits.specs.declared.Stepped.{Stepped}
-use Rattle.permits.specs.declared.Stepped.the-variants.{Turned, Bids, Waits, Refused}
+use Rattle.permits.specs.declared.Stepped.the-variants.{Turns, Bids, Waits, Refused}
 use Rattle.permits.specs.declared.Served.{Served}
 use Rattle.permits.specs.declared.Served.the-variants.{Sends, Waits as ServedWaits, Refused as ServedRefused}
 use Rattle.permits.specs.Module as M
 use Rattle.permits.specs.Supervisor as S
 use Rattle.wire.specs.declared.Sent.{Sent}
 use Rattle.wire.specs.declared.Wire.{Wire}
-use Rattle.wire.specs.declared.Place.{Place}
-use Rattle.wire.specs.declared.Place.the-variants.{It, Missing}
+use Rattle.wire.specs.declared.MessageAt.{MessageAt}
+use Rattle.wire.specs.declared.MessageAt.the-variants.{It, Missing}
 use Rattle.wire.specs.Wire as W
 use Rattle.wire.proofs.Lists.{lists, all-sound}
 use Rattle.parties.specs.declared.Parties.{Parties}
@@ -56,13 +56,13 @@ use Rattle.agreement.proofs.Bytes.{parse-bytes}
 use Rattle.agreement.proofs.Steps.{step-is, step-absent, serve-absent}
 use Rattle.agreement.proofs.Simulation.{pickedOf, pick-map, broughtWith, under-way-send}
 use Rattle.simulation_laws.specs.Calls.{bytesOf, systemOf, buffer, indexSent, callOf, answerSeen, Whole}
-use Rattle.simulation_laws.proofs.Wire.{Same, wire-grows, putBy, module-put, putOut, supervisor-put, placeOf, nth-pick, pick-rest, pick-under-way, brought-open}
+use Rattle.simulation_laws.proofs.Wire.{Same, wire-grows, putBy, module-put, putOut, supervisor-put, pickedMessage, nth-pick, pick-rest, pick-under-way, brought-open}
 use Rattle.simulation_laws.proofs.Party.{set-update, reply-stays, permit-stays, message-stays, device-stays}
 
 -- ---- the parties after a step, by what was put under way
 
 unfoldable turnedBy : List ℕ → Device → ℕ → Stepped → Device
-turnedBy image d m (Turned t n) = Dev.turnCall image d m .device
+turnedBy image d m (Turns t n) = Dev.turnCall image d m .device
 turnedBy image d m (Bids v n) = d
 turnedBy image d m Waits = d
 turnedBy image d m (Refused n o) = d
@@ -70,7 +70,7 @@ turnedBy image d m (Refused n o) = d
 after-step : (image : List ℕ) (q : Parties) (m : ℕ) (a : Stepped) (b : List ℕ)
     → Play.afterStep image q m a b ≡ P.withDevice (P.withWire q (W.withMessages (q .wire) (putBy a b))) (turnedBy image (q .device) m a)
 unfolding Play.afterStep putBy turnedBy W.withMessages
-after-step image q m (Turned t n) b = refl
+after-step image q m (Turns t n) b = refl
 after-step image q m (Bids v n) b = refl
 after-step image q m Waits b = refl
 after-step image q m (Refused n o) b = refl
@@ -101,7 +101,7 @@ module _ (p : Parties) (c : Whole p) where
   message-whole image k (Permit v m x) = whole-module m _ _ (p .device) (after-sound k _)
   message-whole image k (Release m v e) = whole-supervisor v _ _ (after-sound k _)
 
-  delivery-whole : (image : List ℕ) (k : ℕ) (o : Place) → Whole (Play.deliveredBy image p k o .play)
+  delivery-whole : (image : List ℕ) (k : ℕ) (o : MessageAt) → Whole (Play.deliveredBy image p k o .play)
   delivery-whole image k Missing = unfold Play.deliveredBy in c
   delivery-whole image k (It g) = message-whole image k g
 
@@ -231,8 +231,8 @@ module _ (image : List ℕ) (plan : IsPlan image) (T : TurnLaws (recordsOf image
     done b f = let h = brought-open (A.at j w) b f in subst (λ (bytes : List ℕ). answerTo image here bytes (parse bytes) ≡ Done) (h .3) (t j (h .0) (h .1) (h .2))
 
     brought-here : (o : Option (Picked Sent)) (b : Option (List ℕ)) → pick k (W.under (p .wire)) ≡ o → A.brought j w ≡ b → pickedOf bytesOf o ≡ broughtWith b (A.underWay (A.mark j w))
-        → Is (Play.deliveredBy image p k (placeOf o) .play) (A.deliveredAt image here j b)
-    unfolding placeOf A.deliveredAt
+        → Is (Play.deliveredBy image p k (pickedMessage o) .play) (A.deliveredAt image here j b)
+    unfolding pickedMessage A.deliveredAt
     brought-here none none e f q = unfold Play.deliveredBy in (record { states = refl; wire = same })
     brought-here none (some b) e f q = unfold pickedOf broughtWith in (let z : _≡_ {A = ℕ} 0 1 = cc in absurd (omega arith))
     brought-here (some g) none e f q = unfold pickedOf broughtWith in (let z : _≡_ {A = ℕ} 0 1 = cc in absurd (omega arith))
@@ -245,7 +245,7 @@ module _ (image : List ℕ) (plan : IsPlan image) (T : TurnLaws (recordsOf image
     delivery : Is (Play.delivered image p k .play) (A.step image here (A.deliver j))
     unfolding A.step
     delivery =
-        subst (λ (o : Place). Is (Play.deliveredBy image p k o .play) (A.deliveredAt image here j (A.brought j w))) (sym (nth-pick k (W.under (p .wire))))
+        subst (λ (o : MessageAt). Is (Play.deliveredBy image p k o .play) (A.deliveredAt image here j (A.brought j w))) (sym (nth-pick k (W.under (p .wire))))
         (brought-here (pick k (W.under (p .wire))) (A.brought j w) refl refl (sym (pick-map bytesOf k (W.under (p .wire))) ∙ ap (pick k) same ∙ pick-under-way k w))
 
   responded : (m e : ℕ) → Is (Play.responded image p m e .play) (A.step image here (A.respond m e))
@@ -302,7 +302,7 @@ module _ (image : List ℕ) (plan : IsPlan image) (T : TurnLaws (recordsOf image
       go true q = sym e
       go false q = device-stays rs (verdictOf image) plan (p .device) m r (ltb-false m (modulesOf rs) q)
 
-  delivery-fed : (k : ℕ) (o : Place) → Play.deliveredBy image p k o .play .device ≡ p .device
+  delivery-fed : (k : ℕ) (o : MessageAt) → Play.deliveredBy image p k o .play .device ≡ p .device
   unfolding Play.deliveredBy Play.toModule Play.toSupervisor
   delivery-fed k Missing = refl
   delivery-fed k (It (Bid m v)) = refl
@@ -346,7 +346,7 @@ module _ (image : List ℕ) (plan : IsPlan image) (T : TurnLaws (recordsOf image
       let k = M.moduleTick image m (P.moduleAt p m) f in
       ap (λ (x : Module). cond (ltb m (modulesOf rs)) (C.callSeen m (k .answer) (x .own) ∷ []) []) (state-after (Play.ticked image p m f .play) m (k .state) _ (ticked m f))
 
-  delivery-seen : (q : Parties) (k : ℕ) (o : Place) → answerSeen rs q (Play.deliveredBy image p k o .answer) ≡ []
+  delivery-seen : (q : Parties) (k : ℕ) (o : MessageAt) → answerSeen rs q (Play.deliveredBy image p k o .answer) ≡ []
   unfolding answerSeen Play.deliveredBy Play.toModule Play.toSupervisor
   delivery-seen q k Missing = refl
   delivery-seen q k (It (Bid m v)) = refl

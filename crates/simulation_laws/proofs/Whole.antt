@@ -111,7 +111,7 @@ module _ (image : List ℕ) (bytes : (i : ℕ) → getD image i 0 < 256) (plan :
   few-from p done n f =
       let e : length (map bytesOf (under (p .wire))) ≡ length (A.underWay (A.run image (A.start image) done .sent)) = ap length (f .system .wire) in
       let k : length (map bytesOf (under (p .wire))) ≡ min (p .wire .count) (length (p .wire .messages)) = length-map (under (p .wire)) bytesOf ∙ length-take (p .wire .count) (p .wire .messages) in
-      omega (arith, e, k, f .whole .wire .places, f .whole .wire .counted, few-under-way image plan T done n)
+      omega (arith, e, k, f .whole .wire .capacity, f .whole .wire .counted, few-under-way image plan T done n)
 
   -- a line after them
   module _ (a : Line) (p : Parties) (done : List A.Act) (n : A.AllLent done) (f : From p done) where

@@ -21,7 +21,7 @@ use Rattle.messages.specs.declared.Message.the-variants.{Permit, Release}
 use Rattle.permits.specs.declared.Module.{Module}
 use Rattle.permits.specs.declared.Supervisor.{Supervisor}
 use Rattle.permits.specs.declared.Stepped.{Stepped}
-use Rattle.permits.specs.declared.Stepped.the-variants.{Turned, Bids, Waits, Refused}
+use Rattle.permits.specs.declared.Stepped.the-variants.{Turns, Bids, Waits, Refused}
 use Rattle.permits.specs.declared.Served.{Served}
 use Rattle.permits.specs.declared.Served.the-variants.{Sends, Waits as ServedWaits, Refused as ServedRefused}
 use Rattle.permits.specs.Module as M
@@ -30,8 +30,8 @@ use Rattle.permits.specs.Step.{bytesOfMessages}
 use Rattle.permits.proofs.Stepping.{bytes-one}
 use Rattle.wire.specs.declared.Sent.{Sent}
 use Rattle.wire.specs.declared.Wire.{Wire}
-use Rattle.wire.specs.declared.Place.{Place}
-use Rattle.wire.specs.declared.Place.the-variants.{It, Missing}
+use Rattle.wire.specs.declared.MessageAt.{MessageAt}
+use Rattle.wire.specs.declared.MessageAt.the-variants.{It, Missing}
 use Rattle.wire.specs.Wire as W
 use Rattle.wire.proofs.Lists.{all-are}
 use Rattle.simulation.specs.Play.{readBy, read, readAll, releasesOf}
@@ -103,7 +103,7 @@ module _ (rs : List Record) (m : ℕ) (t : Turn) where
 
 -- what the simulation puts under way
 unfoldable pub putBy : Stepped → List ℕ → List Sent
-putBy (Turned t n) b = releasesOf (take n b)
+putBy (Turns t n) b = releasesOf (take n b)
 putBy (Bids v n) b = read (take n b)
 putBy Waits b = []
 putBy (Refused n o) b = []
@@ -183,7 +183,7 @@ module _ (rs : List Record) (v : ℕ) (x : Supervisor) (b : List ℕ) (small : s
   supervisor-put Accepted = go (ltb v (supervisorsOf rs)) (S.supervisorFits rs v x) (short (bytesFor (S.served x)) b)
     where
       call : S.ServeCall
-      call = record { answer = S.answerBy (bytesFor (S.served x)) (S.served x); state = S.stateAfter x (S.served x); buffer = written (bytesFor (S.served x)) b }
+      call = record { answer = S.answerBy (bytesFor (S.served x)) (S.served x); state = S.stateBy x (S.served x); buffer = written (bytesFor (S.served x)) b }
 
       go : (a f s : Bool) → PutOut (cond a (cond f (cond s (S.stepRefused x b 15 0) call) (S.stepRefused x b 9 0)) (S.stepRefused x b 11 0))
       go true true true = refused-out 15 0
@@ -192,19 +192,19 @@ module _ (rs : List Record) (v : ℕ) (x : Supervisor) (b : List ℕ) (small : s
       go false f s = refused-out 11 0
   supervisor-put (PlanRefused n o) = refused-out n o
 
--- ---- the message at a place
+-- ---- the message at an index
 
-unfoldable pub placeOf : Option (Picked Sent) → Place
-placeOf none = Missing
-placeOf (some q) = It (q .item .message)
+unfoldable pub pickedMessage : Option (Picked Sent) → MessageAt
+pickedMessage none = Missing
+pickedMessage (some q) = It (q .item .message)
 
-pub nth-pick : (k : ℕ) (l : List Sent) → W.nthOf l k ≡ placeOf (pick k l)
-unfolding W.nthOf pick placeOf
+pub nth-pick : (k : ℕ) (l : List Sent) → W.nthOf l k ≡ pickedMessage (pick k l)
+unfolding W.nthOf pick pickedMessage
 nth-pick k [] = refl
 nth-pick zero (s ∷ l) = refl
 nth-pick (suc k) (s ∷ l) = nth-pick k l ∙ go (pick k l)
   where
-    go : (o : Option (Picked Sent)) → placeOf o ≡ placeOf (behind s o)
+    go : (o : Option (Picked Sent)) → pickedMessage o ≡ pickedMessage (behind s o)
     go none = unfold behind in refl
     go (some q) = unfold behind in refl
 

@@ -111,7 +111,7 @@ module _ (image : List ℕ) (lines : List Line) where
     -- "each turn taken, response and tick gets the answer that the one-device controller gives for the same turns, responses and ticks in the
     -- same order": the answers are those of the calls, to which demand 3's clause `equal` applies
     pub answers : allSeen image (P.start image) lines ≡ seen image (start image) calls
-    -- the arrays keep their lengths, and at most a bid of each module and one message for each permit are under way: of 96 places there are
+    -- the arrays keep their lengths, and at most a bid of each module and one message for each permit are under way: of the wire's 96 there are
     -- always 32 left for the releases of a turn
     pub whole : Whole parties
     pub few : parties .wire .count ≤ 48

@@ -12,14 +12,14 @@ use Rattle.party_bytes.specs.Supervisor.{supervisorSize, supervisorBytes, super
 use Rattle.packing.specs.Answer.{Answer, calledAnswer, servedAnswer, lentAfter, startAnswer}
 
 -- the state's bytes s after a call of number n that leaves the supervisor y
-abbrev pub supervisorAfter : ℕ → Supervisor → List ℕ → List ℕ
-supervisorAfter n y s = lentAfter n (putAt (supervisorBytes y) 0 s) s
+abbrev pub supervisorBytesAfter : ℕ → Supervisor → List ℕ → List ℕ
+supervisorBytesAfter n y s = lentAfter n (putAt (supervisorBytes y) 0 s) s
 
 abbrev pub calledOn : SupervisorCalled → List ℕ → Answer
-calledOn c s = record { number = calledAnswer (c .answer); state = supervisorAfter (calledNumber (c .answer)) (c .state) s; buffer = [] }
+calledOn c s = record { number = calledAnswer (c .answer); state = supervisorBytesAfter (calledNumber (c .answer)) (c .state) s; buffer = [] }
 
 abbrev pub steppedOn : Served → Supervisor → List ℕ → List ℕ → Answer
-steppedOn a y s buffer = record { number = servedAnswer a; state = supervisorAfter (servedNumber a) y s; buffer = buffer }
+steppedOn a y s buffer = record { number = servedAnswer a; state = supervisorBytesAfter (servedNumber a) y s; buffer = buffer }
 
 unfoldable pub startBytes : List ℕ → ℕ → List ℕ → Answer
 startBytes image v b = startAnswer supervisorSize (supervisorStart image v .answer) (supervisorBytes (supervisorStart image v .state)) b

@@ -25,7 +25,7 @@ use Rattle.messages.specs.Write.{Wrote}
 use Rattle.messages.specs.declared.Message.the-variants.{Permit}
 use Rattle.messages.proofs.Writing.{turned-round, start-fits, put-start, put-short}
 use Rattle.permits.specs.Step.{bytesOfMessages, Gave}
-use Rattle.permits.specs.Supervisor.{withNoted, withHolder, withLast, supervisorFits, served, afterSend, sentTo, answerBy, stateAfter, stepRefused, stepIn, stepBy, supervisorStep}
+use Rattle.permits.specs.Supervisor.{withNoted, withHolder, withLast, supervisorFits, served, afterSend, sentTo, answerBy, stateBy, stepRefused, stepIn, stepBy, supervisorStep}
 use Rattle.permits.specs.declared.Supervisor.{Supervisor}
 use Rattle.permits.specs.declared.SupervisorStepped.{SupervisorStepped}
 use Rattle.permits.specs.declared.Holder.the-variants.{Out}
@@ -57,7 +57,7 @@ module _ (rs : List Record) (v : ℕ) (y : Supervisor) (b : List ℕ) where
     tested = turned-round (short bytes b) t (wrote .answer ∙ start-fits bytes b)
 
     pub sends-by : {l : ℕ} {s : Supervisor} → t ≡ true → s ≡ afterSend y m → l ≡ length (messageBytes (Permit v m k)) → Gave (stepIn rs v y b (some m)) (Sends m l) s after
-    unfolding stepIn sentTo answerBy stateAfter
+    unfolding stepIn sentTo answerBy stateBy
     sends-by h f g =
         let z : short bytes b ≡ false = tested ∙ ap not h in
         rw (bytes-one (Permit v m (shown rs v (y .state))), z)
@@ -71,7 +71,7 @@ module _ (rs : List Record) (v : ℕ) (y : Supervisor) (b : List ℕ) where
 
   -- what follows from the module that is served
   pub waits-by : {o : Maybe} → optionOf o ≡ served y → o ≡ Nothing → Gave (stepIn rs v y b (served y)) Waits y b
-  unfolding stepIn sentTo bytesOfMessages answerBy stateAfter
+  unfolding stepIn sentTo bytesOfMessages answerBy stateBy
   waits-by e f =
       gives (ap (stepIn rs v y b) (ap optionOf (sym f) ∙ e)) (simp (le-ltb (length b) 0 (omega arith)) (record { answer = refl; state = refl; buffer = refl }))
 

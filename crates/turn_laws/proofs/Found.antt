@@ -18,7 +18,7 @@ use Rattle.reader.specs.Find.{findIn, found}
 use Rattle.reader.specs.declared.Found.{Found}
 use Rattle.reader.specs.declared.Found.the-variants.{It, Missing}
 use Rattle.rules.specs.LookUp.{field2, field3, wordField, fieldOf, moduleIn, supervisorIn, alphabetOf}
-use Rattle.plan.specs.Plan.{field4, target, moduleMove, supervisorMove, shown, counts, counting, stepIn, operationOf, operandOf}
+use Rattle.plan.specs.Plan.{field4, target, moduleMove, supervisorMove, shown, counts, counting, procedureStep, operationOf, operandOf}
 use Rattle.accepted.specs.Plan.{_∈_, ModuleLaw, ModuleMoveLaw, SupervisorLaw, SupervisorMoveLaw, DisablingLaw, StepLaw, Sound}
 use Rattle.accepted.proofs.Look.{some-found}
 
@@ -100,16 +100,16 @@ module _ (rs : List Record) (plan : Sound rs) where
   unfolding fieldOf wordField
   disabling-law v x = at (keyBy 0x16 v x 0) (λ l. DisablingLaw rs v x (fieldOf wordField l)) (λ r. plan .laws (keyed (keyBy 0x16 v x 0) r))
 
-  pub step-law : (e i : ℕ) → T (found (stepIn rs e i)) → StepLaw rs e i (operationOf rs e i) (operandOf rs e i)
+  pub step-law : (e i : ℕ) → T (found (procedureStep rs e i)) → StepLaw rs e i (operationOf rs e i) (operandOf rs e i)
   unfolding fieldOf field3 wordField
   step-law e i t =
       let p : RecordKey = keyBy 0x17 e i 0 in
-      let c : stepIn rs e i ≡ findIn p rs = counted (findIn p rs) t in
+      let c : procedureStep rs e i ≡ findIn p rs = counted (findIn p rs) t in
       subst (λ (l : Found). StepLaw rs e i (fieldOf field3 l) (fieldOf wordField l)) (sym c)
       (at p (λ l. StepLaw rs e i (fieldOf field3 l) (fieldOf wordField l)) (λ r. plan .laws (keyed p r)) (subst (λ (l : Found). T (found l)) c t))
 
   -- every listed step counts: its fields are in range, and what it responds with is an event's number
-  pub step-listed : (e i : ℕ) → stepIn rs e i ≡ findIn (keyBy 0x17 e i 0) rs
+  pub step-listed : (e i : ℕ) → procedureStep rs e i ≡ findIn (keyBy 0x17 e i 0) rs
   unfolding counting found field3 wordField
   step-listed e i = go (findIn p rs) refl (found (findIn p rs)) refl
     where

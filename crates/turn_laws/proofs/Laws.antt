@@ -17,7 +17,7 @@ use Rattle.accepted.proofs.Accepted.{every-plan}
 use Rattle.modules.specs.declared.Own.{Own}
 use Rattle.modules.specs.Turn.{startOwn}
 use Rattle.modules.specs.Fits.{ownFits}
-use Rattle.turn_laws.specs.Laws.{fitsAt, TurnLaws}
+use Rattle.turn_laws.specs.Laws.{ownFitsAt, TurnLaws}
 use Rattle.turn_laws.proofs.Plan.{asked}
 use Rattle.turn_laws.proofs.Found as found
 use Rattle.turn_laws.proofs.Plan as plan
@@ -29,7 +29,7 @@ use Rattle.turn_laws.proofs.Respond as respond
 use Rattle.turn_laws.proofs.Tick as tick
 
 -- what keeps the fit of a module that the plan has
-kept : (rs : List Record) (m : ℕ) (a b : Own) → (T (ownFits rs m a) → T (ownFits rs m b)) → fitsAt rs m a ≡ true → fitsAt rs m b ≡ true
+kept : (rs : List Record) (m : ℕ) (a b : Own) → (T (ownFits rs m a) → T (ownFits rs m b)) → ownFitsAt rs m a ≡ true → ownFitsAt rs m b ≡ true
 kept rs m a b f e =
     asked (ltb m (modulesOf rs)) (ownFits rs m b)
     (λ h. is-true (ownFits rs m b) (f (holds _ (subst (λ (t : Bool). cond t (ownFits rs m a) true ≡ true) h e))))
@@ -64,13 +64,13 @@ turn-laws rs s w = record {
   tick-state = λ f a. tick.tick-state rs a f;
   tick-fits = λ m f a. kept rs m a _ (λ t. tick.tick-fits rs a s m t f);
   sizes = λ m a t. own.sizes rs s m a (holds _ t);
-  start-places = λ m. refl;
-  turn-places = λ m k a. turn.turn-places rs m a k;
-  respond-places = respond.respond-places rs;
-  tick-places = λ f a. tick.tick-places rs a f;
+  start-cells = λ m. refl;
+  turn-cells = λ m k a. turn.turn-cells rs m a k;
+  respond-cells = respond.respond-cells rs;
+  tick-cells = λ f a. tick.tick-cells rs a f;
   queue-of = queue.queue-of;
   queue-length = queue.queue-length;
-  queue-places = λ m a t. queue.queue-places rs m a (procedure.parts rs m a (holds _ t) .queue);
+  queue-cells = λ m a t. queue.queue-cells rs m a (procedure.parts rs m a (holds _ t) .queue);
   queued-last = λ m e a t p. queue.queued-last rs m a (procedure.parts rs m a (holds _ t) .queue) p e;
   head-removed = λ m e q a t p. queue.head-removed rs m a (procedure.parts rs m a (holds _ t) .queue) p e q;
 }

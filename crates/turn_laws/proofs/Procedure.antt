@@ -13,7 +13,7 @@ use Rattle.litres.specs.Eighths.{targetOk}
 use Rattle.records.specs.declared.Record.{Record}
 use Rattle.reader.specs.Find.{found}
 use Rattle.rules.specs.LookUp.{moduleState, ownerOf}
-use Rattle.plan.specs.Plan.{ownEvent, stepIn, operationOf, operandOf}
+use Rattle.plan.specs.Plan.{ownEvent, procedureStep, operationOf, operandOf}
 use Rattle.accepted.specs.Plan.{StepLaw, Sound}
 use Rattle.rules.proofs.Valid.{both}
 use Rattle.water.specs.Water.{noWater, waterOf, waterZero, running}
@@ -28,9 +28,9 @@ use Rattle.water.proofs.Laws.{total-small}
 use Rattle.turn_laws.proofs.Water.{waterZero-none, starts}
 
 -- a test chosen by another one
-pub chosen : (a b c : Bool) → (a ≡ true → T b) → (a ≡ false → T c) → T (cond a b c)
-chosen true b c f g = f refl
-chosen false b c f g = g refl
+pub cond-holds : (a b c : Bool) → (a ≡ true → T b) → (a ≡ false → T c) → T (cond a b c)
+cond-holds true b c f g = f refl
+cond-holds false b c f g = g refl
 
 pub if-so : (a b c : Bool) → a ≡ true → T (cond a b c) → T b
 if-so a b c e t = subst (λ (x : Bool). T (cond x b c)) e t
@@ -71,7 +71,7 @@ pub record Parts (rs : List Record) (m : ℕ) (own : Own) : Type 0 where
   pub procedure : T (procedureFits rs m (own .procedure))
 
 pub record StepParts (rs : List Record) (m : ℕ) (p : Procedure) : Type 0 where
-  pub there : T (found (stepIn rs (p .event) (p .index)))
+  pub there : T (found (procedureStep rs (p .event) (p .index)))
   pub own-event : T (ownEvent rs m (p .event))
   pub ticks : T (cond (eqb (operationAt rs p) 3) (ltb (p .count) (operandAt rs p)) (eqb (p .count) 0))
   pub water : T (cond (eqb (operationAt rs p) 4) (running (operandAt rs p) (p .water)) (waterZero (p .water)))
@@ -116,7 +116,7 @@ module _ (rs : List Record) (m : ℕ) where
 module _ (rs : List Record) (plan : Sound rs) (m : ℕ) where
   pub arrives : (e i : ℕ) → T (ownEvent rs m e) → T (procedureFits rs m (arriveAt rs e i))
   unfolding arriveAt
-  arrives e i t = go (found (stepIn rs e i)) refl
+  arrives e i t = go (found (procedureStep rs e i)) refl
     where
       o : ℕ
       o = operationOf rs e i
@@ -131,13 +131,13 @@ module _ (rs : List Record) (plan : Sound rs) (m : ℕ) where
       begins r true q = starts x (litres-range o x r (eqb-true o 4 q))
       begins r false q = waterZero-none
 
-      go : (b : Bool) → found (stepIn rs e i) ≡ b → T (procedureFits rs m (cond b begun idle))
+      go : (b : Bool) → found (procedureStep rs e i) ≡ b → T (procedureFits rs m (cond b begun idle))
       go true f =
           let r : operandInRange o x ≡ true = step-law rs plan e i (holds _ f) .operand in
           step-whole rs m begun refl (record {
             there = holds _ f;
             own-event = t;
-            ticks = chosen (eqb o 3) (ltb 0 x) true (λ q. lt→ltb 0 x (wait-range o x r (eqb-true o 3 q) .0)) (λ q. tt);
+            ticks = cond-holds (eqb o 3) (ltb 0 x) true (λ q. lt→ltb 0 x (wait-range o x r (eqb-true o 3 q) .0)) (λ q. tt);
             water = begins r (eqb o 4) refl;
           })
       go false f = idle-fits rs m

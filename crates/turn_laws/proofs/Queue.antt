@@ -1,4 +1,4 @@
--- The queue fits with a response more or less, and keeps its eight places.
+-- The queue fits with a response more or less, and keeps its eight cells.
 use Prim.Native.Nat.{ℕ, zero, suc, _+_, _-_, _≤_, _<_}
 use native.Mathlib.Omega.{arith}
 use mathlib.Core.Path.{_≡_, refl, sym, ap, ap₂, _∙_, subst}
@@ -12,9 +12,9 @@ use Rattle.records.specs.declared.Record.{Record}
 use Rattle.plan.specs.Plan.{ownUncontrollable}
 use Rattle.rules.proofs.Valid.{both}
 use Rattle.modules.specs.declared.Own.{Own}
-use Rattle.modules.specs.Queue.{queueOf, places, withQueue, queued}
+use Rattle.modules.specs.Queue.{queueOf, cells, withQueue, queued}
 use Rattle.modules.specs.Fits.{every, queueFits}
-use Rattle.turn_laws.specs.Laws.{EightPlaces}
+use Rattle.turn_laws.specs.Laws.{EightCells}
 
 zeros : (n : ℕ) → T (every (λ x. eqb x 0) (replicate n 0))
 unfolding every
@@ -30,9 +30,9 @@ every-end p (x ∷ q) e t u = and-i (p x) _ (and-l (p x) (every p q) t) (every-e
 pub at-most : (own : Own) → length (queueOf own) ≤ own .length
 at-most own = omega (arith, length-take (own .length) (own .queue))
 
--- nor more than it has places
-pub in-places : (own : Own) → EightPlaces own → length (queueOf own) ≤ 8
-in-places own h = omega (arith, length-take (own .length) (own .queue))
+-- nor more than it has cells
+pub in-cells : (own : Own) → EightCells own → length (queueOf own) ≤ 8
+in-cells own h = omega (arith, length-take (own .length) (own .queue))
 
 pub one-more : (q : List ℕ) (e : ℕ) → length (q ++ (e ∷ [])) ≡ suc (length q)
 one-more q e = omega (arith, length-append q (e ∷ []))
@@ -40,7 +40,7 @@ one-more q e = omega (arith, length-append q (e ∷ []))
 pub queue-of : (own : Own) (q : List ℕ) → queueOf (withQueue own q) ≡ q
 queue-of own q = take-append-seam q (replicate (8 - length q) 0)
 
-pub queue-length : (own : Own) → own .length ≤ 8 → EightPlaces own → length (queueOf own) ≡ own .length
+pub queue-length : (own : Own) → own .length ≤ 8 → EightCells own → length (queueOf own) ≡ own .length
 queue-length own h p = length-take-le (own .length) (own .queue) (omega arith)
 
 zeros-are : (l : List ℕ) → T (every (λ x. eqb x 0) l) → l ≡ replicate (length l) 0
@@ -85,15 +85,15 @@ module _ (rs : List Record) (m : ℕ) where
       queue-fits own (queueOf own ++ (e ∷ [])) (omega (arith, one-more (queueOf own) e, at-most own))
       (every-end (ownUncontrollable rs m) (queueOf own) e (responses own t) u)
 
-  -- ---- the queue by its places
+  -- ---- the queue by its cells
 
-  module _ (own : Own) (t : T (queueFits rs m own)) (p : EightPlaces own) where
+  module _ (own : Own) (t : T (queueFits rs m own)) (p : EightCells own) where
     count : length (queueOf own) ≡ own .length
     count = queue-length own (short own t) p
 
-    pub queue-places : own .queue ≡ places (queueOf own)
+    pub queue-cells : own .queue ≡ cells (queueOf own)
     unfolding queueFits
-    queue-places =
+    queue-cells =
         let past : T (every (λ x. eqb x 0) (drop (own .length) (own .queue))) = search both in
         let n : length (drop (own .length) (own .queue)) ≡ 8 - length (queueOf own) = omega (arith, length-drop (own .length) (own .queue), count) in
         sym (take-append-drop (own .length) (own .queue))
@@ -106,15 +106,15 @@ module _ (rs : List Record) (m : ℕ) where
         let z : List ℕ = replicate k 0 in
         let one : 8 - length q ≡ suc k = omega (arith, count) in
         let rest : 8 - length (q ++ (e ∷ [])) ≡ k = omega (arith, one-more q e) in
-        let whole : own .queue ≡ q ++ 0 ∷ z = queue-places ∙ ap (λ (i : ℕ). q ++ replicate i 0) one in
+        let whole : own .queue ≡ q ++ 0 ∷ z = queue-cells ∙ ap (λ (i : ℕ). q ++ replicate i 0) one in
         ap (λ (i : ℕ). (q ++ (e ∷ [])) ++ replicate i 0) rest ∙ append-assoc q (e ∷ []) z ∙ sym (set-append-seam q 0 z e)
         ∙ ap₂ (λ (l : List ℕ) (i : ℕ). set l i e) (sym whole) count
 
-    pub head-removed : (e : ℕ) (q : List ℕ) → queueOf own ≡ e ∷ q → places q ≡ drop 1 (own .queue) ++ (0 ∷ [])
+    pub head-removed : (e : ℕ) (q : List ℕ) → queueOf own ≡ e ∷ q → cells q ≡ drop 1 (own .queue) ++ (0 ∷ [])
     head-removed e q h =
         let n : length (queueOf own) ≡ suc (length q) = ap length h in
         let k : ℕ = 8 - suc (length q) in
         let one : 8 - length q ≡ k + 1 = omega (arith, count, short own t) in
-        let whole : own .queue ≡ e ∷ (q ++ replicate k 0) = queue-places ∙ ap places h in
+        let whole : own .queue ≡ e ∷ (q ++ replicate k 0) = queue-cells ∙ ap cells h in
         ap (λ (i : ℕ). q ++ replicate i 0) one ∙ ap (λ (l : List ℕ). q ++ l) (sym (replicate-append-replicate k 1 0))
         ∙ sym (append-assoc q (replicate k 0) (0 ∷ [])) ∙ ap (λ (l : List ℕ). drop 1 l ++ (0 ∷ [])) (sym whole)

@@ -1,4 +1,4 @@
--- A response keeps the state, the fit and the queue's eight places.
+-- A response keeps the state, the fit and the queue's eight cells.
 use Prim.Native.Nat.{ℕ, _≤_, _<_}
 use native.Mathlib.Omega.{arith}
 use mathlib.Core.Path.{_≡_, refl}
@@ -13,16 +13,16 @@ use Rattle.modules.specs.declared.Own.{Own}
 use Rattle.modules.specs.Queue.{queueOf, full, queued}
 use Rattle.modules.specs.Procedure.{taken, refused, respondOf}
 use Rattle.modules.specs.Fits.{ownFits}
-use Rattle.turn_laws.specs.Laws.{EightPlaces}
-use Rattle.modules.proofs.Queue.{places-length}
+use Rattle.turn_laws.specs.Laws.{EightCells}
+use Rattle.modules.proofs.Queue.{cells-length}
 use Rattle.turn_laws.proofs.Queue.{short, more-fits, one-more, at-most}
 use Rattle.turn_laws.proofs.Procedure.{Parts, parts, whole}
 
 -- ---- one response more in a queue that is not full
 
 module _ (own : Own) (e : ℕ) (room : full own ≡ false) where
-  pub queued-places : own .length ≤ 8 → EightPlaces (queued own e)
-  queued-places h = places-length (queueOf own ++ (e ∷ [])) (omega (arith, one-more (queueOf own) e, at-most own, leb-false 8 (own .length) room))
+  pub queued-cells : own .length ≤ 8 → EightCells (queued own e)
+  queued-cells h = cells-length (queueOf own ++ (e ∷ [])) (omega (arith, one-more (queueOf own) e, at-most own, leb-false 8 (own .length) room))
 
   pub queued-parts : (rs : List Record) (m : ℕ) → T (ownUncontrollable rs m e) → Parts rs m own → Parts rs m (queued own e)
   queued-parts rs m u a =
@@ -45,8 +45,8 @@ module _ (rs : List Record) (m e : ℕ) (own : Own) where
   pub respond-state : respondOf rs m e own .own .state ≡ own .state
   respond-state = respond-cases (λ a. a .state ≡ own .state) refl (λ u q. refl)
 
-  pub respond-places : own .length ≤ 8 → EightPlaces own → EightPlaces (respondOf rs m e own .own)
-  respond-places h p = respond-cases EightPlaces p (λ u q. queued-places own e q h)
+  pub respond-cells : own .length ≤ 8 → EightCells own → EightCells (respondOf rs m e own .own)
+  respond-cells h p = respond-cases EightCells p (λ u q. queued-cells own e q h)
 
   pub respond-fits : T (ownFits rs m own) → T (ownFits rs m (respondOf rs m e own .own))
   respond-fits t = respond-cases (λ a. T (ownFits rs m a)) t (λ u q. whole rs m (queued own e) (queued-parts own e q rs m (holds _ u) (parts rs m own t)))

@@ -1,4 +1,4 @@
--- A tick keeps the state, the fit and the queue's eight places.
+-- A tick keeps the state, the fit and the queue's eight cells.
 use Prim.Native.Nat.{ℕ, suc, _≤_}
 use mathlib.Core.Path.{_≡_, refl, sym, ap, _∙_, subst}
 use mathlib.Core.List.{List}
@@ -10,7 +10,7 @@ use denote.Floats.{passes as holds}
 use Rattle.records.specs.declared.Record.{Record}
 use Rattle.reader.specs.Find.{found}
 use Rattle.rules.specs.LookUp.{eventsOf, ownerOf, controllable}
-use Rattle.plan.specs.Plan.{ownEvent, ownUncontrollable, stepIn}
+use Rattle.plan.specs.Plan.{ownEvent, ownUncontrollable, procedureStep}
 use Rattle.accepted.specs.Plan.{Sound}
 use Rattle.water.specs.Water.{flowOk, added, reached, waterZero, running}
 use Rattle.water.specs.declared.Flow.{Flow}
@@ -21,10 +21,10 @@ use Rattle.modules.specs.Queue.{full, queued}
 use Rattle.modules.specs.Own.{withProcedure, withOutputs}
 use Rattle.modules.specs.Procedure.{advanced, counted, withWater, outputOn, outputOff, metered, performed, ticked, taken, refused, tickOf}
 use Rattle.modules.specs.Fits.{ownFits, queueFits}
-use Rattle.turn_laws.specs.Laws.{EightPlaces, operationAt, operandAt, AtStep}
+use Rattle.turn_laws.specs.Laws.{EightCells, operationAt, operandAt, AtStep}
 use Rattle.turn_laws.proofs.Water.{goes-on}
 use Rattle.turn_laws.proofs.Procedure.{if-so, so, Parts, StepParts, parts, whole, step-parts, step-whole, with-procedure, arrives, at-step, litres-range, last-operation}
-use Rattle.turn_laws.proofs.Respond.{queued-places, queued-parts}
+use Rattle.turn_laws.proofs.Respond.{queued-cells, queued-parts}
 
 module _ (rs : List Record) (own : Own) where
   -- the step's operation and operand, the ticks counted and the water
@@ -89,14 +89,14 @@ module _ (rs : List Record) (own : Own) where
       run k false c r = stay
 
       reading : (b : Bool) → flowOk f ≡ b → P (cond b (taken (ticked rs f own)) (refused 14 own) .own)
-      reading true k = run k (own .procedure .running) (found (stepIn rs (own .procedure .event) (own .procedure .index))) refl
+      reading true k = run k (own .procedure .running) (found (procedureStep rs (own .procedure .event) (own .procedure .index))) refl
       reading false k = stay
 
   pub tick-state : (f : Flow) → tickOf rs f own .own .state ≡ own .state
   tick-state f = tick-cases f (λ a. a .state ≡ own .state) refl (λ r y. refl) (λ r c q. refl) (λ r d k q. refl) (λ r a b c d q. refl)
 
-  pub tick-places : (f : Flow) → own .length ≤ 8 → EightPlaces own → EightPlaces (tickOf rs f own .own)
-  tick-places f h p = tick-cases f EightPlaces p (λ r y. p) (λ r c q. p) (λ r d k q. p) (λ r a b c d q. queued-places own x q h)
+  pub tick-cells : (f : Flow) → own .length ≤ 8 → EightCells own → EightCells (tickOf rs f own .own)
+  tick-cells f h p = tick-cases f EightCells p (λ r y. p) (λ r c q. p) (λ r d k q. p) (λ r a b c d q. queued-cells own x q h)
 
   module _ (plan : Sound rs) (m : ℕ) (t : T (ownFits rs m own)) where
     clauses : Parts rs m own

@@ -1,4 +1,4 @@
--- A turn: what it does, by which bits of the mask it goes, and that it keeps the fit and the queue's eight places.
+-- A turn: what it does, by which bits of the mask it goes, and that it keeps the fit and the queue's eight cells.
 use Prim.Native.Nat.{ℕ, suc}
 use native.Mathlib.Omega.{arith}
 use mathlib.Core.Path.{_≡_, refl, sym, ap, _∙_, subst}
@@ -24,12 +24,12 @@ use Rattle.modules.specs.Queue.{queueOf, withQueue}
 use Rattle.modules.specs.Procedure.{arriveAt}
 use Rattle.modules.specs.Turn.{moved, byResponse, byCommand, enabled, chosen, byChoice, turnOn, turnOf}
 use Rattle.modules.specs.Fits.{queueFits, ownFits}
-use Rattle.turn_laws.specs.Laws.{fitsAt, EightPlaces, TurnOk, Command}
+use Rattle.turn_laws.specs.Laws.{ownFitsAt, EightCells, TurnOk, Command}
 use Rattle.turn_laws.proofs.Found.{module-move}
 use Rattle.bits.proofs.Least.{Lowest}
 use Rattle.modules.proofs.Chosen.{chosen-lowest, chosen-same}
-use Rattle.modules.proofs.Queue.{places-length}
-use Rattle.turn_laws.proofs.Queue.{rest-fits, head-own, in-places}
+use Rattle.modules.proofs.Queue.{cells-length}
+use Rattle.turn_laws.proofs.Queue.{rest-fits, head-own, in-cells}
 use Rattle.turn_laws.proofs.Procedure.{Parts, parts, whole, arrives}
 
 module _ (rs : List Record) (m : ℕ) (own : Own) where
@@ -68,11 +68,11 @@ module _ (rs : List Record) (m : ℕ) (own : Own) where
       queue (e ∷ q) h = fires e q h (moduleMove rs m (own .state) e) refl
       queue [] h = rests h (own .procedure .running) refl
 
-  pub turn-places : (k : ℕ) → EightPlaces own → EightPlaces (turnOf rs m k own .own)
-  turn-places k p = turn-cases k (λ t. EightPlaces (t .own)) (λ e q st h g. fewer e q h) fewer (λ e st h r l g. p) p
+  pub turn-cells : (k : ℕ) → EightCells own → EightCells (turnOf rs m k own .own)
+  turn-cells k p = turn-cases k (λ t. EightCells (t .own)) (λ e q st h g. fewer e q h) fewer (λ e st h r l g. p) p
     where
-      fewer : (e : ℕ) (q : List ℕ) → queueOf own ≡ e ∷ q → EightPlaces (withQueue own q)
-      fewer e q h = let n : length (queueOf own) ≡ suc (length q) = ap length h in places-length q (omega (arith, in-places own p))
+      fewer : (e : ℕ) (q : List ℕ) → queueOf own ≡ e ∷ q → EightCells (withQueue own q)
+      fewer e q h = let n : length (queueOf own) ≡ suc (length q) = ap length h in cells-length q (omega (arith, in-cells own p))
 
   module _ (plan : Sound rs) where
     -- a listed move is by an own event
@@ -119,7 +119,7 @@ module _ (rs : List Record) (m : ℕ) (own : Own) where
             search and-i
 
     -- a response that has a move is uncontrollable, and a chosen event is in no mask
-    module _ (fits : fitsAt rs m own ≡ true) where
+    module _ (fits : ownFitsAt rs m own ≡ true) where
       uncontrolled : (e : ℕ) (q : List ℕ) (st : ℕ) → queueOf own ≡ e ∷ q → moduleMove rs m (own .state) e ≡ some st → controllable rs e ≡ false
       uncontrolled e q st h g =
           let below : ltb m (modulesOf rs) ≡ true = lt-ltb m (modulesOf rs) (module-move rs plan m (own .state) e st g .owner) in

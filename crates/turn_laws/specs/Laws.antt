@@ -12,11 +12,11 @@ use Rattle.records.specs.Key.{keyBy}
 use Rattle.records.specs.declared.Record.{Record}
 use Rattle.reader.specs.Find.{findIn, found}
 use Rattle.rules.specs.LookUp.{modulesOf, supervisorsOf, eventsOf, supervisorState, ownerOf, controllable}
-use Rattle.plan.specs.Plan.{moduleMove, supervisorMove, moduleInitial, supervisorInitial, shown, inAlphabet, stepIn, operationOf, operandOf}
+use Rattle.plan.specs.Plan.{moduleMove, supervisorMove, moduleInitial, supervisorInitial, shown, inAlphabet, procedureStep, operationOf, operandOf}
 use Rattle.accepted.specs.Plan.{ModuleMoveLaw, SupervisorMoveLaw, StepLaw}
 use Rattle.litres.specs.Eighths.{count}
 use Rattle.water.specs.declared.Flow.{Flow}
-use Rattle.modules.specs.Queue.{queueOf, places, withQueue, queued}
+use Rattle.modules.specs.Queue.{queueOf, cells, withQueue, queued}
 use Rattle.modules.specs.Procedure.{respondOf, tickOf}
 use Rattle.modules.specs.Turn.{turnOf, startOwn, enabled}
 use Rattle.modules.specs.Fits.{ownFits}
@@ -27,16 +27,16 @@ use Rattle.modules.specs.declared.Turn.the-variants.{Event, Stray, Nothing}
 use Rattle.modules.specs.declared.Turned.{Turned}
 
 -- the own part fits, of a module that the plan has; nothing is asked of another
-abbrev pub fitsAt : List Record → ℕ → Own → Bool
-fitsAt rs m own = cond (ltb m (modulesOf rs)) (ownFits rs m own) true
+abbrev pub ownFitsAt : List Record → ℕ → Own → Bool
+ownFitsAt rs m own = cond (ltb m (modulesOf rs)) (ownFits rs m own) true
 
 -- the same of a supervisor's state
 abbrev pub stateFitsAt : List Record → ℕ → ℕ → Bool
 stateFitsAt rs v st = cond (ltb v (supervisorsOf rs)) (supervisorState rs v st) true
 
--- the queue has eight places, which is its array's length
-abbrev pub EightPlaces : Own → Type 0
-EightPlaces own = length (own .queue) ≡ 8
+-- the queue has eight cells, which is its array's length
+abbrev pub EightCells : Own → Type 0
+EightCells own = length (own .queue) ≡ 8
 
 -- the event e fired: it has a move to the new state, and is uncontrollable or not in the mask k
 pub record Fired (rs : List Record) (m k : ℕ) (own : Own) (e : ℕ) (after : Own) : Type 0 where
@@ -104,32 +104,32 @@ pub record TurnLaws (rs : List Record) : Type 0 where
   pub supervisor-start : (v : ℕ) → stateFitsAt rs v (supervisorInitial rs v) ≡ true
   pub supervisor-moved : (v x e y : ℕ) → supervisorMove rs v x e ≡ some y → stateFitsAt rs v y ≡ true
   -- every listed step counts, and what is asked of one that is there
-  pub step-listed : (e i : ℕ) → stepIn rs e i ≡ findIn (keyBy 0x17 e i 0) rs
-  pub step-law : (e i : ℕ) → found (stepIn rs e i) ≡ true → StepLaw rs e i (operationOf rs e i) (operandOf rs e i)
+  pub step-listed : (e i : ℕ) → procedureStep rs e i ≡ findIn (keyBy 0x17 e i 0) rs
+  pub step-law : (e i : ℕ) → found (procedureStep rs e i) ≡ true → StepLaw rs e i (operationOf rs e i) (operandOf rs e i)
   -- ---- the start
   pub start-state : (m : ℕ) → startOwn rs m .state ≡ moduleInitial rs m
-  pub start-fits : (m : ℕ) → fitsAt rs m (startOwn rs m) ≡ true
+  pub start-fits : (m : ℕ) → ownFitsAt rs m (startOwn rs m) ≡ true
   -- ---- a turn: what it does, that it goes by the mask's bits of the module's own events alone, and that it keeps what fits
-  pub turn-ok : (m k : ℕ) (own : Own) → fitsAt rs m own ≡ true → TurnOk rs m k own (turnOf rs m k own)
+  pub turn-ok : (m k : ℕ) (own : Own) → ownFitsAt rs m own ≡ true → TurnOk rs m k own (turnOf rs m k own)
   pub turn-same : (m k k′ : ℕ) (own : Own) → ((e : ℕ) → ownerOf rs e ≡ m → bit k e ≡ bit k′ e) → turnOf rs m k own ≡ turnOf rs m k′ own
-  pub turn-fits : (m k : ℕ) (own : Own) → fitsAt rs m own ≡ true → fitsAt rs m (turnOf rs m k own .own) ≡ true
+  pub turn-fits : (m k : ℕ) (own : Own) → ownFitsAt rs m own ≡ true → ownFitsAt rs m (turnOf rs m k own .own) ≡ true
   -- "the lowest-numbered controllable event fires that has a move here and stands in no shown mask"
-  pub command : (m k : ℕ) (own : Own) (e : ℕ) → fitsAt rs m own ≡ true → turnOf rs m k own .turn ≡ Event e → controllable rs e ≡ true → Command rs m k own e
+  pub command : (m k : ℕ) (own : Own) (e : ℕ) → ownFitsAt rs m own ≡ true → turnOf rs m k own .turn ≡ Event e → controllable rs e ≡ true → Command rs m k own e
   -- ---- a response and a tick leave the state, and keep what fits
   pub respond-state : (m e : ℕ) (own : Own) → respondOf rs m e own .own .state ≡ own .state
-  pub respond-fits : (m e : ℕ) (own : Own) → fitsAt rs m own ≡ true → fitsAt rs m (respondOf rs m e own .own) ≡ true
+  pub respond-fits : (m e : ℕ) (own : Own) → ownFitsAt rs m own ≡ true → ownFitsAt rs m (respondOf rs m e own .own) ≡ true
   pub tick-state : (f : Flow) (own : Own) → tickOf rs f own .own .state ≡ own .state
-  pub tick-fits : (m : ℕ) (f : Flow) (own : Own) → fitsAt rs m own ≡ true → fitsAt rs m (tickOf rs f own .own) ≡ true
-  -- ---- sizes; a turn, a response and a tick keep the queue's eight places
+  pub tick-fits : (m : ℕ) (f : Flow) (own : Own) → ownFitsAt rs m own ≡ true → ownFitsAt rs m (tickOf rs f own .own) ≡ true
+  -- ---- sizes; a turn, a response and a tick keep the queue's eight cells
   pub sizes : (m : ℕ) (own : Own) → ownFits rs m own ≡ true → Sizes rs m own
-  pub start-places : (m : ℕ) → EightPlaces (startOwn rs m)
-  pub turn-places : (m k : ℕ) (own : Own) → EightPlaces own → EightPlaces (turnOf rs m k own .own)
-  pub respond-places : (m e : ℕ) (own : Own) → own .length ≤ 8 → EightPlaces own → EightPlaces (respondOf rs m e own .own)
-  pub tick-places : (f : Flow) (own : Own) → own .length ≤ 8 → EightPlaces own → EightPlaces (tickOf rs f own .own)
-  -- ---- the queue by its places: the responses and then zeros; one more stands in the place after the last; the head removed, the others
+  pub start-cells : (m : ℕ) → EightCells (startOwn rs m)
+  pub turn-cells : (m k : ℕ) (own : Own) → EightCells own → EightCells (turnOf rs m k own .own)
+  pub respond-cells : (m e : ℕ) (own : Own) → own .length ≤ 8 → EightCells own → EightCells (respondOf rs m e own .own)
+  pub tick-cells : (f : Flow) (own : Own) → own .length ≤ 8 → EightCells own → EightCells (tickOf rs f own .own)
+  -- ---- the queue by its cells: the responses and then zeros; one more stands in the cell after the last; the head removed, the others
   -- move up
   pub queue-of : (own : Own) (q : List ℕ) → queueOf (withQueue own q) ≡ q
-  pub queue-length : (own : Own) → own .length ≤ 8 → EightPlaces own → length (queueOf own) ≡ own .length
-  pub queue-places : (m : ℕ) (own : Own) → ownFits rs m own ≡ true → EightPlaces own → own .queue ≡ places (queueOf own)
-  pub queued-last : (m e : ℕ) (own : Own) → ownFits rs m own ≡ true → EightPlaces own → own .length < 8 → queued own e .queue ≡ set (own .queue) (own .length) e
-  pub head-removed : (m e : ℕ) (q : List ℕ) (own : Own) → ownFits rs m own ≡ true → EightPlaces own → queueOf own ≡ e ∷ q → places q ≡ drop 1 (own .queue) ++ (0 ∷ [])
+  pub queue-length : (own : Own) → own .length ≤ 8 → EightCells own → length (queueOf own) ≡ own .length
+  pub queue-cells : (m : ℕ) (own : Own) → ownFits rs m own ≡ true → EightCells own → own .queue ≡ cells (queueOf own)
+  pub queued-last : (m e : ℕ) (own : Own) → ownFits rs m own ≡ true → EightCells own → own .length < 8 → queued own e .queue ≡ set (own .queue) (own .length) e
+  pub head-removed : (m e : ℕ) (q : List ℕ) (own : Own) → ownFits rs m own ≡ true → EightCells own → queueOf own ≡ e ∷ q → cells q ≡ drop 1 (own .queue) ++ (0 ∷ [])

@@ -11,10 +11,10 @@ use lib.Dec.{leb}
 use borrow.Author.Tests.{le-leb, lt-leb, leb-true, leb-false}
 use Rattle.wire.specs.declared.Sent.{Sent}
 use Rattle.wire.specs.declared.Wire.{Wire}
-use Rattle.wire.specs.declared.Place.the-variants.{It, Missing}
+use Rattle.wire.specs.declared.MessageAt.the-variants.{It, Missing}
 use Rattle.wire.specs.Wire.{under, empty, withMessage, withMessages, nthOf, dropNth, without}
 
--- ---- places
+-- ---- room
 
 pub room-left : (count n : ℕ) {b : Bool} → count ≤ 96 → b ≡ leb n (96 - count) → b ≡ leb (count + n) 96
 room-left count n h e = e ∙ go (leb n (96 - count)) refl
@@ -26,7 +26,7 @@ room-left count n h e = e ∙ go (leb n (96 - count)) refl
 pub no-room : (count n : ℕ) → 96 < count → false ≡ leb (count + n) 96
 no-room count n h = sym (lt-leb (count + n) 96 (omega arith))
 
--- ---- a message at a place
+-- ---- a message at an index
 
 nth-past : (l : List Sent) (k : ℕ) → length l ≤ k → Missing ≡ nthOf l k
 unfolding nthOf
@@ -44,8 +44,8 @@ module _ (w : Wire) (k : ℕ) where
   pub nth-uncounted : w .count ≤ k → Missing ≡ nthOf (under w) k
   nth-uncounted h = nth-past (under w) k (simp length-take (omega arith))
 
-  pub nth-unplaced : length (w .messages) ≡ 96 → 96 ≤ k → Missing ≡ nthOf (under w) k
-  nth-unplaced e h = nth-past (under w) k (simp (length-take, e) (omega arith))
+  pub nth-beyond : length (w .messages) ≡ 96 → 96 ≤ k → Missing ≡ nthOf (under w) k
+  nth-beyond e h = nth-past (under w) k (simp (length-take, e) (omega arith))
 
   pub nth-found : (d : Sent) → length (w .messages) ≡ 96 → k < w .count → k < 96 → It (getD (w .messages) k d .message) ≡ nthOf (under w) k
   nth-found d e h g =

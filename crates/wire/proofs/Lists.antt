@@ -19,12 +19,12 @@ unfolding withMessage
 sent-sound w g s = go (ltb (w .count) 96) refl
   where
     go : (b : Bool) → ltb (w .count) 96 ≡ b → Sound (cond b (record { messages = set (w .messages) (w .count) (sent g); count = w .count + 1 }) w)
-    go true q = let h : w .count < 96 = ltb-true _ _ q in record { places = length-set (w .messages) (w .count) (sent g) ∙ s .places; counted = omega arith }
+    go true q = let h : w .count < 96 = ltb-true _ _ q in record { capacity = length-set (w .messages) (w .count) (sent g) ∙ s .capacity; counted = omega arith }
     go false q = s
 
 sent-is : (w : Wire) (g : Message) → Sound w → w .count < 96 → under (withMessage w g) ≡ under w ++ (sent g ∷ [])
 unfolding withMessage
-sent-is w g s h = simp (lt-ltb (w .count) 96 h, add-one) (take-suc-set (w .messages) (w .count) (sent g) (omega (arith, s .places)))
+sent-is w g s h = simp (lt-ltb (w .count) 96 h, add-one) (take-suc-set (w .messages) (w .count) (sent g) (omega (arith, s .capacity)))
 
 pub all-sound : (w : Wire) (l : List Sent) → Sound w → Sound (withMessages w l)
 unfolding withMessages
@@ -35,7 +35,7 @@ count-one : (w : Wire) (g : Message) → w .count < 96 → withMessage w g .coun
 unfolding withMessage
 count-one w g h = simp (lt-ltb (w .count) 96 h)
 
--- messages that all have places
+-- messages for which there is room
 pub all-are : (w : Wire) (l : List Sent) → Sound w → w .count + length l ≤ 96 → under (withMessages w l) ≡ under w ++ l
 unfolding withMessages
 all-are w [] s h = sym (append-nil (under w))
@@ -46,7 +46,7 @@ all-are w (g ∷ l) s h =
     ∙ append-assoc (under w) (g ∷ []) l
 
 empty-sound : Sound empty
-empty-sound = record { places = refl; counted = omega arith }
+empty-sound = record { capacity = refl; counted = omega arith }
 
 pub lists : Lists
 unfolding without
@@ -61,4 +61,4 @@ lists =
     }
   where
     short : (w : Wire) (k : ℕ) → Sound w → 0 + length (dropNth k (under w)) ≤ 96
-    short w k s = simp (length-append, length-take, length-drop, s .places) (omega arith)
+    short w k s = simp (length-append, length-take, length-drop, s .capacity) (omega arith)

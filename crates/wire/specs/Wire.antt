@@ -1,5 +1,5 @@
 -- Document 01, "What demand 3 compares": "A message is sent by the accepted step that writes it and under way until delivered; equal bytes
--- sent twice are two messages." Those under way stand in the order sent, in the first of 96 places.
+-- sent twice are two messages." Those under way stand in the order sent, at the first of 96 indices.
 use Prim.Native.Nat.{ℕ, zero, suc, _+_, _≤_, _<_}
 use mathlib.Core.Path.{_≡_}
 use mathlib.Core.List.{List, [], _∷_, _++_}
@@ -10,8 +10,8 @@ use Rattle.messages.specs.declared.Message.{Message}
 use Rattle.messages.specs.declared.Message.the-variants.{Bid}
 use Rattle.wire.specs.declared.Sent.{Sent}
 use Rattle.wire.specs.declared.Wire.{Wire}
-use Rattle.wire.specs.declared.Place.{Place}
-use Rattle.wire.specs.declared.Place.the-variants.{It, Missing}
+use Rattle.wire.specs.declared.MessageAt.{MessageAt}
+use Rattle.wire.specs.declared.MessageAt.the-variants.{It, Missing}
 
 -- the messages under way
 abbrev pub under : Wire → List Sent
@@ -20,11 +20,11 @@ under w = take (w .count) (w .messages)
 abbrev pub sent : Message → Sent
 sent g = record { message = g }
 
--- none; what stands in a free place means nothing
+-- none; what stands behind them means nothing
 abbrev pub empty : Wire
 empty = record { messages = replicate 96 (sent (Bid 0 0)); count = 0 }
 
--- one more, in the first free place; where none is free all stays
+-- one more behind them; where there is no room all stays
 unfoldable pub withMessage : Wire → Message → Wire
 withMessage w g = cond (ltb (w .count) 96) (record { messages = set (w .messages) (w .count) (sent g); count = w .count + 1 }) w
 
@@ -32,7 +32,7 @@ unfoldable pub withMessages : Wire → List Sent → Wire
 withMessages w [] = w
 withMessages w (s ∷ l) = withMessages (withMessage w (s .message)) l
 
-unfoldable pub nthOf : List Sent → ℕ → Place
+unfoldable pub nthOf : List Sent → ℕ → MessageAt
 nthOf [] k = Missing
 nthOf (s ∷ l) zero = It (s .message)
 nthOf (s ∷ l) (suc k) = nthOf l k
@@ -46,7 +46,7 @@ without w k = withMessages empty (dropNth k (under w))
 
 -- what the calls do to the messages under way, as lists, on every wire that has come from `empty` by them
 pub record Sound (w : Wire) : Type 0 where
-  pub places : length (w .messages) ≡ 96
+  pub capacity : length (w .messages) ≡ 96
   pub counted : w .count ≤ 96
 
 pub record Lists : Type 0 where

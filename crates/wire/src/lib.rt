@@ -12,14 +12,14 @@ pub struct Sent {
 }
 
 // At most 48 messages are under way: one bid of each module, and one message for each permit, which carries it or brings it home (`few` of
-// crate simulation_laws). A step is lent room for all that it may write, so there are places for 32 more, and some are left.
+// crate simulation_laws). A step is lent room for all that it may write, so there is room for 32 more, and some is left.
 pub struct Wire {
     pub messages: [Sent; 96],
     pub count: usize,
 }
 
-// The message at a place, or none.
-pub enum Place {
+// The message at an index, or none.
+pub enum MessageAt {
     It(Message),
     Missing,
 }
@@ -39,8 +39,8 @@ pub fn empty() -> Wire
     }
 }
 
-// Whether n messages more have places.
-pub fn has_places(w: Wire, n: usize) -> bool
+// Whether there is room for n messages more.
+pub fn has_room(w: Wire, n: usize) -> bool
     ensures { λ r. ⌜ r ≡ leb (w .count + n) 96 ⌝ }
 {
     let count = w.count;
@@ -64,22 +64,22 @@ pub fn with_message(w: Wire, g: Message) -> Wire
 }
 
 // The k-th message under way.
-pub fn message_at(w: Wire, k: usize) -> Place
+pub fn message_at(w: Wire, k: usize) -> MessageAt
     ensures { λ r. ⌜ r ≡ nthOf (under w) k ⌝ }
 {
     if w.count <= k {
-        return Place::Missing;
+        return MessageAt::Missing;
     }
     if k < 96 {
         let sent = w.messages[k];
         let message = sent.message;
-        Place::It(message)
+        MessageAt::It(message)
     } else {
-        Place::Missing
+        MessageAt::Missing
     }
 }
 
-// The messages `onto`, and behind them those of the places from `from` to before `to`.
+// The messages `onto`, and behind them those from the index `from` to before `to`.
 fn copied(w: Wire, onto: Wire, from: usize, to: usize) -> Wire
     ensures { λ r. ⌜ r ≡ withMessages onto (drop from (take to (w .messages))) ⌝ }
 {

@@ -33,14 +33,14 @@ put-bytes-requires c κs = search needs
 same-length-2 : tie.Need-same-length-2
 same-length-2 c = search needs
 
-places : (start : tie.Start) → length (start .args .t .own .queue) ≡ 8
-places start = search eight
+cells : (start : tie.Start) → length (start .args .t .own .queue) ≡ 8
+cells start = search eight
 
 returns-2 : tie.Need-returns-2
 returns-2 c =
     let start = c .before .before .before .before .before .before .before .before .before .before .before .before .before .before .before .before in
     let g : Bytes (start .args .state .now) = λ j. c .before .before .before .before .before .before .before .before .before .before .before .before .before .before .slice-known .given j .fits in
-    after-event (start .args .state .now) (start .args .m) g (start .pre .0) _ (start .args .t) (places start) (c .before .before .before .before .before .before .before .before .before .before .before .put-own .ensures) (search needs) (start .pre .1) (c .before .before .before .before .before .states-after .ensures) (c .before .before .put-bytes .ensures)
+    after-event (start .args .state .now) (start .args .m) g (start .pre .0) _ (start .args .t) (cells start) (c .before .before .before .before .before .before .before .before .before .before .before .put-own .ensures) (search needs) (start .pre .1) (c .before .before .before .before .before .states-after .ensures) (c .before .before .put-bytes .ensures)
 
 pub keep-turn-spec : {M : Type 1} → statement M
 keep-turn-spec =

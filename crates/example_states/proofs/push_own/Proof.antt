@@ -28,8 +28,8 @@ slice-aggregate-push-numbers c = search needs
 push-numbers-requires : tie.Need-push-numbers-requires
 push-numbers-requires c κs = search needs
 
-push-place-requires : tie.Need-push-place-requires
-push-place-requires c κs = search needs
+push-procedure-requires : tie.Need-push-procedure-requires
+push-procedure-requires c κs = search needs
 
 slice-aggregate-push-all-3 : tie.Need-slice-aggregate-push-all-3
 slice-aggregate-push-all-3 c = search needs
@@ -59,7 +59,7 @@ push-own-spec =
     push-field-requires-2
     slice-aggregate-push-numbers
     push-numbers-requires
-    push-place-requires
+    push-procedure-requires
     slice-aggregate-push-all-3
     push-all-requires-3
     cast-push-digits

@@ -1,5 +1,5 @@
 use borrow.Author.Needs.{needs}
-use Rattle.example_states.proofs.Setting.{field-state, field-length, field-queue, field-outputs, field-place}
+use Rattle.example_states.proofs.Setting.{field-state, field-length, field-queue, field-outputs, field-procedure}
 use Rattle.example_states.proofs.with_named.Statement.{statement}
 use Rattle.example_states.proofs.with_named.Tie as tie
 
@@ -30,8 +30,8 @@ bits-in-requires c κs = search needs
 cast-own : tie.Need-cast-own
 cast-own c = search needs
 
-with-place-requires : tie.Need-with-place-requires
-with-place-requires c κs = search needs
+with-procedure-field-requires : tie.Need-with-procedure-field-requires
+with-procedure-field-requires c κs = search needs
 
 returns : tie.Need-returns
 returns c = search field-state
@@ -46,7 +46,7 @@ returns-4 : tie.Need-returns-4
 returns-4 c = search field-outputs
 
 returns-5 : tie.Need-returns-5
-returns-5 c = search field-place
+returns-5 c = search field-procedure
 
 pub with-named-spec : {M : Type 1} → statement M
 with-named-spec =
@@ -61,7 +61,7 @@ with-named-spec =
     add-bits-in
     bits-in-requires
     cast-own
-    with-place-requires
+    with-procedure-field-requires
     returns
     returns-2
     returns-3

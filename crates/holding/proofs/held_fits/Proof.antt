@@ -3,13 +3,13 @@ use mathlib.Core.Bool.{true}
 use Prim.Native.Nat.{_-_, _≤_}
 use native.Mathlib.Omega.{arith}
 use Rattle.bits.specs.Bit.{allBelow}
-use Rattle.holding.proofs.Held.{keptAt, fitsAt, held-out, held-more, whole-more, held-in, held-rest}
+use Rattle.holding.proofs.Held.{keptAt, heldFitsAt, held-out, held-more, whole-more, held-in, held-rest}
 use borrow.Author.Needs.{needs}
 use Rattle.holding.proofs.held_fits.Statement.{statement}
 use Rattle.holding.proofs.held_fits.Tie as tie
 
 abbrev Inv-loop : tie.InvT-loop
-Inv-loop adjacent held neighbour-bits held-bits whole₀ v₀ whole v = (v ≤ 32) × (whole ≡ allBelow (keptAt adjacent held) v) × (allBelow (fitsAt adjacent held) v ≡ true)
+Inv-loop adjacent held neighbour-bits held-bits whole₀ v₀ whole v = (v ≤ 32) × (whole ≡ allBelow (keptAt adjacent held) v) × (allBelow (heldFitsAt adjacent held) v ≡ true)
 
 abbrev μ-loop : tie.MeasureT-loop
 μ-loop adjacent held neighbour-bits held-bits whole₀ v₀ whole v = 32 - v

@@ -3,8 +3,8 @@ use borrow.Author.Needs.{needs}
 use Rattle.modules.proofs.without_head.Statement.{statement}
 use Rattle.modules.proofs.without_head.Tie as tie
 
-places-after-requires : tie.Need-places-after-requires
-places-after-requires c κs = search needs
+cells-after-requires : tie.Need-cells-after-requires
+cells-after-requires c κs = search needs
 
 returns : tie.Need-returns
 returns c = search (removed-none, eight)
@@ -19,4 +19,4 @@ returns-3 : tie.Need-returns-3
 returns-3 c = search (removed-from-full, eight)
 
 pub without-head-spec : {M : Type 1} → statement M
-without-head-spec = tie.close (tie.spec places-after-requires returns sub-next returns-2 returns-3)
+without-head-spec = tie.close (tie.spec cells-after-requires returns sub-next returns-2 returns-3)

@@ -11,7 +11,7 @@ use Rattle.script.specs.SimulationLines.{steppedLine}
 use Rattle.modules.specs.declared.Turn.{Turn}
 use Rattle.modules.specs.declared.Turn.the-variants.{Event, Stray, Nothing}
 use Rattle.permits.specs.declared.Stepped.{Stepped}
-use Rattle.permits.specs.declared.Stepped.the-variants.{Turned, Bids, Waits, Refused}
+use Rattle.permits.specs.declared.Stepped.the-variants.{Turns, Bids, Waits, Refused}
 use Rattle.script.proofs.stepped_line.Statement.{statement}
 use Rattle.script.proofs.stepped_line.Tie as tie
 
@@ -19,9 +19,9 @@ module _ (m : ℕ) {r : Text} {a : Stepped} where
   as-is : (b : Stepped) → a ≡ b → r ≡ textOf (steppedLine m b) → r ≡ textOf (steppedLine m a)
   as-is b h f = f ∙ ap (λ (x : Stepped). textOf (steppedLine m x)) (sym h)
 
-  module _ {t : Turn} {k : ℕ} (h : a ≡ Turned t k) where
-    turned-by : (u : Turn) → t ≡ u → r ≡ textOf (steppedLine m (Turned u k)) → r ≡ textOf (steppedLine m a)
-    turned-by u q f = as-is (Turned u k) (h ∙ ap (λ (x : Turn). Turned x k) q) f
+  module _ {t : Turn} {k : ℕ} (h : a ≡ Turns t k) where
+    turned-by : (u : Turn) → t ≡ u → r ≡ textOf (steppedLine m (Turns u k)) → r ≡ textOf (steppedLine m a)
+    turned-by u q f = as-is (Turns u k) (h ∙ ap (λ (x : Turn). Turns x k) q) f
 
     event-by : {e : ℕ} → t ≡ Event e → r ≡ textOf (ascii "module" ++ spaced m ++ ascii " event" ++ spaced e ++ ascii "\n") → r ≡ textOf (steppedLine m a)
     unfolding steppedLine

@@ -7,7 +7,7 @@ use Prim.Native.Nat.{ℕ}
 use Rattle.modules.specs.declared.Turn.{Turn}
 use Rattle.modules.specs.declared.Turn.the-variants.{Event, Stray, Nothing}
 use Rattle.device.specs.declared.Turning.{Turning}
-use Rattle.device.specs.declared.Turning.the-variants.{Turned, Refused}
+use Rattle.device.specs.declared.Turning.the-variants.{Done as TurnDone, Refused}
 use Rattle.texts.specs.declared.Text.{Text}
 use Rattle.texts.specs.Text.{textOf}
 use Rattle.texts.specs.Numbers.{spaced}
@@ -19,18 +19,18 @@ module _ (m : ℕ) {r : Text} {a : Turning} where
   as-is : (b : Turning) → a ≡ b → r ≡ textOf (turnLine m b) → r ≡ textOf (turnLine m a)
   as-is b h f = f ∙ ap (λ (x : Turning). textOf (turnLine m x)) (sym h)
 
-  module _ {t : Turn} (h : a ≡ Turned t) where
+  module _ {t : Turn} (h : a ≡ TurnDone t) where
     event-by : {e : ℕ} → t ≡ Event e → r ≡ textOf (ascii "turn" ++ spaced m ++ ascii " event" ++ spaced e ++ ascii "\n") → r ≡ textOf (turnLine m a)
     unfolding turnLine
-    event-by {e} k f = as-is (Turned (Event e)) (h ∙ ap Turned k) f
+    event-by {e} k f = as-is (TurnDone (Event e)) (h ∙ ap TurnDone k) f
 
     stray-by : {e : ℕ} → t ≡ Stray e → r ≡ textOf (ascii "turn" ++ spaced m ++ ascii " stray" ++ spaced e ++ ascii "\n") → r ≡ textOf (turnLine m a)
     unfolding turnLine
-    stray-by {e} k f = as-is (Turned (Stray e)) (h ∙ ap Turned k) f
+    stray-by {e} k f = as-is (TurnDone (Stray e)) (h ∙ ap TurnDone k) f
 
     none-by : t ≡ Nothing → r ≡ textOf (ascii "turn" ++ spaced m ++ ascii " none\n") → r ≡ textOf (turnLine m a)
     unfolding turnLine
-    none-by k f = as-is (Turned Nothing) (h ∙ ap Turned k) f
+    none-by k f = as-is (TurnDone Nothing) (h ∙ ap TurnDone k) f
 
   refused-by : {n o : ℕ} → a ≡ Refused n o → r ≡ textOf (refusedLine n) → r ≡ textOf (turnLine m a)
   unfolding turnLine

@@ -5,8 +5,8 @@ use borrow.Author.Needs.{needs}
 use Rattle.simulation.proofs.supervisor_step.Statement.{statement}
 use Rattle.simulation.proofs.supervisor_step.Tie as tie
 
-has-places-requires : tie.Need-has-places-requires
-has-places-requires c κs = search needs
+has-room-requires : tie.Need-has-room-requires
+has-room-requires c κs = search needs
 
 slice-aggregate-step-supervisor : tie.Need-slice-aggregate-step-supervisor
 slice-aggregate-step-supervisor c = search needs
@@ -33,7 +33,7 @@ pub supervisor-step-spec : {M : Type 1} → statement M
 supervisor-step-spec =
     tie.close
     (tie.spec
-    has-places-requires
+    has-room-requires
     slice-aggregate-step-supervisor
     step-supervisor-requires
     array-borrow-prefix-buffer

@@ -2,7 +2,7 @@ use borrow.Author.Needs.{needs}
 use mathlib.Core.Path.{_≡_}
 use lib.ListN.{length}
 use Rattle.words.proofs.Laws.{mapped}
-use Rattle.wire.proofs.Laws.{nth-uncounted, nth-unplaced, nth-found}
+use Rattle.wire.proofs.Laws.{nth-uncounted, nth-beyond, nth-found}
 use Rattle.wire.proofs.message_at.Statement.{statement}
 use Rattle.wire.proofs.message_at.Tie as tie
 
@@ -23,7 +23,7 @@ returns-2 c =
 returns-3 : tie.Need-returns-3
 returns-3 c =
     let h : length (c .before .before .args .t1 .messages) ≡ 96 = search mapped in
-    search nth-unplaced
+    search nth-beyond
 
 pub message-at-spec : {M : Type 1} → statement M
 message-at-spec = tie.close (tie.spec returns mul-sent element-copy-out-sent returns-2 returns-3)

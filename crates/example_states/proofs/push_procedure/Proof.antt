@@ -1,8 +1,8 @@
 use borrow.Author.Needs.{needs}
 use Rattle.texts.specs.Ascii.{ascii}
-use Rattle.example_states.proofs.Printed.{place-by}
-use Rattle.example_states.proofs.push_place.Statement.{statement}
-use Rattle.example_states.proofs.push_place.Tie as tie
+use Rattle.example_states.proofs.Printed.{procedure-by}
+use Rattle.example_states.proofs.push_procedure.Statement.{statement}
+use Rattle.example_states.proofs.push_procedure.Tie as tie
 
 slice-aggregate-push-all : tie.Need-slice-aggregate-push-all
 slice-aggregate-push-all c = search needs
@@ -42,10 +42,10 @@ push-float-requires-2 c κs = search needs
 
 returns : tie.Need-returns
 unfolding ascii
-returns c = search place-by
+returns c = search procedure-by
 
-pub push-place-spec : {M : Type 1} → statement M
-push-place-spec =
+pub push-procedure-spec : {M : Type 1} → statement M
+push-procedure-spec =
     tie.close
     (tie.spec
     slice-aggregate-push-all

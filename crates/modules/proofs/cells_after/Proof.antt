@@ -3,13 +3,13 @@ use mathlib.Core.Path.{_≡_, refl}
 use native.Mathlib.Omega.{arith}
 use lib.ListN.{length, take, drop}
 use borrow.Author.Needs.{needs}
-use Rattle.modules.specs.Queue.{places}
+use Rattle.modules.specs.Queue.{cells}
 use Rattle.modules.proofs.Queue.{written-on, all-written, set-length}
-use Rattle.modules.proofs.places_after.Statement.{statement}
-use Rattle.modules.proofs.places_after.Tie as tie
+use Rattle.modules.proofs.cells_after.Statement.{statement}
+use Rattle.modules.proofs.cells_after.Tie as tie
 
 abbrev Inv-loop : tie.InvT-loop
-Inv-loop q n k from r₀ i₀ r i = (i ≤ 8) × (length q ≡ 8) × (length r ≡ 8) × (take i r ≡ take i (places (drop k (take n q))))
+Inv-loop q n k from r₀ i₀ r i = (i ≤ 8) × (length q ≡ 8) × (length r ≡ 8) × (take i r ≡ take i (cells (drop k (take n q))))
 
 abbrev μ-loop : tie.MeasureT-loop
 μ-loop q n k from r₀ i₀ r i = 8 - i
@@ -20,11 +20,11 @@ wide-requires c κs = search needs
 loop-holds : tie.Need-loop-holds Inv-loop μ-loop
 loop-holds c = (omega arith, search needs, refl, refl)
 
-add-place : tie.Need-add-place Inv-loop μ-loop
-add-place c = search needs
+add-cell : tie.Need-add-cell Inv-loop μ-loop
+add-cell c = search needs
 
-place-requires : tie.Need-place-requires Inv-loop μ-loop
-place-requires c κs = search needs
+cell-requires : tie.Need-cell-requires Inv-loop μ-loop
+cell-requires c κs = search needs
 
 array-write-r : tie.Need-array-write-r Inv-loop μ-loop
 array-write-r c = search needs
@@ -41,16 +41,16 @@ loop-again c = (search needs, search needs, search set-length, search written-on
 returns : tie.Need-returns Inv-loop μ-loop
 returns c = search all-written
 
-pub places-after-spec : {M : Type 1} → statement M
-places-after-spec =
+pub cells-after-spec : {M : Type 1} → statement M
+cells-after-spec =
     tie.close
     (tie.spec
     Inv-loop
     μ-loop
     wide-requires
     loop-holds
-    add-place
-    place-requires
+    add-cell
+    cell-requires
     array-write-r
     add-i
     loop-less

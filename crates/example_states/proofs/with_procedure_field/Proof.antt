@@ -1,7 +1,7 @@
 use borrow.Author.Needs.{needs}
-use Rattle.example_states.proofs.Setting.{place-running, place-event, place-index, place-count, place-water, place-other}
-use Rattle.example_states.proofs.with_place.Statement.{statement}
-use Rattle.example_states.proofs.with_place.Tie as tie
+use Rattle.example_states.proofs.Setting.{procedure-running, procedure-event, procedure-index, procedure-count, procedure-water, procedure-other}
+use Rattle.example_states.proofs.with_procedure_field.Statement.{statement}
+use Rattle.example_states.proofs.with_procedure_field.Tie as tie
 
 letter-in-requires : tie.Need-letter-in-requires
 letter-in-requires c κs = search needs
@@ -37,25 +37,25 @@ with-water-requires : tie.Need-with-water-requires
 with-water-requires c κs = search needs
 
 returns : tie.Need-returns
-returns c = search place-running
+returns c = search procedure-running
 
 returns-2 : tie.Need-returns-2
-returns-2 c = search place-event
+returns-2 c = search procedure-event
 
 returns-3 : tie.Need-returns-3
-returns-3 c = search place-index
+returns-3 c = search procedure-index
 
 returns-4 : tie.Need-returns-4
-returns-4 c = search place-count
+returns-4 c = search procedure-count
 
 returns-5 : tie.Need-returns-5
-returns-5 c = search place-water
+returns-5 c = search procedure-water
 
 returns-6 : tie.Need-returns-6
-returns-6 c = search place-other
+returns-6 c = search procedure-other
 
-pub with-place-spec : {M : Type 1} → statement M
-with-place-spec =
+pub with-procedure-field-spec : {M : Type 1} → statement M
+with-procedure-field-spec =
     tie.close
     (tie.spec
     letter-in-requires
