@@ -1,5 +1,5 @@
 #!/usr/bin/env bash
-# Edits of definitions whose own crates hold no theorem about them. Each file of tests/edits is applied to a copy of the tree; the edited crate
+# Edits of definitions whose own crates hold no theorem about them. Each file of tests/edits is applied to a copy of what it needs; the edited crate
 # must still hold, and every crate named in its last line, the marked table or the theorem of demand 3, must fail. Two run side by side.
 set -eu
 cd "$(dirname "$0")/.."

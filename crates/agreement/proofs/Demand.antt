@@ -39,7 +39,7 @@ use Rattle.protocol.proofs.Theorem.{StandsAt, good, whole, start-inv, start-sta
 use Rattle.agreement.specs.PlanOf.{planOf}
 use Rattle.agreement.specs.System as A
 use Rattle.agreement.specs.Compared as C
-use Rattle.agreement.specs.Demand.{answerTo, Changes, of-module, of-supervisor, Progress, Demand3, Besides, FromStart, Demand}
+use Rattle.agreement.specs.Demand.{answerTo, Changes, of-module, of-supervisor, Progress, Demand3, Besides, Demand}
 use Rattle.agreement.proofs.Names.{messageOf}
 use Rattle.agreement.proofs.Fit.{SameModule, SameSupervisor, module-fits, supervisor-fits}
 use Rattle.agreement.proofs.Steps.{step-absent, serve-absent}

@@ -28,7 +28,7 @@ use Rattle.water.specs.Water.{flowOk, noWater, waterOf, added, reached, running
 use Rattle.water.specs.declared.Water.{Water}
 use Rattle.water.specs.declared.Flow.{Flow}
 use Rattle.water.specs.declared.Flow.the-variants.{Litres, NoSensor}
-use Rattle.modules.specs.Queue.{queueOf, full, withQueue}
+use Rattle.modules.specs.Queue.{queueOf, full}
 use Rattle.modules.specs.Own.{withOutputs}
 use Rattle.modules.specs.Procedure.{arriveAt, advanced, outputOn, outputOff, performed, tickOf, respondOf}
 use Rattle.modules.specs.Turn.{turnOf, startOwn, emptyOwn}

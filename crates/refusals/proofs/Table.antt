@@ -10,7 +10,7 @@ use borrow.Author.Tests.{eqb-true, ltb-true, le-ltb}
 use Rattle.bits.specs.Bit.{allBelow}
 use Rattle.bits.proofs.Below.{one-fails}
 use Rattle.fields.proofs.Back.{and-left, and-right}
-use Rattle.refusals.specs.Table.{has, ofImage, ofCalls, ofRequests, InTable, CallKind, check, writeRecord, rewrite, printPlan, findStuck, countWords, deviceStart, turn, start, moduleStep, supervisorStep, deliver, respond, tick, ownRespond, ownTick, numbersOf, Gives, Listed}
+use Rattle.refusals.specs.Table.{has, ofImage, ofCalls, ofRequests, CallKind, check, writeRecord, rewrite, printPlan, findStuck, countWords, deviceStart, turn, start, moduleStep, supervisorStep, deliver, respond, tick, ownRespond, ownTick, numbersOf, Gives, Listed}
 
 abbrev pub all : (ℕ → Bool) → List ℕ → Bool
 all p [] = true
