@@ -81,16 +81,15 @@ commands-end rs moves e z h g =
 
 -- the moves of a module's state are the bits of their mask, and the commands among them are those of the state
 module _ (rs : List Record) (m st : ℕ) where
-  pub move-bit : (e : ℕ) → e < 64 → bit (movesOf rs m st) e ≡ isSome (moduleMove rs m st e)
-  move-bit e l =
-      mask-bit (λ j. found (findIn (keyBy 0x13 m st j) rs)) 64 e ∙ ap (λ (b : Bool). b && found (findIn (keyBy 0x13 m st e) rs)) (lt-ltb e 64 l)
-      ∙ found-target (findIn (keyBy 0x13 m st e) rs)
+  pub move-bit : (e : ℕ) → bit (movesOf rs m st) e ≡ (ltb e 64 && isSome (moduleMove rs m st e))
+  move-bit e =
+      mask-bit (λ j. found (findIn (keyBy 0x13 m st j) rs)) 64 e ∙ ap (λ (b : Bool). ltb e 64 && b) (found-target (findIn (keyBy 0x13 m st e) rs))
 
   pub commands-of : {moves : ℕ} → moves ≡ movesOf rs m st → commandsAmong rs moves ≡ commands rs m st
   commands-of f =
       ap (commandsAmong rs) f
       ∙ mask-same (isCommand rs (movesOf rs m st)) (hasCommand rs m st) 64
-      (λ e l. and-comm (bit (movesOf rs m st) e) (controllable rs e) ∙ ap (λ (b : Bool). controllable rs e && b) (move-bit e l))
+      (λ e l. and-comm (bit (movesOf rs m st) e) (controllable rs e) ∙ ap (λ (b : Bool). controllable rs e && b) (move-bit e ∙ ap (λ (b : Bool). b && isSome (moduleMove rs m st e)) (lt-ltb e 64 l)))
 
 -- ---- a module's events
 
