@@ -21,7 +21,7 @@ use Rattle.rules.specs.declared.Verdict.the-variants.{Accepted}
 use Rattle.plan.specs.Plan.{supervisorMove, stateOr, supervisorAfter, shown, inAlphabet}
 use Rattle.modules.specs.declared.Own.{Own}
 use Rattle.modules.specs.declared.Turn.{Turn}
-use Rattle.modules.specs.declared.Turn.the-variants.{Event, Stray, Nothing}
+use Rattle.modules.specs.declared.Turn.the-variants.{Event, Nothing}
 use Rattle.modules.specs.declared.Turned.{Turned}
 use Rattle.modules.specs.declared.Replied.{Replied}
 use Rattle.modules.specs.Procedure.{calledBy}
@@ -87,7 +87,6 @@ module _ (rs : List Record) (few-modules : modulesOf rs ≤ 16) (few : superviso
       go : (o : Option ℕ) → stateOr o x ≡ Option·getD o x
       go none = unfold stateOr in refl
       go (some y) = unfold stateOr in refl
-  led-same v x (Stray e) = refl
   led-same v x Nothing = refl
 
   -- a state stays fit
@@ -99,7 +98,6 @@ module _ (rs : List Record) (few-modules : modulesOf rs ≤ 16) (few : superviso
       go true none q = unfold stateOr in h
       go true (some y) q = unfold stateOr in (kept v x e y q)
       go false o q = h
-  led-fits v x (Stray e) h = h
   led-fits v x Nothing h = h
 
   -- a supervisor that the plan lacks stays
@@ -110,7 +108,6 @@ module _ (rs : List Record) (few-modules : modulesOf rs ≤ 16) (few : superviso
       go : (b : Bool) → inAlphabet rs v e ≡ b → cond b (stateOr (supervisorMove rs v x e) x) x ≡ x
       go true q = let l : v < supervisorsOf rs = watched v e q in absurd (omega arith)
       go false q = refl
-  led-stays v x (Stray e) h = refl
   led-stays v x Nothing h = refl
 
   -- one module's own part changed

@@ -9,7 +9,7 @@ use Rattle.rules.specs.LookUp.{modulesOf, supervisorsOf, supervisorState}
 use Rattle.plan.specs.Plan.{supervisorInitial}
 use Rattle.modules.specs.declared.Own.{Own}
 use Rattle.modules.specs.declared.Turn.{Turn}
-use Rattle.modules.specs.declared.Turn.the-variants.{Event, Stray, Nothing}
+use Rattle.modules.specs.declared.Turn.the-variants.{Event, Nothing}
 use Rattle.modules.specs.Turn.{turnOf, startOwn}
 use Rattle.modules.specs.Fits.{ownFits}
 use Rattle.turn_laws.specs.Laws.{TurnLaws, ownFitsAt, stateFitsAt, Did}
@@ -27,7 +27,6 @@ module _ (rs : List Record) (T : TurnLaws rs) where
   turn-law : (m k : ℕ) (own after : Own) (t : Turn) → Did rs m k own t after → TurnLaw (planOf rs) m k own t after
   unfolding planOf
   turn-law m k own after (Event e) d = record { listed = d .moved; free = d .free }
-  turn-law m k own after (Stray e) d = d
   turn-law m k own after Nothing d = d
 
   own-laws : (m : ℕ) (own : Own) → m < modulesOf rs → ownFits rs m own ≡ true → OwnLaws (planOf rs) m own

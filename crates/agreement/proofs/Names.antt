@@ -17,7 +17,7 @@ use Rattle.rules.specs.LookUp.{supervisorsOf, eventsOf, ownerOf}
 use Rattle.plan.specs.Plan.{inAlphabet, neighbour, neighbours}
 use Rattle.modules.specs.Turn.{wish}
 use Rattle.modules.specs.declared.Turn.{Turn}
-use Rattle.modules.specs.declared.Turn.the-variants.{Event, Stray, Nothing}
+use Rattle.modules.specs.declared.Turn.the-variants.{Event, Nothing}
 use Rattle.messages.specs.Message.{noEvent}
 use Rattle.messages.specs.declared.Message.{Message}
 use Rattle.messages.specs.declared.Message.the-variants.{Bid, Permit, Release}
@@ -155,7 +155,6 @@ module _ (rs : List Record) (few : supervisorsOf rs ≤ 32) (watched : (v e : �
       go : (b : Bool) → cond b e noEvent ≡ eventByte (cond b (some e) none)
       go true = unfold eventByte in refl
       go false = unfold eventByte in refl
-  event-same v (Stray e) = refl
   event-same v Nothing = refl
 
   map-append : (f : R.Message → Message) (l r : List R.Message) → map f (l ++ r) ≡ map f l ++ map f r

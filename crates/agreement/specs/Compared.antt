@@ -32,8 +32,8 @@ use Rattle.permits.specs.Supervisor as S
 use Rattle.protocol.specs.System.{turnEvents}
 use Rattle.agreement.specs.System.{System, Act, moduleStep, supervisorStep, deliver, respond, tick, brought, step}
 
--- "Equal are a turn's event, stray event or none, any refusal's number, and after each the module's state, queue, procedure, water and
--- outputs."
+-- "Equal are a turn's event .. or none, any refusal's number, and after each the module's state, queue, procedure, water and outputs." Document 02,
+-- 2.5: "The comparison with one device is made with this turn on both sides."
 pub data Seen : Type 0 where
   turnSeen : ℕ → Turn → Own → Seen
   refusalSeen : ℕ → ℕ → Own → Seen

@@ -13,8 +13,7 @@ use Rattle.bits.specs.declared.Maybe.the-variants.{Just, Nothing}
 use Rattle.records.specs.declared.Record.{Record}
 use Rattle.rules.specs.LookUp.{controllable}
 use Rattle.modules.specs.declared.Turn.{Turn}
-use Rattle.modules.specs.declared.Turn.the-variants.{Event, Stray, Nothing as NoTurn}
-use Rattle.modules.proofs.Turn as TurnType
+use Rattle.modules.specs.declared.Turn.the-variants.{Event, Nothing as NoTurn}
 use Rattle.modules.specs.declared.Called.{Called}
 use Rattle.modules.specs.declared.Called.the-variants.{Done, Refused as CallRefused}
 use Rattle.messages.specs.Message.{messageBytes}
@@ -151,14 +150,9 @@ module _ {a : Answer} {m : ℕ} (s : Stepped) (i : a ≡ Module m s) where
       go (StepRefused n o) p = refl
 
   module _ (t : Turn) {n : ℕ} (j : s ≡ Turns t n) where
-    pub fired-eventless : OneOf (1 ∷ 2 ∷ []) (tagOf TurnType.the-type t) → Nothing ≡ fired a
+    pub fired-eventless : t ≡ NoTurn → Nothing ≡ fired a
     unfolding fired stepEvent eventOf
-    fired-eventless q = go t q ∙ ap stepEvent (sym j) ∙ ap fired (sym i)
-      where
-        go : (x : Turn) → OneOf (1 ∷ 2 ∷ []) (tagOf TurnType.the-type x) → Nothing ≡ eventOf x
-        go (Event e) p = absurd (miss (1 ∷ 2 ∷ []) 0 tt p)
-        go (Stray e) p = refl
-        go NoTurn p = refl
+    fired-eventless q = ap eventOf (sym q) ∙ ap stepEvent (sym j) ∙ ap fired (sym i)
 
     pub fired-event : {e : ℕ} → t ≡ Event e → Just e ≡ fired a
     unfolding fired stepEvent eventOf

@@ -11,7 +11,7 @@ use Rattle.bits.specs.declared.Maybe.the-variants.{Just, Nothing}
 use Rattle.records.specs.declared.Record.{Record}
 use Rattle.rules.specs.LookUp.{controllable}
 use Rattle.modules.specs.declared.Turn.{Turn}
-use Rattle.modules.specs.declared.Turn.the-variants.{Event, Stray, Nothing as NoTurn}
+use Rattle.modules.specs.declared.Turn.the-variants.{Event, Nothing as NoTurn}
 use Rattle.modules.specs.declared.Called.{Called}
 use Rattle.modules.specs.declared.Called.the-variants.{Done, Refused}
 use Rattle.modules.specs.Numbers.{calledNumber}
@@ -49,7 +49,6 @@ pub record PrintedAs (a : Answer) (t : Text) : Type 0 where
 -- "The record lists the events fired, in order"
 unfoldable pub eventOf : Turn → Maybe
 eventOf (Event e) = Just e
-eventOf (Stray e) = Nothing
 eventOf NoTurn = Nothing
 
 unfoldable pub stepEvent : Stepped → Maybe

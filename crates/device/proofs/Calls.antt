@@ -1,10 +1,8 @@
 -- Each way through a call, with every fact that the code is told as a premise.
 use Prim.Native.Nat.{ℕ, zero, suc}
 use mathlib.Core.Path.{_≡_, refl, sym, ap, ap₂, _∙_}
-use mathlib.Core.List.{List, [], _∷_}
+use mathlib.Core.List.{List}
 use lib.ListN.{length}
-use types.Run.{OneOf, miss}
-use denote.Enum.Declared.{tagOf}
 use Rattle.records.specs.declared.Record.{Record}
 use Rattle.reader.specs.Walk.{recordsOf}
 use Rattle.rules.specs.Check.{verdictOf}
@@ -14,12 +12,10 @@ use Rattle.checker.specs.Examined.{examinedOf}
 use Rattle.checker.specs.declared.Examined.{Examined}
 use Rattle.checker.specs.declared.Examined.the-variants.{Accepted, Refused}
 use Rattle.checker.proofs.Examining.{call-by, refused-call}
-use Rattle.modules.specs.declared.Turn.{Turn}
-use Rattle.modules.specs.declared.Turn.the-variants.{Event, Stray, Nothing}
+use Rattle.modules.specs.declared.Turn.the-variants.{Event, Nothing}
 use Rattle.modules.specs.declared.Turned.{Turned}
 use Rattle.modules.specs.declared.Replied.{Replied}
 use Rattle.modules.specs.declared.Called.the-variants.{Done}
-use Rattle.modules.proofs.Turn.{the-type}
 use Rattle.device_states.specs.declared.Device.{Device}
 use Rattle.device.specs.declared.DeviceTurned.{DeviceTurned}
 use Rattle.device.specs.declared.DeviceCalled.{DeviceCalled}
@@ -40,17 +36,12 @@ module _ (rs : List Record) (d : Device) (m : ℕ) (t : Turned) {w : Device} whe
   after-event a q h = ap₂ (λ (x : Device) (l : List ℕ). record { modules = x .modules; supervisors = l }) a (h ∙ ap (statesAfter rs (d .supervisors)) (sym q))
 
   -- without a firing the supervisors stay
-  pub after-none : w ≡ withOwn d m (t .own) → OneOf (1 ∷ 2 ∷ []) (tagOf the-type (t .turn)) → length (d .supervisors) ≡ 32 → w ≡ afterTurn rs d m t
+  pub after-none : w ≡ withOwn d m (t .own) → t .turn ≡ Nothing → length (d .supervisors) ≡ 32 → w ≡ afterTurn rs d m t
   unfolding afterTurn stateAfterTurn
-  after-none a o h = a ∙ ap (λ (l : List ℕ). record { modules = withOwn d m (t .own) .modules; supervisors = l }) (sym (stays (t .turn) o))
+  after-none a q h = a ∙ ap (λ (l : List ℕ). record { modules = withOwn d m (t .own) .modules; supervisors = l }) (sym (ap (statesAfter rs (d .supervisors)) q ∙ same))
     where
       same : listFrom (stateOf (d .supervisors)) 0 32 ≡ d .supervisors
       same = ap (listFrom (stateOf (d .supervisors)) 0) (sym h) ∙ same-slots 0 (d .supervisors)
-
-      stays : (x : Turn) → OneOf (1 ∷ 2 ∷ []) (tagOf the-type x) → statesAfter rs (d .supervisors) x ≡ d .supervisors
-      stays (Event e) q = absurd (miss (1 ∷ 2 ∷ []) 0 tt q)
-      stays (Stray e) q = same
-      stays Nothing q = same
 
 -- ---- the number of a call
 

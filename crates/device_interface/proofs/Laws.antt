@@ -1,14 +1,12 @@
 -- The calls over lent bytes, from what the code is told.
 use mathlib.Core.Path.{_≡_, refl, sym, ap, ap₂, _∙_, subst}
-use mathlib.Core.List.{List, [], _∷_}
+use mathlib.Core.List.{List, []}
 use mathlib.Core.Bool.{Bool, true, false, cond}
 use Prim.Native.Nat.{ℕ, _≤_, _<_}
 use native.Mathlib.Omega.{arith}
 use lib.ListN.{length}
 use lib.Dec.{eqb, ltb}
 use lib.Ieee.{Float}
-use types.Run.{OneOf}
-use denote.Enum.Declared.{tagOf}
 use borrow.Author.Tests.{lt-ltb, le-ltb, le-leb, ne-eqb}
 use Rattle.records.specs.declared.Record.{Record}
 use Rattle.roundtrip.specs.Fits.{Bytes}
@@ -30,12 +28,11 @@ use Rattle.modules.specs.Numbers.{calledNumber}
 use Rattle.modules.specs.Procedure.{calledBy, respondOf, tickOf}
 use Rattle.modules.specs.Turn.{turnOf}
 use Rattle.modules.specs.declared.Own.{Own}
-use Rattle.modules.specs.declared.Turn.the-variants.{Event}
+use Rattle.modules.specs.declared.Turn.the-variants.{Event, Nothing}
 use Rattle.modules.specs.declared.Turned.{Turned}
 use Rattle.modules.specs.declared.Replied.{Replied}
 use Rattle.modules.specs.declared.Called.{Called}
 use Rattle.modules.specs.declared.Called.the-variants.{Done, Refused as CallRefused}
-use Rattle.modules.proofs.Turn.{the-type}
 use Rattle.device.specs.Device.{turned, afterTurn, deviceNumber, turnIn, replyIn, replyBy, startCall, tickCall}
 use Rattle.device.proofs.Calls.{turn-taken, reply-taken, turn-accepted, respond-accepted, tick-accepted, reply-refused, turn-numbered as turns-numbered, reply-numbered as replies-numbered, turn-refused as turns-refused, after-event as turn-event, after-none as turn-none}
 use Rattle.device_states.specs.declared.Device.{Device}
@@ -104,7 +101,7 @@ module _ (s : List ℕ) (m : ℕ) (g : Bytes s) (d : isDevice s ≡ true) where
         k ∙ ap (putAt l slotsSize) w ∙ sym (device-moved s g d m (t .own) q l n)
         ∙ ap (λ (y : Device). devicePut y s) (turn-event rs (deviceAt s) m t refl x is)
 
-    pub after-none : OneOf (1 ∷ 2 ∷ []) (tagOf the-type (t .turn)) → s1 ≡ devicePut (afterTurn rs (deviceAt s) m t) s
+    pub after-none : t .turn ≡ Nothing → s1 ≡ devicePut (afterTurn rs (deviceAt s) m t) s
     after-none o = w ∙ sym (device-kept s g d m (t .own) q) ∙ ap (λ (y : Device). devicePut y s) (turn-none rs (deviceAt s) m t refl o (from-length (bytes.stateByte s) 0 32))
 
   module _ (x : Replied) {a : Called} (e : a ≡ calledBy (x .reply)) {t : Bool} (z : t ≡ eqb (calledNumber a) 0) {r : ℕ} (v : r ≡ calledAnswer a) where

@@ -11,7 +11,7 @@ use Rattle.rules.specs.LookUp.{modulesOf, supervisorsOf, supervisorState}
 use Rattle.plan.specs.Plan.{supervisorAfter, supervisorInitial, shown}
 use Rattle.modules.specs.declared.Own.{Own}
 use Rattle.modules.specs.declared.Turn.{Turn}
-use Rattle.modules.specs.declared.Turn.the-variants.{Event, Stray, Nothing}
+use Rattle.modules.specs.declared.Turn.the-variants.{Event, Nothing}
 use Rattle.modules.specs.Turn.{startOwn, emptyOwn}
 use Rattle.modules.specs.Fits.{ownFits, ownEmpty}
 use Rattle.words.specs.Lists.{listFrom}
@@ -45,7 +45,6 @@ shownBy rs st (suc n) = bitOr (shownBy rs st n) (shown rs n (st n))
 -- "Firing moves the module and every supervisor with the event in its alphabet; a supervisor without a listed move stays."
 unfoldable pub stateAfterTurn : List Record → ℕ → ℕ → Turn → ℕ
 stateAfterTurn rs v st (Event e) = supervisorAfter rs v st e
-stateAfterTurn rs v st (Stray e) = st
 stateAfterTurn rs v st Nothing = st
 
 abbrev pub statesAfter : List Record → List ℕ → Turn → List ℕ

@@ -32,14 +32,13 @@ fn print_called(answer: Called) {
     }
 }
 
-fn print_event(what: &[u8], event: u8) {
-    print(texts::push(texts::push_field(texts::word(what), event), b'\n'));
+fn print_event(event: u8) {
+    print(texts::push(texts::push_field(texts::word(b"event"), event), b'\n'));
 }
 
 fn print_turn(turn: Turn) {
     match turn {
-        Turn::Event(e) => print_event(b"event", e),
-        Turn::Stray(e) => print_event(b"stray", e),
+        Turn::Event(e) => print_event(e),
         Turn::Nothing => say(b"none\n"),
     }
 }

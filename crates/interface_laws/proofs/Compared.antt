@@ -3,7 +3,7 @@
 use mathlib.Core.Path.{_≡_, refl, sym, ap, ap₂, _∙_, subst}
 use mathlib.Core.Logic.{_≢_}
 use mathlib.Core.List.{List, [], _∷_, _++_, map, map-append, append-assoc}
-use mathlib.Core.Bool.{Bool, true, false, cond, _&&_}
+use mathlib.Core.Bool.{Bool, true, false, cond, _&&_, _||_}
 use Prim.Native.Nat.{ℕ, zero, suc, _+_, _*_, _<_}
 use native.Mathlib.Omega.{arith}
 use lib.ListN.{length, getD, take, drop}
@@ -23,7 +23,7 @@ use Rattle.messages.specs.Message.{short, written}
 use Rattle.modules.specs.Turn.{emptyOwn}
 use Rattle.modules.specs.declared.Own.{Own}
 use Rattle.modules.specs.declared.Turn.{Turn}
-use Rattle.modules.specs.declared.Turn.the-variants.{Event, Stray, Nothing}
+use Rattle.modules.specs.declared.Turn.the-variants.{Event, Nothing}
 use Rattle.modules.specs.declared.Called.{Called}
 use Rattle.modules.specs.declared.Called.the-variants.{Done, Refused as CallRefused}
 use Rattle.device_states.specs.States.{ownAt, deviceFits, shownBy, stateAt}
@@ -54,7 +54,6 @@ use Rattle.interface_laws.specs.SameCalls.{moduleAnswer}
 use Rattle.interface_laws.specs.Run.{Given, Memory, sensorOf, litresOf, deviceBytesStep, encoded, deviceActAnswer}
 use Rattle.interface_laws.specs.Compared.{Outcome, outcome, moduleOutcome, deviceOutcome, tookTurn, actBytesSeen, bytesSeen, actBytesFed, bytesFed, ownerIn, deviceBytesSeen}
 use Rattle.interface_laws.proofs.OwnParts.{choose}
-use Rattle.interface_laws.proofs.Devices.{slot-fits}
 use Rattle.interface_laws.proofs.Encodable.{all-encodable}
 use Rattle.interface_laws.proofs.SameCalls.{same-calls}
 use Rattle.interface_laws.proofs.Sent.{TurnSmall, StepSmall, turn-small, module-sent}
@@ -64,7 +63,6 @@ use Rattle.interface_laws.proofs.Runs.{SystemEncodable, flow-back, step
 
 abbrev turnOutcome : ℕ → Turn → List ℕ → Outcome
 turnOutcome m (Event e) own = record { owner = m; number = 0; did = 1; value = e; own = own }
-turnOutcome m (Stray e) own = record { owner = m; number = 0; did = 2; value = e; own = own }
 turnOutcome m Nothing own = record { owner = m; number = 0; did = 3; value = 0; own = own }
 
 abbrev callOutcome : ℕ → Called → List ℕ → Outcome
@@ -92,13 +90,12 @@ module _ (m : ℕ) (s b own : List ℕ) where
   parts : (n d v k : ℕ) → n < 256 → d < 256 → v < 256 → outcome m (answerBy (packed n d v k)) own ≡ record { owner = m; number = n; did = d; value = v; own = own }
   parts n d v k nh dh vh = let q = unpacked n d v k nh dh vh in simp (q .number, q .did, q .value)
 
-  is-turn : (n d v k : ℕ) → n < 256 → d < 256 → v < 256 → tookTurn (answerBy (packed n d v k)) ≡ (eqb n 0 && ltb 0 d && ltb d 4)
+  is-turn : (n d v k : ℕ) → n < 256 → d < 256 → v < 256 → tookTurn (answerBy (packed n d v k)) ≡ (eqb n 0 && (eqb d 1 || eqb d 3))
   is-turn n d v k nh dh vh = let q = unpacked n d v k nh dh vh in simp (q .number, q .did)
 
   turn-outcome : (t : Turn) (k : ℕ) → TurnSmall t → outcome m (answerBy (turnAnswer t k)) own ≡ turnOutcome m t own
   unfolding turnAnswer
   turn-outcome (Event e) k h = parts 0 1 e k (lit< tt) (lit< tt) h
-  turn-outcome (Stray e) k h = parts 0 2 e k (lit< tt) (lit< tt) h
   turn-outcome Nothing k h = parts 0 3 0 k (lit< tt) (lit< tt) (lit< tt)
 
   call-outcome : (c : CallKind) (a : Called) → CallAnswer c a → outcome m (answerBy (calledAnswer a)) own ≡ callOutcome m a own
@@ -109,7 +106,6 @@ module _ (m : ℕ) (s b own : List ℕ) where
   turn-taken : (t : Turn) (k : ℕ) → TurnSmall t → tookTurn (answerBy (turnAnswer t k)) ≡ true
   unfolding turnAnswer
   turn-taken (Event e) k h = is-turn 0 1 e k (lit< tt) (lit< tt) h
-  turn-taken (Stray e) k h = is-turn 0 2 e k (lit< tt) (lit< tt) h
   turn-taken Nothing k h = is-turn 0 3 0 k (lit< tt) (lit< tt) (lit< tt)
 
   step-taken : (a : Stepped) → StepSmall a → tookTurn (answerBy (steppedAnswer a)) ≡ tookIn a
@@ -118,7 +114,7 @@ module _ (m : ℕ) (s b own : List ℕ) where
   step-taken (Bids v k) h = is-turn 0 4 v k (lit< tt) (lit< tt) (h .0)
   step-taken Waits h = is-turn 0 6 0 0 (lit< tt) (lit< tt) (lit< tt)
   step-taken (Refused n o) h =
-      is-turn n 0 0 o (listed .byte n h) (lit< tt) (lit< tt) ∙ ap (λ (t : Bool). t && false && true) (ne-eqb n 0 (listed .not-0 n h))
+      is-turn n 0 0 o (listed .byte n h) (lit< tt) (lit< tt) ∙ ap (λ (t : Bool). t && false) (ne-eqb n 0 (listed .not-0 n h))
 
   step-outcomes : (a : Stepped) (o : Own) → StepSmall a → own ≡ ownBytes o
       → cond (tookTurn (answerBy (steppedAnswer a))) (outcome m (answerBy (steppedAnswer a)) own ∷ []) [] ≡ map outcomeOf (stepSeen m a o)
@@ -270,9 +266,9 @@ module _ (image : List ℕ) (accepted : IsPlan image) where
   abbrev plan : Sound rs
   plan = every-plan image accepted .sound
 
-  turning-small : (d : Device) (m : ℕ) → DeviceEncodable d → TurningSmall (turnCall image d m .answer)
+  turning-small : (d : Device) (m : ℕ) → TurningSmall (turnCall image d m .answer)
   unfolding turnBy turnIn turned
-  turning-small d m h = subst (λ (v : Verdict). TurningSmall (turnBy v rs d m .answer)) (sym accepted) (go (deviceNumber rs d m) refl)
+  turning-small d m = subst (λ (v : Verdict). TurningSmall (turnBy v rs d m .answer)) (sym accepted) (go (deviceNumber rs d m) refl)
     where
       in-table : (n : ℕ) (a b : Bool) → _≡_ {A = ℕ} (cond a (cond b 0 11) 9) (suc n) → InTable (suc n)
       in-table n true true e = absurd (omega arith)
@@ -280,7 +276,7 @@ module _ (image : List ℕ) (accepted : IsPlan image) where
       in-table n false b e = subst InTable e refl
 
       go : (n : ℕ) → deviceNumber rs d m ≡ n → TurningSmall (turnIn rs d m n .answer)
-      go zero e = turn-small rs plan m (shownBy rs (stateAt d) (supervisorsOf rs)) (ownAt d m) (slot-fits rs plan d m h e)
+      go zero e = turn-small rs m (shownBy rs (stateAt d) (supervisorsOf rs)) (ownAt d m)
       go (suc n) e = in-table n (deviceFits rs d) (ltb m (modulesOf rs)) e
 
   device-act : (d : Device) → DeviceEncodable d → (a : DeviceAct) → ownerIn a < 16 → deviceOutcome (ownerIn a) (deviceBytesStep image (deviceBytes d) a) ≡ outcomeOf (deviceActSeen image d a)
@@ -289,7 +285,7 @@ module _ (image : List ℕ) (accepted : IsPlan image) where
       let e : Device = turnCall image d m .device in
       ap (deviceOutcome m) (device-same image accepted d h (deviceTurn m))
       ∙ ap (outcome m (deviceActAnswer image d (deviceTurn m))) (slot e m (device-encodable image accepted d h (deviceTurn m)) l)
-      ∙ turning-outcome m (deviceBytes e) [] (turnCall image d m .answer) (ownAt e m) (turning-small d m h)
+      ∙ turning-outcome m (deviceBytes e) [] (turnCall image d m .answer) (ownAt e m) (turning-small d m)
   device-act d h (deviceRespond m r) l =
       let e : Device = respondCall image d m r .device in
       ap (deviceOutcome m) (device-same image accepted d h (deviceRespond m r))

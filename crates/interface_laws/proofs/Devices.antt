@@ -26,7 +26,7 @@ use Rattle.modules.specs.Fits.{ownFits, ownEmpty}
 use Rattle.modules.specs.declared.Own.{Own}
 use Rattle.modules.specs.declared.Replied.{Replied}
 use Rattle.modules.specs.declared.Turn.{Turn}
-use Rattle.modules.specs.declared.Turn.the-variants.{Event, Stray, Nothing}
+use Rattle.modules.specs.declared.Turn.the-variants.{Event, Nothing}
 use Rattle.device_states.specs.States.{ownAt, stateOf, ownSlotFits, stateSlotFits, deviceFits, shownBy, stateAt, stateAfterTurn, startSlot, startState}
 use Rattle.device_states.specs.declared.Device.{Device}
 use Rattle.device.specs.Device.{turned, afterTurn, deviceNumber, turnIn, turnBy, turnCall, replyIn, replyBy, respondCall, tickCall, startBy, startCall}
@@ -63,7 +63,7 @@ owns-empty (suc n) = (empty-encodable, owns-empty n)
 
 module _ (rs : List Record) (plan : Sound rs) (d : Device) (m : ℕ) (h : DeviceEncodable d) where
   -- a call without a number is on a state that fits, of a module of the plan
-  pub slot-fits : deviceNumber rs d m ≡ 0 → T (ownFits rs m (ownAt d m))
+  slot-fits : deviceNumber rs d m ≡ 0 → T (ownFits rs m (ownAt d m))
   unfolding deviceFits ownSlotFits
   slot-fits e = go (deviceFits rs d) (ltb m (modulesOf rs)) refl refl e
     where
@@ -81,7 +81,6 @@ module _ (rs : List Record) (plan : Sound rs) (d : Device) (m : ℕ) (h : Device
   moved : (v : ℕ) (t : Turn) → Byte (stateAfterTurn rs v (stateOf (d .supervisors) v) t)
   unfolding stateAfterTurn supervisorAfter
   moved v (Event e) = choose Byte (inAlphabet rs v e) _ _ (λ a. moved-byte rs plan v (stateOf (d .supervisors) v) e (h .states v)) (λ a. h .states v)
-  moved v (Stray e) = h .states v
   moved v Nothing = h .states v
 
   with-own : (own : Own) → OwnEncodable own → OwnsEncodable (set (d .modules) m own) × (length (set (d .modules) m own) ≡ 16)

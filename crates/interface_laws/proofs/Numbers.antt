@@ -28,7 +28,7 @@ use Rattle.paper.specs.declared.Printed.{Printed}
 use Rattle.paper.specs.declared.Printed.the-variants.{Length as Pages, Refused as PrintRefused}
 use Rattle.modules.specs.Numbers.{calledNumber}
 use Rattle.modules.specs.declared.Turn.{Turn}
-use Rattle.modules.specs.declared.Turn.the-variants.{Event, Stray, Nothing}
+use Rattle.modules.specs.declared.Turn.the-variants.{Event, Nothing}
 use Rattle.modules.specs.declared.Called.{Called}
 use Rattle.modules.specs.declared.Called.the-variants.{Done, Refused}
 use Rattle.device.specs.Numbers.{turningNumber}
@@ -145,7 +145,6 @@ called-number c (Refused n o) h = number c n o (h .numbered n o refl)
 pub turn-number : (t : Turn) (s : ℕ) → turnAnswer t s % 256 ≡ 0
 unfolding turnAnswer
 turn-number (Event e) s = accepted 1 e s
-turn-number (Stray e) s = accepted 2 e s
 turn-number Nothing s = accepted 3 0 s
 
 turning-number : (a : Turning) → TurnAnswer a → turningAnswer a % 256 ≡ turningNumber a

@@ -93,7 +93,7 @@ module _ (rs : List Record) where
 
   turn-rest : (m k : ℕ) (own : Own) → Rest own → Rest (turnOf rs m k own .own)
   turn-rest m k own r =
-      turn-cases rs m own k (λ t. Rest (t .own)) (λ e q st h g. record { outputs = r .outputs; water = r .water }) (λ e q h. record { outputs = r .outputs; water = r .water })
+      turn-cases rs m own k (λ t. Rest (t .own)) (λ i st l g. record { outputs = r .outputs; water = r .water })
       (λ e st h i l g. record { outputs = r .outputs; water = arrive-f64 e 0 }) r
 
   respond-rest : (m e : ℕ) (own : Own) → Rest own → Rest (respondOf rs m e own .own)
@@ -149,7 +149,7 @@ record Small (p : Procedure) : Type 0 where
   count : p .count < 2 ^ 16
 
 module _ (rs : List Record) (plan : Sound rs) (m : ℕ) where
-  pub own-event : (e : ℕ) → T (ownUncontrollable rs m e) → Byte e
+  own-event : (e : ℕ) → T (ownUncontrollable rs m e) → Byte e
   own-event e t = let l : e < eventsOf rs = ltb→lt e (eventsOf rs) (search both) in omega (arith, plan .events .1)
 
   events : (q : List ℕ) → T (every (ownUncontrollable rs m) q) → Bytes q

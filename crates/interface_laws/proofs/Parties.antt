@@ -82,7 +82,7 @@ mask-small g h =
 
 -- ---- modules
 
-pub own-fits : (rs : List Record) (m : ℕ) (x : Module) → M.moduleFits rs m x ≡ true → T (ownFits rs m (x .own))
+own-fits : (rs : List Record) (m : ℕ) (x : Module) → M.moduleFits rs m x ≡ true → T (ownFits rs m (x .own))
 unfolding M.fitsIn
 own-fits rs m x f = let t : T (M.moduleFits rs m x) = holds _ f in search both
 

@@ -7,7 +7,7 @@ use Prim.Native.Nat.{ℕ, zero, suc, _+_, _*_, _/_, _%_, _^_, _≤_, _<_}
 use native.Mathlib.Omega.{arith}
 use lib.ListN.{length, getD, take, drop, List·getD-append}
 use lib.Seq.{getD-drop}
-use lib.Dec.{T, eqb, ltb, lit<}
+use lib.Dec.{eqb, ltb, lit<}
 use borrow.Author.Tests.{ne-eqb, ltb-true, ltb-false}
 use Rattle.bits.specs.Bit.{bit}
 use Rattle.bits.proofs.Least.{least-some}
@@ -25,12 +25,11 @@ use Rattle.roundtrip.specs.Fits.{Byte, Bytes}
 use Rattle.messages.specs.Message.{releaseSize, messageBytes, short, written}
 use Rattle.messages.specs.declared.Message.{Message}
 use Rattle.messages.specs.declared.Message.the-variants.{Bid, Permit, Release}
-use Rattle.modules.specs.Queue.{queueOf}
-use Rattle.modules.specs.Turn.{turnOf}
-use Rattle.modules.specs.Fits.{ownFits}
+use Rattle.modules.specs.Queue.{responseAt}
+use Rattle.modules.specs.Turn.{hasMove, turnOf}
 use Rattle.modules.specs.declared.Own.{Own}
 use Rattle.modules.specs.declared.Turn.{Turn}
-use Rattle.modules.specs.declared.Turn.the-variants.{Event, Stray, Nothing}
+use Rattle.modules.specs.declared.Turn.the-variants.{Event, Nothing}
 use Rattle.permits.specs.Step.{bytesOfMessages}
 use Rattle.permits.specs.Module as M
 use Rattle.permits.specs.Supervisor as S
@@ -41,9 +40,7 @@ use Rattle.permits.specs.declared.Stepped.the-variants.{Turns, Bids, Waits, Ref
 use Rattle.permits.specs.declared.Served.{Served}
 use Rattle.permits.specs.declared.Served.the-variants.{Sends, Waits as ServedWaits, Refused as ServeRefused}
 use Rattle.permits.proofs.Stepping.{bytes-append}
-use Rattle.turn_laws.proofs.Procedure.{parts}
-use Rattle.turn_laws.proofs.Queue.{head-own}
-use Rattle.turn_laws.proofs.Turn.{turn-cases}
+use Rattle.turn_laws.proofs.Turn.{turn-cases, move-below}
 use Rattle.refusals.specs.Table.{InTable}
 use Rattle.refusals.proofs.Table.{listed}
 use Rattle.packing.specs.Answer.{packed, turnAnswer, steppedAnswer, servedAnswer}
@@ -52,14 +49,13 @@ use Rattle.packing.proofs.Parts.{unpacked}
 use Rattle.agreement.specs.System.{bufferLength, pieces, wrote, wroteOut}
 use Rattle.interface_laws.specs.Run.{moduleSends, supervisorSends}
 use Rattle.interface_laws.proofs.ByteLists.{bytes-none, bytes-more, bytes-joined, word-bytes}
-use Rattle.interface_laws.proofs.OwnParts.{choose, own-event}
-use Rattle.interface_laws.proofs.Parties.{own-fits, served-small}
+use Rattle.interface_laws.proofs.OwnParts.{choose}
+use Rattle.interface_laws.proofs.Parties.{served-small}
 
 -- ---- an answer whose parts have room in its number
 
 abbrev pub TurnSmall : Turn → Type 0
 TurnSmall (Event e) = Byte e
-TurnSmall (Stray e) = Byte e
 TurnSmall Nothing = Unit {0}
 
 abbrev pub StepSmall : Stepped → Type 0
@@ -96,7 +92,6 @@ module _ (s b : List ℕ) where
   turn-sends : (t : Turn) (n : ℕ) → TurnSmall t → n < 2 ^ 32 → moduleSends (record { number = turnAnswer t n; state = s; buffer = b }) ≡ pieces releaseSize (n / releaseSize) b
   unfolding turnAnswer
   turn-sends (Event e) n h l = by-module 1 e n (lit< tt) h l
-  turn-sends (Stray e) n h l = by-module 2 e n (lit< tt) h l
   turn-sends Nothing n h l = by-module 3 0 n (lit< tt) (lit< tt) l
 
   module _ (n o : ℕ) (t : InTable n) where
@@ -173,18 +168,18 @@ one-message g h = bytes-joined (messageBytes g) [] (message-bytes g h) bytes-non
 abbrev Sendable : M.StepCall → Type 0
 Sendable c = StepSmall (c .answer) × AllBytes (wrote (c .answer) (c .buffer))
 
-module _ (rs : List Record) (plan : Sound rs) (m : ℕ) where
-  pub turn-small : (k : ℕ) (own : Own) → T (ownFits rs m own) → TurnSmall (turnOf rs m k own .turn)
-  turn-small k own t =
-      turn-cases rs m own k (λ y. TurnSmall (y .turn)) (λ e q st h g. response e q h) response (λ e st h r l g. let b : e < 64 = l .below in omega arith) tt
-    where
-      response : (e : ℕ) (q : List ℕ) → queueOf own ≡ e ∷ q → Byte e
-      response e q h = own-event rs plan m e (head-own rs m own e q h (parts rs m own t .queue))
+-- a response by which the module has a move and a command are below 64
+pub turn-small : (rs : List Record) (m k : ℕ) (own : Own) → TurnSmall (turnOf rs m k own .turn)
+turn-small rs m k own =
+    turn-cases rs m own k (λ y. TurnSmall (y .turn)) (λ i st l g. response (responseAt own i) (l .passes)) (λ e st h r l g. let b : e < 64 = l .below in omega arith) tt
+  where
+    response : (e : ℕ) → hasMove rs m (own .state) e ≡ true → Byte e
+    response e h = let b : e < 64 = move-below rs m (own .state) e h in omega arith
 
+module _ (rs : List Record) (plan : Sound rs) (m : ℕ) where
   event-byte : (v : ℕ) (t : Turn) → TurnSmall t → Byte (M.eventFor rs v t)
   unfolding M.eventFor
   event-byte v (Event e) h = choose Byte (inAlphabet rs v e) _ _ (λ a. h) (λ a. lit< tt)
-  event-byte v (Stray e) h = lit< tt
   event-byte v Nothing h = lit< tt
 
   releases-bytes : (t : Turn) → TurnSmall t → Byte m → (n : ℕ) → n ≤ 32 → Bytes (bytesOfMessages (M.releases rs m t n))
@@ -215,25 +210,25 @@ module _ (rs : List Record) (plan : Sound rs) (m : ℕ) where
     unfolding M.choice M.missingIn
     module-bid v e = least-some (λ w. bit (neighbours rs m) w && not (bit (x .held) w)) 32 v (bid-to (M.missing rs m (x .held)) _ _ _ _ v e) .below
 
-    chosen-sent : T (ownFits rs m (x .own)) → Byte m → (c : M.Choice) → M.choice rs m x ≡ c → length (M.stepBytes rs m x c) ≤ bufferLength
+    chosen-sent : Byte m → (c : M.Choice) → M.choice rs m x ≡ c → length (M.stepBytes rs m x c) ≤ bufferLength
         → StepSmall (M.answerBy rs m x c) × AllBytes (wrote (M.answerBy rs m x c) (written (M.stepBytes rs m x c) b))
     unfolding M.answerBy M.sentBy wrote
-    chosen-sent t h M.takesTurn e r =
-        let u : TurnSmall (M.turnTaken rs m x .turn) = turn-small (x .received) (x .own) t in
+    chosen-sent h M.takesTurn e r =
+        let u : TurnSmall (M.turnTaken rs m x .turn) = turn-small rs m (x .received) (x .own) in
         let g : Bytes (M.stepBytes rs m x M.takesTurn) = releases-bytes (M.turnTaken rs m x .turn) u h 32 (omega arith) in
         ((u, omega arith), in-pieces (length (M.stepBytes rs m x M.takesTurn) / releaseSize) (written (M.stepBytes rs m x M.takesTurn) b) (λ j k. first-written (M.stepBytes rs m x M.takesTurn) b g j (omega arith)))
-    chosen-sent t h (M.bidsTo v) e r =
+    chosen-sent h (M.bidsTo v) e r =
         let k : v < 32 = module-bid v e in
         let g : Bytes (M.stepBytes rs m x (M.bidsTo v)) = one-message (Bid m v) (h, omega arith) in
         ((omega arith, omega arith), (taken (length (M.stepBytes rs m x (M.bidsTo v))) (written (M.stepBytes rs m x (M.bidsTo v)) b) (first-written (M.stepBytes rs m x (M.bidsTo v)) b g), tt))
-    chosen-sent t h M.waits e r = (tt, tt)
+    chosen-sent h M.waits e r = (tt, tt)
 
     module-sent-in : Sendable (M.stepBy Accepted rs m x b)
     unfolding M.stepBy M.stepIn wrote
     module-sent-in =
         choose Sendable (ltb m (modulesOf rs)) _ _ (λ p. choose Sendable (M.moduleFits rs m x) _ _
         (λ f. choose Sendable (short (M.stepBytes rs m x (M.choice rs m x)) b) _ _ (λ q. (refl, tt))
-        (λ q. chosen-sent (own-fits rs m x f) (omega (arith, ltb-true m (modulesOf rs) p, plan .modules .1)) (M.choice rs m x) refl (omega (arith, ltb-false (length b) (length (M.stepBytes rs m x (M.choice rs m x))) q))))
+        (λ q. chosen-sent (omega (arith, ltb-true m (modulesOf rs) p, plan .modules .1)) (M.choice rs m x) refl (omega (arith, ltb-false (length b) (length (M.stepBytes rs m x (M.choice rs m x))) q))))
         (λ f. (refl, tt))) (λ p. (refl, tt))
 
 pub module-sent : (image : List ℕ) → IsPlan image → (m : ℕ) (x : Module) (b : List ℕ) → length b ≡ bufferLength → Sendable (M.moduleStep image m x b)

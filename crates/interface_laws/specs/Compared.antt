@@ -1,8 +1,9 @@
--- What demand 3 compares, over bytes. Document 01: "Equal are a turn's event, stray event or none, any refusal's number, and after each the
--- module's state, queue, procedure, water and outputs": the parts of the answer's number, and the bytes of the module's own part.
+-- What demand 3 compares, over bytes. Document 01: "Equal are a turn's event .. or none, any refusal's number, and after each the module's state,
+-- queue, procedure, water and outputs": the parts of the answer's number, and the bytes of the module's own part. Document 02, 2.5: "The comparison
+-- with one device is made with this turn on both sides."
 use Prim.Native.Nat.{ℕ, _*_, _/_, _%_}
 use mathlib.Core.List.{List, [], _∷_, _++_}
-use mathlib.Core.Bool.{Bool, cond, _&&_}
+use mathlib.Core.Bool.{Bool, cond, _&&_, _||_}
 use lib.ListN.{take, drop}
 use lib.Dec.{eqb, ltb}
 use Rattle.reader.specs.Walk.{recordsOf}
@@ -37,9 +38,9 @@ moduleOutcome m a = outcome m a (take ownSize (a .state))
 abbrev pub deviceOutcome : ℕ → Answer → Outcome
 deviceOutcome m a = outcome m a (take ownSize (drop (m * ownSize) (a .state)))
 
--- an accepted step that took a turn, by the header: 1 "a turn: an event fired", 2 "a turn: a stray response", 3 "a turn: none"
+-- an accepted step that took a turn, by the header: 1 "a turn: an event fired", 3 "a turn: none"
 abbrev pub tookTurn : Answer → Bool
-tookTurn a = eqb (numberOf a) 0 && ltb 0 (didOf a) && ltb (didOf a) 4
+tookTurn a = eqb (numberOf a) 0 && (eqb (didOf a) 1 || eqb (didOf a) 3)
 
 -- Document 01: "Calls for a party that the plan lacks are merely refused, their numbers not compared."
 unfoldable pub actBytesSeen : List ℕ → Memory → Act → List Outcome

@@ -46,7 +46,6 @@ fn wrote(what: &[u8], x: u8, n: usize) -> Text {
 fn turn_text(turn: Turn, n: usize) -> Text {
     match turn {
         Turn::Event(e) => wrote(b"event", e, n),
-        Turn::Stray(e) => wrote(b"stray", e, n),
         Turn::Nothing => texts::push_spaced(texts::word(b"none"), n),
     }
 }

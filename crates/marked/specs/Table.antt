@@ -25,7 +25,7 @@ use Rattle.water.specs.declared.Water.{Water}
 use Rattle.water.specs.declared.Flow.{Flow}
 use Rattle.water.specs.declared.Flow.the-variants.{Litres}
 use Rattle.modules.specs.Procedure.{calledBy, arriveAt, performed, tickOf, respondOf}
-use Rattle.modules.specs.Turn.{byResponse, byCommand, enabled, chosen, byChoice, turnOn, turnOf, queuedAny, wish, startOwn}
+use Rattle.modules.specs.Turn.{hasMove, firstUsable, byResponse, byCommand, enabled, chosen, byChoice, turnOn, turnOf, wish, startOwn}
 use Rattle.modules.specs.Fits.{every, queueFits, idleFits, stepFits, procedureFits, ownFits, ownEmpty}
 use Rattle.modules.specs.declared.Turn.the-variants.{Event, Nothing}
 use Rattle.modules.specs.Queue.{queueOf}
@@ -131,7 +131,7 @@ pub record Marked : Type 0 where
   pub reading-more : tickCall planP d0 0 (Litres (f64 513 8)) .answer ≡ NotDone 14 0
 
 pub marked : Marked
-unfolding planP d0 d1 d2 d3 d4 d5 m0 m1 m2 v0 v1 bit allBelow putBit least orElse someBelow maskOf wordAt wordBytes isEighths count eighths round add ofBits bodyLen kindOf inRange operandInRange keyOf sameKey precedes recordOf walkOf recordsIn findIn field1 field2 field3 wordField found fieldOf stepsOf indexRuns inOrder namesDeclared keepsRules allDeclared faultOf checkWalk verdictOf field4 target stateOr supervisorAfter counting waterOf flowOk added sum arriveAt performed tickOf respondOf byResponse byCommand enabled chosen byChoice turnOn turnOf queuedAny wish startOwn every queueFits idleFits stepFits procedureFits ownFits ownEmpty listFrom ownSlotFits stateSlotFits startSlot startState deviceFits shownBy stateAfterTurn turned afterTurn turnIn turnBy calledBy replyIn replyBy startBy messageBytes parse named M.missingIn M.heldIn M.fitsIn M.choiceOn M.choice M.eventFor M.releasesIn bytesOfMessages M.sentBy M.answerBy M.stateBy M.stepIn M.stepBy M.isFor M.bidWith M.takenBy M.deliverIn M.deliverBy M.startBy S.holderFits S.supervisorFits S.moduleAfter S.nextNoted S.servedOn S.sentTo S.answerBy S.stateBy S.stepIn S.stepBy S.takenBy S.deliverIn S.deliverBy S.startBy
+unfolding planP d0 d1 d2 d3 d4 d5 m0 m1 m2 v0 v1 bit allBelow putBit least orElse someBelow maskOf wordAt wordBytes isEighths count eighths round add ofBits bodyLen kindOf inRange operandInRange keyOf sameKey precedes recordOf walkOf recordsIn findIn field1 field2 field3 wordField found fieldOf stepsOf indexRuns inOrder namesDeclared keepsRules allDeclared faultOf checkWalk verdictOf field4 target stateOr supervisorAfter counting waterOf flowOk added sum arriveAt performed tickOf respondOf hasMove firstUsable byResponse byCommand enabled chosen byChoice turnOn turnOf wish startOwn every queueFits idleFits stepFits procedureFits ownFits ownEmpty listFrom ownSlotFits stateSlotFits startSlot startState deviceFits shownBy stateAfterTurn turned afterTurn turnIn turnBy calledBy replyIn replyBy startBy messageBytes parse named M.missingIn M.heldIn M.fitsIn M.choiceOn M.choice M.eventFor M.releasesIn bytesOfMessages M.sentBy M.answerBy M.stateBy M.stepIn M.stepBy M.isFor M.bidWith M.takenBy M.deliverIn M.deliverBy M.startBy S.holderFits S.supervisorFits S.moduleAfter S.nextNoted S.servedOn S.sentTo S.answerBy S.stateBy S.stepIn S.stepBy S.takenBy S.deliverIn S.deliverBy S.startBy
 marked = record {
   p-length = refl;
   p-accepted = refl;

@@ -1,27 +1,37 @@
--- Document 01, "Turns on one device": a turn of a module over a mask of disabled events.
+-- Document 01, "Turns on one device", with document 02, 2.5: a turn of a module over a mask of disabled events.
 use Prim.Native.Nat.{ℕ}
-use mathlib.Core.List.{List, [], _∷_}
+use mathlib.Core.List.{List}
 use mathlib.Core.Option.{Option, none, some}
-use mathlib.Core.Bool.{Bool, true, false, cond, not, _&&_, _||_}
-use lib.ListN.{replicate}
-use Rattle.bits.specs.Bit.{bit, least, someBelow}
+use mathlib.Core.Bool.{Bool, cond, not, _&&_, _||_}
+use lib.ListN.{length, replicate}
+use lib.Dec.{ltb}
+use Rattle.bits.specs.Bit.{bit, least, isSome, someBelow}
 use Rattle.records.specs.declared.Record.{Record}
 use Rattle.plan.specs.Plan.{moduleMove, moduleInitial, hasCommand}
 use Rattle.modules.specs.declared.Own.{Own}
 use Rattle.modules.specs.declared.Procedure.{Procedure}
-use Rattle.modules.specs.declared.Turn.the-variants.{Event, Stray, Nothing}
+use Rattle.modules.specs.declared.Turn.the-variants.{Event, Nothing}
 use Rattle.modules.specs.declared.Turned.{Turned}
 use Rattle.modules.specs.Own.{withState, withProcedure}
-use Rattle.modules.specs.Queue.{queueOf, withQueue}
+use Rattle.modules.specs.Queue.{queueOf, responseAt, withQueue, without}
 use Rattle.modules.specs.Procedure.{idle, arriveAt}
 
 abbrev pub moved : Own → ℕ → Procedure → Own
 moved own st p = withProcedure (withState own st) p
 
--- document 01's term "stray": "If the module has a move by it, that event fires; if not, the turn ends as stray."
+-- the module "has a move" here by a response; no event is numbered 64 or above
+unfoldable pub hasMove : List Record → ℕ → ℕ → ℕ → Bool
+hasMove rs m st e = ltb e 64 && isSome (moduleMove rs m st e)
+
+-- "the first queued response by which the module has a move", a usable one: its index in the queue
+unfoldable pub firstUsable : List Record → ℕ → Own → Option ℕ
+firstUsable rs m own = least (λ i. hasMove rs m (own .state) (responseAt own i)) (length (queueOf own))
+
+-- the response at index i fires, "and the others remain in their order"
 unfoldable pub byResponse : Own → ℕ → Option ℕ → Turned
-byResponse own e (some t) = record { turn = Event e; own = moved own t (own .procedure) }
-byResponse own e none = record { turn = Stray e; own = own }
+byResponse own i (some t) =
+    record { turn = Event (responseAt own i); own = moved (withQueue own (without i (queueOf own))) t (own .procedure) }
+byResponse own i none = record { turn = Nothing; own = own }
 
 -- document 01's term "command": "A controllable firing is a command and starts the event's procedure at index 0"
 unfoldable pub byCommand : List Record → Own → ℕ → Option ℕ → Turned
@@ -42,23 +52,20 @@ unfoldable pub byChoice : List Record → ℕ → Own → Option ℕ → Turned
 byChoice rs m own (some e) = byCommand rs own e (moduleMove rs m (own .state) e)
 byChoice rs m own none = record { turn = Nothing; own = own }
 
--- document 01's term "turn": "1. If its response queue holds anything, the head is removed. .. 2. Otherwise, if its procedure is idle, the
--- lowest-numbered controllable event fires that has a move here and stands in no shown mask. 3. Otherwise none."
-unfoldable pub turnOn : List Record → ℕ → ℕ → Own → List ℕ → Turned
-turnOn rs m k own (e ∷ q) = byResponse (withQueue own q) e (moduleMove rs m (own .state) e)
-turnOn rs m k own [] = cond (own .procedure .running) (record { turn = Nothing; own = own }) (byChoice rs m own (chosen rs m k own))
+-- document 01's term "turn", rule 1 by document 02: "a turn takes the first queued response by which the module has a move .. If none has one, the
+-- turn goes on to rule 2": "2. Otherwise, if its procedure is idle, the lowest-numbered controllable event fires that has a move here and stands in
+-- no shown mask. 3. Otherwise none."
+unfoldable pub turnOn : List Record → ℕ → ℕ → Own → Option ℕ → Turned
+turnOn rs m k own (some i) = byResponse own i (moduleMove rs m (own .state) (responseAt own i))
+turnOn rs m k own none = cond (own .procedure .running) (record { turn = Nothing; own = own }) (byChoice rs m own (chosen rs m k own))
 
 unfoldable pub turnOf : List Record → ℕ → ℕ → Own → Turned
-turnOf rs m k own = turnOn rs m k own (queueOf own)
+turnOf rs m k own = turnOn rs m k own (firstUsable rs m own)
 
-unfoldable pub queuedAny : List ℕ → Bool
-queuedAny [] = false
-queuedAny (e ∷ q) = true
-
--- document 01's term "wish": "A wish is a queued response, or an idle procedure where the present state has a controllable move."
+-- document 01's term "wish", by document 02: "a wish means such a response or a controllable move with an idle procedure"
 unfoldable pub wish : List Record → ℕ → Own → Bool
 wish rs m own =
-    queuedAny (queueOf own) || (not (own .procedure .running) && someBelow (hasCommand rs m (own .state)) 64)
+    isSome (firstUsable rs m own) || (not (own .procedure .running) && someBelow (hasCommand rs m (own .state)) 64)
 
 -- the own part with every number 0
 abbrev pub emptyOwn : Own

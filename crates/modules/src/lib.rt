@@ -1,14 +1,15 @@
 // The module's own part: the same struct on one device and on many. What a response and a tick do to it, and its parts of a turn.
 ghost use mathlib.Core.Path.{_≡_};
+ghost use mathlib.Core.List.{List};
 ghost use mathlib.Core.Bool.{true, false, cond};
-ghost use Prim.Native.Nat.{suc, _<_};
+ghost use Prim.Native.Nat.{ℕ, suc, _<_};
 ghost use lib.Dec.{eqb, ltb};
-ghost use lib.ListN.{getD, take, drop};
+ghost use lib.ListN.{length, getD, take};
 ghost use Rattle.places.specs.Places.{recordsBy};
 ghost use Rattle.plan.specs.Plan.{counts};
 ghost use Rattle.water.specs.Water as Rules;
 ghost use Rattle.water.specs.Water.{flowOk, noWater, waterOf};
-ghost use Rattle.modules.specs.Queue.{queueOf, cells, full, withQueue, queued};
+ghost use Rattle.modules.specs.Queue.{queueOf, cells, full, withQueue, queued, without};
 ghost use Rattle.modules.specs.Own.{withOutputs};
 ghost use Rattle.modules.specs.Procedure.{idle, arriveAt, outputOn, outputOff, counted, calledBy, respondOf, tickOf};
 ghost use Rattle.modules.specs.Procedure as Steps;
@@ -39,10 +40,9 @@ pub struct Own {
     pub outputs: u32,
 }
 
-// What a turn did: an event fired, a response was stray, document 01's term for one that the module has no move by, or nothing.
+// What a turn did: an event fired, or nothing.
 pub enum Turn {
     Event(u8),
-    Stray(u8),
     Nothing,
 }
 
@@ -73,7 +73,7 @@ pub enum Called {
 // ---- the queue
 
 // What stands in a cell of a queue of n responses, and 0 past them.
-fn cell(q: [u8; 8], n: u8, i: usize) -> u8
+pub fn cell(q: [u8; 8], n: u8, i: usize) -> u8
     ensures { λ r. ⌜ r ≡ getD (take n q) i 0 ⌝ }
 {
     if i < words::wide(n) {
@@ -83,15 +83,27 @@ fn cell(q: [u8; 8], n: u8, i: usize) -> u8
     }
 }
 
-// The eight cells of a queue of n responses without its first k.
-fn cells_after(q: [u8; 8], n: u8, k: u8) -> [u8; 8]
-    ensures { λ r. ⌜ r ≡ cells (drop k (take n q)) ⌝ }
+// The same without the response at index k: those after it move up.
+fn cell_without(q: [u8; 8], n: u8, k: usize, i: usize) -> u8
+    requires { ⌜ i < 8 ⌝ }
+    ensures { λ r. ⌜ r ≡ getD (without k (take n q)) i 0 ⌝ }
 {
-    let from = words::wide(k);
+    if i < k {
+        cell(q, n, i)
+    } else {
+        cell(q, n, i + 1)
+    }
+}
+
+// The eight cells of a queue of n responses without the one at index k.
+fn cells_without(q: [u8; 8], n: u8, k: u8) -> [u8; 8]
+    ensures { λ r. ⌜ r ≡ cells (without k (take n q)) ⌝ }
+{
+    let gap = words::wide(k);
     let mut r = [0u8; 8];
     let mut i: usize = 0;
     while i < 8 {
-        r[i] = cell(q, n, from + i);
+        r[i] = cell_without(q, n, gap, i);
         i += 1;
     }
     r
@@ -105,7 +117,8 @@ fn with_response(own: Own, e: u8) -> Own
     let n = own.length;
     let i = words::wide(n);
     let q = own.queue;
-    let mut after = cells_after(q, n, 0);
+    // No response stands at index 8.
+    let mut after = cells_without(q, n, 8);
     after[i] = e;
     let mut next = own;
     next.queue = after;
@@ -113,25 +126,28 @@ fn with_response(own: Own, e: u8) -> Own
     next
 }
 
-// The own part without the head of its queue.
-pub fn without_head(own: Own) -> Own
-    ensures { λ r. ⌜ r ≡ withQueue own (drop 1 (queueOf own)) ⌝ }
+// How many responses a queue of eight cells and n responses holds without the one at index k.
+fn count_without(n: u8, k: u8) -> u8
+    ensures { λ r. ⌜ ((q : List ℕ) → length q ≡ 8 → r ≡ length (without k (take n q))) ⌝ }
+{
+    if n < 8 {
+        if k < n { n - 1 } else { n }
+    } else {
+        if k < 8 { 7 } else { 8 }
+    }
+}
+
+// The own part without the response at index k of its queue; the others remain in their order.
+pub fn without(own: Own, k: u8) -> Own
+    ensures { λ r. ⌜ r ≡ withQueue own (without k (queueOf own)) ⌝ }
 {
     let n = own.length;
     let q = own.queue;
-    let after = cells_after(q, n, 1);
+    let after = cells_without(q, n, k);
     let mut next = own;
     next.queue = after;
-    if n == 0 {
-        return next;
-    }
-    if n < 8 {
-        next.length = n - 1;
-        next
-    } else {
-        next.length = 7;
-        next
-    }
+    next.length = count_without(n, k);
+    next
 }
 
 // A response of module m by the event e.

@@ -13,7 +13,7 @@ use Rattle.rules.specs.declared.Verdict.{Verdict}
 use Rattle.rules.specs.declared.Verdict.the-variants.{Accepted, Refused as CheckRefused}
 use Rattle.modules.specs.Numbers.{calledNumber, calledOffset}
 use Rattle.modules.specs.declared.Turn.{Turn}
-use Rattle.modules.specs.declared.Turn.the-variants.{Event, Stray, Nothing}
+use Rattle.modules.specs.declared.Turn.the-variants.{Event, Nothing}
 use Rattle.modules.specs.declared.Called.{Called}
 use Rattle.modules.specs.declared.Called.the-variants.{Done, Refused}
 use Rattle.device.specs.Numbers.{turningNumber, turningOffset}
@@ -46,11 +46,10 @@ unfoldable pub calledAnswer : Called → ℕ
 calledAnswer Done = done 0 0 0
 calledAnswer (Refused n o) = refused (calledNumber (Refused n o)) (calledOffset (Refused n o))
 
--- PEWTERSLUG_EVENT, 1: "a turn: an event fired, the value is the event"; PEWTERSLUG_STRAY, 2: "a turn: a stray response, the value is its event";
--- PEWTERSLUG_NONE, 3: "a turn: none"
+-- PEWTERSLUG_EVENT, 1: "a turn: an event fired, the value is the event"; PEWTERSLUG_NONE, 3: "a turn: none". 2 stood for a turn that
+-- document 02, 2.5, took out, and is not given again.
 unfoldable pub turnAnswer : Turn → ℕ → ℕ
 turnAnswer (Event e) size = done 1 e size
-turnAnswer (Stray e) size = done 2 e size
 turnAnswer Nothing size = done 3 0 size
 
 unfoldable pub turningAnswer : Turning → ℕ

@@ -54,7 +54,6 @@ fn turn(t: Turn, size: usize) -> u64
 {
     match t {
         Turn::Event(e) => pack(0, 1, e, size),
-        Turn::Stray(e) => pack(0, 2, e, size),
         Turn::Nothing => pack(0, 3, 0, size),
     }
 }

@@ -17,7 +17,7 @@ use Rattle.plan.specs.Plan.{inAlphabet, neighbours}
 use Rattle.water.specs.declared.Flow.{Flow}
 use Rattle.modules.specs.declared.Own.{Own}
 use Rattle.modules.specs.declared.Turn.{Turn}
-use Rattle.modules.specs.declared.Turn.the-variants.{Event, Stray, Nothing}
+use Rattle.modules.specs.declared.Turn.the-variants.{Event, Nothing}
 use Rattle.modules.specs.declared.Turned.{Turned}
 use Rattle.modules.specs.declared.Replied.{Replied}
 use Rattle.modules.specs.declared.Called.the-variants.{Done, Refused as CallRefused}
@@ -99,7 +99,6 @@ afterTurn x own = withPermits (withOwn x own) 0 0
 -- "A release carries the event that fired if that supervisor's alphabet has it, else FF."
 unfoldable pub eventFor : List Record → ℕ → Turn → ℕ
 eventFor rs v (Event e) = cond (inAlphabet rs v e) e noEvent
-eventFor rs v (Stray e) = noEvent
 eventFor rs v Nothing = noEvent
 
 -- "releases all in ascending order": those to the supervisors of a mask below n, and to the neighbours below n

@@ -14,7 +14,7 @@ use Rattle.bits.proofs.Laws.{bit-none}
 use Rattle.water.specs.declared.Flow.{Flow}
 use Rattle.modules.specs.declared.Own.{Own}
 use Rattle.modules.specs.declared.Turn.{Turn}
-use Rattle.modules.specs.declared.Turn.the-variants.{Event, Stray, Nothing}
+use Rattle.modules.specs.declared.Turn.the-variants.{Event, Nothing}
 use Rattle.modules.specs.declared.Reply.{Reply}
 use Rattle.protocol.specs.Generic.{update, Picked, pick}
 use Rattle.protocol.specs.Plan.{Plan, Fired, TurnLaw, OwnLaws, Laws}
@@ -86,7 +86,6 @@ module _ (P : Plan) (A : Laws P) (O : OneDevice) (m : ℕ) (mine : m < P .module
           disabled-by-none = λ s b. rw (← a .supervisors s) (disabled-by-none e s o l b);
         } in
         next allowed none-left
-    turn-legal (Stray e) o l = none-left
     turn-legal Nothing o l = none-left
 
     turn-leads : (t : Turn) (o : Own) → TurnLaw P m mask (O .owns m) t o
@@ -101,7 +100,6 @@ module _ (P : Plan) (A : Laws P) (O : OneDevice) (m : ℕ) (mine : m < P .module
               (λ b h i. a .modules b i ∙ sym (update-other (p .moduleStates) m y b h)));
           supervisors = λ s. ap (λ (x : ℕ). cond (P .alphabet s e) (Option·getD (P .supervisorMove s x e) x) x) (a .supervisors s);
         }
-    turn-leads (Stray e) o l = same-state P O m o p (λ i. l) a
     turn-leads Nothing o l = same-state P O m o p (λ i. l) a
 
 -- ---- what a choice says

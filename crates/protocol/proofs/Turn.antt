@@ -14,7 +14,7 @@ use Rattle.bits.specs.Bit.{bit}
 use Rattle.bits.proofs.Laws.{bit-none}
 use Rattle.modules.specs.declared.Own.{Own}
 use Rattle.modules.specs.declared.Turn.{Turn}
-use Rattle.modules.specs.declared.Turn.the-variants.{Event, Stray, Nothing}
+use Rattle.modules.specs.declared.Turn.the-variants.{Event, Nothing}
 use Rattle.modules.specs.declared.Turned.{Turned}
 use Rattle.protocol.specs.Plan.{Plan, TurnLaw, OwnLaws, Laws}
 use Rattle.protocol.specs.Rules.{OneDevice, stateAfter, shownBelow, deviceTurn, deviceTurns, deviceStep, neighbour, Message, release, ModuleState, lacks, missing, takesTurn, afterTurn, eventFor, releases, eventOfBoth, applied}
@@ -35,7 +35,6 @@ module _ (P : Plan) (A : Laws P) (m k : ℕ) (o o′ : Own) where
       go : (P .alphabet s e ≡ true) ⊎ (P .alphabet s e ≡ false) → cond (P .alphabet s e) (Option·getD (P .supervisorMove s x e) x) x ≡ x
       go (inl q) = clash (neighbour-by P A m s e (A .move-owner m (o .state) e (o′ .state) (l .listed)) q) h
       go (inr q) = rw q
-  far-stays s x (Stray e) l h = refl
   far-stays s x Nothing l h = refl
 
   event-of-both : (s : ℕ) (t : Turn) → TurnLaw P m k o t o′ → eventOfBoth P m s (eventFor P s t) ≡ true
@@ -45,7 +44,6 @@ module _ (P : Plan) (A : Laws P) (m k : ℕ) (o o′ : Own) where
       go : (b : Bool) → P .alphabet s e ≡ b → eventOfBoth P m s (cond b (some e) none) ≡ true
       go true q = and-intro q (rw (A .move-owner m (o .state) e (o′ .state) (l .listed)) (eqb-self m))
       go false q = refl
-  event-of-both s (Stray e) l = refl
   event-of-both s Nothing l = refl
 
 -- the event that a release carries leads the supervisor as firing does
@@ -56,7 +54,6 @@ applied-is P s x (Event e) = go (P .alphabet s e)
     go : (b : Bool) → cond b (Option·getD (P .supervisorMove s x e) x) x ≡ applied P s x (cond b (some e) none)
     go true = refl
     go false = refl
-applied-is P s x (Stray e) = refl
 applied-is P s x Nothing = refl
 
 -- ---- the releases of a turn, counted

@@ -11,8 +11,8 @@ use Rattle.protocol.specs.System.{System, Act, run, seen, fed, deviceSee
 use Rattle.protocol.specs.Language.{Supervised}
 
 pub record Demand3 (P : Plan) (D : System) (O : OneDevice) (p : Position) (acts : List Act) : Type 0 where
-  -- "Equal are a turn's event, stray event or none, any refusal's number, and after each the module's state, queue, procedure, water and
-  -- outputs." So records and commands are equal.
+  -- "Equal are a turn's event .. or none, any refusal's number, and after each the module's state, queue, procedure, water and outputs." Document 02,
+  -- 2.5: "The comparison with one device is made with this turn on both sides." So records and commands are equal.
   pub equal : seen P D acts ≡ deviceSeen P O (fed P D acts)
   pub records-equal : recordOfEvents (seen P D acts) ≡ recordOfEvents (deviceSeen P O (fed P D acts))
   pub commands-equal : commandsOf P (recordOfEvents (seen P D acts)) ≡ commandsOf P (recordOfEvents (deviceSeen P O (fed P D acts)))

@@ -9,7 +9,7 @@ use Rattle.bits.specs.Bit.{bit}
 use Rattle.water.specs.declared.Flow.{Flow}
 use Rattle.modules.specs.declared.Own.{Own}
 use Rattle.modules.specs.declared.Turn.{Turn}
-use Rattle.modules.specs.declared.Turn.the-variants.{Event, Stray, Nothing}
+use Rattle.modules.specs.declared.Turn.the-variants.{Event, Nothing}
 use Rattle.modules.specs.declared.Turned.{Turned}
 use Rattle.modules.specs.declared.Replied.{Replied}
 
@@ -48,7 +48,6 @@ pub record Fired (P : Plan) (m k : ℕ) (o : Own) (e : ℕ) (o′ : Own) : Type 
 
 abbrev pub TurnLaw : Plan → ℕ → ℕ → Own → Turn → Own → Type 0
 TurnLaw P m k o (Event e) o′ = Fired P m k o e o′
-TurnLaw P m k o (Stray e) o′ = o′ .state ≡ o .state
 TurnLaw P m k o Nothing o′ = o′ .state ≡ o .state
 
 -- the calls on an own part o of module m that fits

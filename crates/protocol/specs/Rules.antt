@@ -10,7 +10,7 @@ use Rattle.bits.specs.Bit.{bit, putBit, least, moduleAfter, isSome}
 use Rattle.water.specs.declared.Flow.{Flow}
 use Rattle.modules.specs.declared.Own.{Own}
 use Rattle.modules.specs.declared.Turn.{Turn}
-use Rattle.modules.specs.declared.Turn.the-variants.{Event, Stray, Nothing}
+use Rattle.modules.specs.declared.Turn.the-variants.{Event, Nothing}
 use Rattle.modules.specs.declared.Turned.{Turned}
 use Rattle.protocol.specs.Generic.{update, isNumber}
 use Rattle.protocol.specs.Plan.{Plan}
@@ -23,7 +23,6 @@ pub record OneDevice : Type 0 where
 -- "Firing moves the module and every supervisor with the event in its alphabet; a supervisor without a listed move stays."
 unfoldable pub stateAfter : Plan → ℕ → ℕ → Turn → ℕ
 stateAfter P s x (Event e) = cond (P .alphabet s e) (Option·getD (P .supervisorMove s x e) x) x
-stateAfter P s x (Stray e) = x
 stateAfter P s x Nothing = x
 
 -- every mask shown by a supervisor below n, the states being x
@@ -101,7 +100,6 @@ afterTurn P m x = record { own = P .turn m (x .received) (x .own) .own; held = 0
 -- "A release carries the event that fired if that supervisor's alphabet has it, else FF."
 unfoldable pub eventFor : Plan → ℕ → Turn → Option ℕ
 eventFor P s (Event e) = cond (P .alphabet s e) (some e) none
-eventFor P s (Stray e) = none
 eventFor P s Nothing = none
 
 -- to the neighbours below n

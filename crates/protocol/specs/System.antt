@@ -13,7 +13,7 @@ use Rattle.bits.specs.Bit.{bit, isSome}
 use Rattle.water.specs.declared.Flow.{Flow}
 use Rattle.modules.specs.declared.Own.{Own}
 use Rattle.modules.specs.declared.Turn.{Turn}
-use Rattle.modules.specs.declared.Turn.the-variants.{Event, Stray, Nothing}
+use Rattle.modules.specs.declared.Turn.the-variants.{Event, Nothing}
 use Rattle.modules.specs.declared.Turned.{Turned}
 use Rattle.modules.specs.declared.Reply.{Reply}
 use Rattle.modules.specs.declared.Replied.{Replied}
@@ -93,8 +93,8 @@ startDevice P = record { owns = P .start; states = P .supervisorInitial }
 
 -- ---- what is compared
 
--- "Equal are a turn's event, stray event or none, any refusal's number, and after each the module's state, queue, procedure, water and
--- outputs."
+-- "Equal are a turn's event .. or none, any refusal's number, and after each the module's state, queue, procedure, water and outputs." Document 02,
+-- 2.5: "The comparison with one device is made with this turn on both sides."
 pub data Seen : Type 0 where
   turnSeen : ℕ → Turn → Own → Seen
   replySeen : ℕ → Reply → Own → Seen
@@ -157,7 +157,6 @@ deviceSeen P O (a ∷ l) = deviceActSeen P O a ∷ deviceSeen P (deviceStep P O 
 -- document 01's terms "record" and "commands": "The record lists the events fired, in order; commands are its controllable ones."
 unfoldable pub turnEvents : Turn → List ℕ
 turnEvents (Event e) = e ∷ []
-turnEvents (Stray e) = []
 turnEvents Nothing = []
 
 unfoldable pub recordOfEvents : List Seen → List ℕ

@@ -21,11 +21,11 @@ use Rattle.modules.specs.Numbers.{replyNumber}
 use Rattle.modules.specs.Procedure.{taken as took, refused as denied, respondOf, tickOf}
 use Rattle.modules.specs.Turn.{emptyOwn}
 use Rattle.modules.specs.declared.Own.{Own}
-use Rattle.modules.specs.declared.Turn.the-variants.{Event, Stray, Nothing}
+use Rattle.modules.specs.declared.Turn.the-variants.{Event, Nothing}
 use Rattle.modules.specs.declared.Replied.{Replied}
 use Rattle.device_states.specs.States.{ownAt, withOwn, deviceFits}
 use Rattle.device.specs.Device.{deviceNumber, turnRefused, turnIn, turnBy, replyIn, replyBy, startBy}
-use Rattle.device.specs.Numbers.{turningNumber, turningOffset, turningEvent, turningStray}
+use Rattle.device.specs.Numbers.{turningNumber, turningOffset, turningEvent}
 use Rattle.device_states.specs.declared.Device.{Device}
 use Rattle.device.specs.declared.Turning.{Turning}
 use Rattle.device.specs.declared.Turning.the-variants.{Done as TurnDone, Refused as TurnRefused}
@@ -60,22 +60,12 @@ own-part = record { respond = own-respond; tick = own-tick }
 
 -- ---- one device
 
--- the event that fired and the one that was stray
+-- the event that fired
 event-of : (a : Turning) → HeldAlone turningEvent (λ e. TurnDone (Event e)) a
 event-of a = record { is = λ k e. ap turningEvent e; otherwise = go a }
   where
     go : (a : Turning) → ((k : ℕ) → a ≢ TurnDone (Event k)) → turningEvent a ≡ none
     go (TurnDone (Event k)) h = absurd (h k refl)
-    go (TurnDone (Stray k)) h = refl
-    go (TurnDone Nothing) h = refl
-    go (TurnRefused n o) h = refl
-
-stray-of : (a : Turning) → HeldAlone turningStray (λ e. TurnDone (Stray e)) a
-stray-of a = record { is = λ k e. ap turningStray e; otherwise = go a }
-  where
-    go : (a : Turning) → ((k : ℕ) → a ≢ TurnDone (Stray k)) → turningStray a ≡ none
-    go (TurnDone (Event k)) h = refl
-    go (TurnDone (Stray k)) h = absurd (h k refl)
     go (TurnDone Nothing) h = refl
     go (TurnRefused n o) h = refl
 
@@ -98,7 +88,6 @@ module _ (rs : List Record) (d : Device) (m : ℕ) where
         answer = refuses Table.turn turningNumber turningOffset TurnRefused (λ n o. refl) (λ n o. refl) n o t p;
         state = same n d;
         event = event-of (TurnRefused n o);
-        stray = stray-of (TurnRefused n o);
       }
 
   turn-in : (n : ℕ) → OfDevice n → DeviceTurn d (turnIn rs d m n)
@@ -108,7 +97,6 @@ module _ (rs : List Record) (d : Device) (m : ℕ) where
         answer = accepts Table.turn turningNumber turningOffset TurnRefused _ (λ n o e. never (cc)) refl refl;
         state = taken d _;
         event = event-of _;
-        stray = stray-of _;
       }
   turn-in (suc n) h = turn-refused (suc n) 0 (h (λ e. omega arith)) (at-zero (suc n))
 

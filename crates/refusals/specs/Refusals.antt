@@ -33,13 +33,13 @@ use Rattle.modules.specs.Numbers.{replyNumber, calledNumber, calledOffset}
 use Rattle.modules.specs.Procedure.{respondOf, tickOf}
 use Rattle.modules.specs.declared.Own.{Own}
 use Rattle.modules.specs.declared.Turn.{Turn}
-use Rattle.modules.specs.declared.Turn.the-variants.{Event, Stray}
+use Rattle.modules.specs.declared.Turn.the-variants.{Event}
 use Rattle.modules.specs.declared.Called.{Called}
 use Rattle.modules.specs.declared.Called.the-variants.{Refused as CallRefused}
 use Rattle.modules.specs.declared.Reply.the-variants.{Taken, Refused as ReplyRefused}
 use Rattle.modules.specs.declared.Replied.{Replied}
 use Rattle.device.specs.Device.{startCall, turnCall, respondCall, tickCall}
-use Rattle.device.specs.Numbers.{turningNumber, turningOffset, turningEvent, turningStray}
+use Rattle.device.specs.Numbers.{turningNumber, turningOffset, turningEvent}
 use Rattle.device_states.specs.declared.Device.{Device}
 use Rattle.device.specs.declared.Turning.{Turning}
 use Rattle.device.specs.declared.Turning.the-variants.{Done as TurnDone, Refused as TurnRefused}
@@ -189,9 +189,8 @@ SupervisorCall k y c = Call k y (c .answer) (c .state)
 pub record DeviceTurn (d : Device) (c : DeviceTurned) : Type 0 where
   pub answer : TurnAnswer (c .answer)
   pub state : Unchanged (turningNumber (c .answer)) d (c .device)
-  -- the event that fired and the one that was stray; a refused turn has neither
+  -- the event that fired; a refused turn has none
   pub event : HeldAlone turningEvent (λ e. TurnDone (Event e)) (c .answer)
-  pub stray : HeldAlone turningStray (λ e. TurnDone (Stray e)) (c .answer)
 
 -- the bytes that a step wrote; `Lent` says that a refused one wrote none
 pub record StepBytes (a : Stepped) : Type 0 where

@@ -11,15 +11,12 @@ use lib.Dec.{lit≤}
 use lib.ListN.{length, drop, length-append, length-drop}
 use lib.Seq.{take-append-seam, drop-append-add, drop-drop}
 use borrow.Author.Tests.{lt-ltb, le-ltb}
-use types.Run.{OneOf, miss}
-use denote.Enum.Declared.{tagOf}
 use Rattle.bits.specs.Bit.{bit}
 use Rattle.bits.proofs.Laws.{bit-above, shr-none, ones-in}
 use Rattle.records.specs.declared.Record.{Record}
 use Rattle.plan.specs.Plan.{inAlphabet}
 use Rattle.modules.specs.declared.Turn.{Turn}
-use Rattle.modules.specs.declared.Turn.the-variants.{Event, Stray, Nothing}
-use Rattle.modules.proofs.Turn.{the-type}
+use Rattle.modules.specs.declared.Turn.the-variants.{Event, Nothing}
 use Rattle.messages.specs.Message.{noEvent, releaseSize, messageBytes, written, fitsAt, putAt}
 use Rattle.messages.specs.Write.{Wrote}
 use Rattle.messages.specs.declared.Message.the-variants.{Release}
@@ -33,14 +30,9 @@ use Rattle.releasing.specs.Released.{Released}
 -- ---- the event that a release carries
 
 module _ (rs : List Record) (v : ℕ) (t : Turn) where
-  pub event-none : OneOf (1 ∷ 2 ∷ []) (tagOf the-type t) → 255 ≡ eventFor rs v t
+  pub event-none : t ≡ Nothing → 255 ≡ eventFor rs v t
   unfolding eventFor
-  event-none = go t
-    where
-      go : (x : Turn) → OneOf (1 ∷ 2 ∷ []) (tagOf the-type x) → 255 ≡ eventFor rs v x
-      go (Event e) q = absurd (miss (1 ∷ 2 ∷ []) 0 tt q)
-      go (Stray e) q = refl
-      go Nothing q = refl
+  event-none q = ap (eventFor rs v) (sym q)
 
   module _ {a : Bool} {e : ℕ} (q : t ≡ Event e) (f : a ≡ inAlphabet rs v e) where
     pub event-in : a ≡ true → e ≡ eventFor rs v t

@@ -18,7 +18,7 @@ use Rattle.rules.specs.Check.{faultOf, checkWalk, verdictOf}
 use Rattle.plan.specs.Plan.{field4, target, stateOr, supervisorAfter, counting}
 use Rattle.modules.specs.Procedure.{calledBy, arriveAt, performed, tickOf, respondOf}
 use Rattle.water.specs.Water.{flowOk, waterOf, added}
-use Rattle.modules.specs.Turn.{byResponse, byCommand, enabled, chosen, byChoice, turnOn, turnOf, queuedAny, wish, startOwn}
+use Rattle.modules.specs.Turn.{hasMove, firstUsable, byResponse, byCommand, enabled, chosen, byChoice, turnOn, turnOf, wish, startOwn}
 use Rattle.modules.specs.Fits.{every, queueFits, idleFits, stepFits, procedureFits, ownFits, ownEmpty}
 use Rattle.words.specs.Lists.{listFrom}
 use Rattle.device_states.specs.States.{ownSlotFits, stateSlotFits, startSlot, startState, deviceFits, shownBy, stateAfterTurn}
@@ -39,5 +39,5 @@ abbrev pub printed : List ℕ
 printed = ascii "plan 2 1 4\nturn 0 none\nturn 1 event 2\nturn 0 event 0\nresponse 1 queued 3\nturn 1 event 3\nturn 0 none\nstates 1 0 0\n"
 
 pub sheet : listed planP script ≡ printed
-unfolding planP ascii digits numberFrom begins upTo numberUpTo numberOf spaceIn pairOf lineOf spacedAll headerLine refusedLine turnLine responseLine statesRow deviceAfter answerTo onFirst linesOf answersTo listedBy bit allBelow putBit least orElse someBelow maskOf wordAt wordBytes isEighths count eighths round ofBits bodyLen kindOf inRange operandInRange keyOf sameKey precedes recordOf walkOf recordsIn findIn field1 field2 field3 wordField found fieldOf stepsOf indexRuns inOrder namesDeclared keepsRules allDeclared faultOf checkWalk verdictOf field4 target stateOr supervisorAfter counting waterOf flowOk added arriveAt performed tickOf respondOf byResponse byCommand enabled chosen byChoice turnOn turnOf queuedAny wish startOwn every queueFits idleFits stepFits procedureFits ownFits ownEmpty listFrom ownSlotFits stateSlotFits startSlot startState deviceFits shownBy stateAfterTurn turned afterTurn turnIn turnBy calledBy replyIn replyBy startBy
+unfolding planP ascii digits numberFrom begins upTo numberUpTo numberOf spaceIn pairOf lineOf spacedAll headerLine refusedLine turnLine responseLine statesRow deviceAfter answerTo onFirst linesOf answersTo listedBy bit allBelow putBit least orElse someBelow maskOf wordAt wordBytes isEighths count eighths round ofBits bodyLen kindOf inRange operandInRange keyOf sameKey precedes recordOf walkOf recordsIn findIn field1 field2 field3 wordField found fieldOf stepsOf indexRuns inOrder namesDeclared keepsRules allDeclared faultOf checkWalk verdictOf field4 target stateOr supervisorAfter counting waterOf flowOk added arriveAt performed tickOf respondOf hasMove firstUsable byResponse byCommand enabled chosen byChoice turnOn turnOf wish startOwn every queueFits idleFits stepFits procedureFits ownFits ownEmpty listFrom ownSlotFits stateSlotFits startSlot startState deviceFits shownBy stateAfterTurn turned afterTurn turnIn turnBy calledBy replyIn replyBy startBy
 sheet = refl

@@ -20,7 +20,7 @@ use Rattle.rules.specs.Check.{faultOf, checkWalk, verdictOf}
 use Rattle.plan.specs.Plan.{field4, target, stateOr, supervisorAfter, counting}
 use Rattle.modules.specs.Procedure.{calledBy, arriveAt, performed, tickOf, respondOf}
 use Rattle.water.specs.Water.{flowOk, waterOf, added}
-use Rattle.modules.specs.Turn.{byResponse, byCommand, enabled, chosen, byChoice, turnOn, turnOf, queuedAny, wish, startOwn}
+use Rattle.modules.specs.Turn.{hasMove, firstUsable, byResponse, byCommand, enabled, chosen, byChoice, turnOn, turnOf, wish, startOwn}
 use Rattle.modules.specs.Fits.{every, queueFits, idleFits, stepFits, procedureFits, ownFits, ownEmpty}
 use Rattle.words.specs.Lists.{listFrom}
 use Rattle.device_states.specs.States.{ownSlotFits, stateSlotFits, startSlot, startState, deviceFits, shownBy, stateAfterTurn}
@@ -86,7 +86,7 @@ pub record Overtaken : Type 0 where
   pub one-device : C.recordOfEvents (C.deviceSeen planP (startCall planP .device) (C.fed planP (start planP) (overtaking ++ other ++ served ++ response))) ≡ 2 ∷ 0 ∷ 3 ∷ []
 
 pub overtaken : Overtaken
-unfolding planP s1 s2 s3 s4 bit allBelow putBit least orElse someBelow maskOf wordAt wordBytes isEighths count eighths round ofBits bodyLen kindOf inRange operandInRange keyOf sameKey precedes recordOf walkOf recordsIn findIn field1 field2 field3 wordField found fieldOf stepsOf indexRuns inOrder namesDeclared keepsRules allDeclared faultOf checkWalk verdictOf field4 target stateOr supervisorAfter counting waterOf calledBy respondOf byResponse byCommand enabled chosen byChoice turnOn turnOf queuedAny wish startOwn every queueFits idleFits stepFits procedureFits ownFits ownEmpty messageBytes parse named M.missingIn M.heldIn M.fitsIn M.choiceOn M.choice M.eventFor M.releasesIn bytesOfMessages M.sentBy M.answerBy M.stateBy M.stepIn M.stepBy M.isFor M.bidWith M.takenBy M.deliverIn M.deliverBy M.startBy S.holderFits S.supervisorFits S.moduleAfter S.nextNoted S.servedOn S.sentTo S.answerBy S.stateBy S.stepIn S.stepBy S.takenBy S.deliverIn S.deliverBy S.startBy update start step run pieces wrote wroteOut at mark underWay once delivered deliveredAt C.stepSeen C.actSeen C.seen turnEvents C.recordOfEvents C.choiceFed C.actFed C.fed C.deviceStep C.turningSeen C.deviceActSeen C.deviceSeen listFrom ownSlotFits stateSlotFits startSlot startState deviceFits shownBy stateAfterTurn turned afterTurn turnIn turnBy replyIn replyBy startBy S.applied S.heldBy M.replyBy arriveAt performed tickOf flowOk added
+unfolding planP s1 s2 s3 s4 bit allBelow putBit least orElse someBelow maskOf wordAt wordBytes isEighths count eighths round ofBits bodyLen kindOf inRange operandInRange keyOf sameKey precedes recordOf walkOf recordsIn findIn field1 field2 field3 wordField found fieldOf stepsOf indexRuns inOrder namesDeclared keepsRules allDeclared faultOf checkWalk verdictOf field4 target stateOr supervisorAfter counting waterOf calledBy respondOf hasMove firstUsable byResponse byCommand enabled chosen byChoice turnOn turnOf wish startOwn every queueFits idleFits stepFits procedureFits ownFits ownEmpty messageBytes parse named M.missingIn M.heldIn M.fitsIn M.choiceOn M.choice M.eventFor M.releasesIn bytesOfMessages M.sentBy M.answerBy M.stateBy M.stepIn M.stepBy M.isFor M.bidWith M.takenBy M.deliverIn M.deliverBy M.startBy S.holderFits S.supervisorFits S.moduleAfter S.nextNoted S.servedOn S.sentTo S.answerBy S.stateBy S.stepIn S.stepBy S.takenBy S.deliverIn S.deliverBy S.startBy update start step run pieces wrote wroteOut at mark underWay once delivered deliveredAt C.stepSeen C.actSeen C.seen turnEvents C.recordOfEvents C.choiceFed C.actFed C.fed C.deviceStep C.turningSeen C.deviceActSeen C.deviceSeen listFrom ownSlotFits stateSlotFits startSlot startState deviceFits shownBy stateAfterTurn turned afterTurn turnIn turnBy replyIn replyBy startBy S.applied S.heldBy M.replyBy arriveAt performed tickOf flowOk added
 overtaken = record {
   noted-while-out = refl;
   release-behind = refl;

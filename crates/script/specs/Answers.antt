@@ -3,7 +3,7 @@ use Prim.Native.Nat.{ℕ}
 use mathlib.Core.List.{List, _++_, map}
 use lib.ListN.{take}
 use Rattle.modules.specs.declared.Own.{Own}
-use Rattle.modules.specs.declared.Turn.the-variants.{Event, Stray, Nothing}
+use Rattle.modules.specs.declared.Turn.the-variants.{Event, Nothing}
 use Rattle.modules.specs.declared.Called.{Called}
 use Rattle.modules.specs.declared.Called.the-variants.{Done, Refused as CallRefused}
 use Rattle.modules.specs.Numbers.{calledNumber}
@@ -26,10 +26,9 @@ planRefusedLine n o = ascii "plan refused" ++ spaced n ++ ascii " at" ++ spaced 
 unfoldable pub refusedLine : ℕ → List ℕ
 refusedLine n = ascii "refused" ++ spaced n ++ ascii "\n"
 
--- "turn 1 event 2", "turn 0 none", "`turn M stray E`"
+-- "turn 1 event 2", "turn 0 none"
 unfoldable pub turnLine : ℕ → Turning → List ℕ
 turnLine m (TurnDone (Event e)) = ascii "turn" ++ spaced m ++ ascii " event" ++ spaced e ++ ascii "\n"
-turnLine m (TurnDone (Stray e)) = ascii "turn" ++ spaced m ++ ascii " stray" ++ spaced e ++ ascii "\n"
 turnLine m (TurnDone Nothing) = ascii "turn" ++ spaced m ++ ascii " none\n"
 turnLine m (TurnRefused n o) = refusedLine (turningNumber (TurnRefused n o))
 

@@ -1,7 +1,7 @@
 -- Document 01, "The two-valve sheet": its lines and some others, each by computation.
 use mathlib.Core.Path.{_≡_, refl}
 use Rattle.modules.specs.declared.Called.the-variants.{Done, Refused as CallRefused}
-use Rattle.modules.specs.declared.Turn.the-variants.{Event, Stray, Nothing}
+use Rattle.modules.specs.declared.Turn.the-variants.{Event, Nothing}
 use Rattle.device.specs.declared.Turning.the-variants.{Done as TurnDone, Refused as TurnRefused}
 use Rattle.device_states.specs.States.{emptyDevice}
 use Rattle.lines.specs.Number.{numberFrom, begins, upTo, numberUpTo, numberOf, spaceIn}
@@ -42,7 +42,6 @@ pub record Answers : Type 0 where
   pub header : headerLine 2 1 4 ≡ ascii "plan 2 1 4\n"
   pub none : turnLine 0 (TurnDone Nothing) ≡ ascii "turn 0 none\n"
   pub event : turnLine 1 (TurnDone (Event 2)) ≡ ascii "turn 1 event 2\n"
-  pub stray : turnLine 1 (TurnDone (Stray 3)) ≡ ascii "turn 1 stray 3\n"
   pub queued : responseLine 1 3 Done ≡ ascii "response 1 queued 3\n"
   pub refused-turn : turnLine 9 (TurnRefused 11 0) ≡ ascii "refused 11\n"
   pub refused-response : responseLine 1 3 (CallRefused 13 0) ≡ ascii "refused 13\n"
@@ -84,7 +83,6 @@ answers =
       header = refl;
       none = refl;
       event = refl;
-      stray = refl;
       queued = refl;
       refused-turn = refl;
       refused-response = refl;

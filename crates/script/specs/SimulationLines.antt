@@ -2,7 +2,7 @@
 use Prim.Native.Nat.{ℕ}
 use mathlib.Core.List.{List, _++_}
 use Rattle.device_states.specs.declared.Device.{Device}
-use Rattle.modules.specs.declared.Turn.the-variants.{Event, Stray, Nothing}
+use Rattle.modules.specs.declared.Turn.the-variants.{Event, Nothing}
 use Rattle.modules.specs.declared.Called.{Called}
 use Rattle.modules.specs.declared.Called.the-variants.{Done, Refused as CallRefused}
 use Rattle.modules.specs.Numbers.{calledNumber}
@@ -28,7 +28,6 @@ tickLine m (CallRefused n o) = refusedLine (calledNumber (CallRefused n o))
 
 unfoldable pub steppedLine : ℕ → Stepped → List ℕ
 steppedLine m (Turns (Event e) k) = ascii "module" ++ spaced m ++ ascii " event" ++ spaced e ++ ascii "\n"
-steppedLine m (Turns (Stray e) k) = ascii "module" ++ spaced m ++ ascii " stray" ++ spaced e ++ ascii "\n"
 steppedLine m (Turns Nothing k) = ascii "module" ++ spaced m ++ ascii " none\n"
 steppedLine m (Bids v k) = ascii "module" ++ spaced m ++ ascii " bids" ++ spaced v ++ ascii "\n"
 steppedLine m Waits = ascii "module" ++ spaced m ++ ascii " waits\n"

@@ -180,7 +180,6 @@ pub fn turn_line(m: u8, a: Turning) -> Text
     match a {
         Turning::Done(t) => match t {
             Turn::Event(e) => long_line(b"turn", m, b" event", e),
-            Turn::Stray(e) => long_line(b"turn", m, b" stray", e),
             Turn::Nothing => short_line(b"turn", m, b" none\n"),
         },
         Turning::Refused(n, _) => refused_line(n),
@@ -256,7 +255,6 @@ pub fn stepped_line(m: u8, a: Stepped) -> Text
     match a {
         Stepped::Turns(t, _) => match t {
             Turn::Event(e) => long_line(b"module", m, b" event", e),
-            Turn::Stray(e) => long_line(b"module", m, b" stray", e),
             Turn::Nothing => short_line(b"module", m, b" none\n"),
         },
         Stepped::Bids(v, _) => long_line(b"module", m, b" bids", v),

@@ -25,6 +25,7 @@ use Rattle.turn_laws.proofs.Queue as queue
 use Rattle.turn_laws.proofs.Procedure as procedure
 use Rattle.turn_laws.proofs.Own as own
 use Rattle.turn_laws.proofs.Turn as turn
+use Rattle.turn_laws.proofs.Halted as halted
 use Rattle.turn_laws.proofs.Respond as respond
 use Rattle.turn_laws.proofs.Tick as tick
 
@@ -41,6 +42,7 @@ turn-laws rs s w = record {
   few-supervisors = s .supervisors;
   few-events = s .events .1;
   own-move = λ m x e y q. found.module-move rs s m x e y q .own-event;
+  has-move = turn.has-move rs s;
   module-move = found.module-move rs s;
   supervisor-move = found.supervisor-move rs s;
   shown-in-alphabet = plan.shown-in-alphabet rs s w;
@@ -58,11 +60,15 @@ turn-laws rs s w = record {
   turn-ok = λ m k a f. turn.turn-ok rs m a s f k;
   turn-same = λ m k k′ a. turn.turn-same rs m a s k k′;
   turn-fits = λ m k a. kept rs m a _ (turn.turn-fits rs m a s k);
+  response = λ m k a e. turn.response rs m a s k e;
   command = λ m k a e f. turn.command rs m a s f k e;
   respond-state = respond.respond-state rs;
   respond-fits = λ m e a. kept rs m a _ (respond.respond-fits rs m e a);
   tick-state = λ f a. tick.tick-state rs a f;
   tick-fits = λ m f a. kept rs m a _ (λ t. tick.tick-fits rs a s m t f);
+  halted-turn = λ m k a h. halted.halted-turn rs s m a h k;
+  halted-respond = λ m e a h. halted.halted-respond rs s m a h e;
+  halted-tick = λ m f a h. halted.halted-tick rs s m a h f;
   sizes = λ m a t. own.sizes rs s m a (holds _ t);
   start-cells = λ m. refl;
   turn-cells = λ m k a. turn.turn-cells rs m a k;
@@ -72,7 +78,7 @@ turn-laws rs s w = record {
   queue-length = queue.queue-length;
   queue-cells = λ m a t. queue.queue-cells rs m a (procedure.parts rs m a (holds _ t) .queue);
   queued-last = λ m e a t p. queue.queued-last rs m a (procedure.parts rs m a (holds _ t) .queue) p e;
-  head-removed = λ m e q a t p. queue.head-removed rs m a (procedure.parts rs m a (holds _ t) .queue) p e q;
+  taken-out = λ m i a t p. queue.taken-out rs m a (procedure.parts rs m a (holds _ t) .queue) p i;
 }
 
 -- the records of an accepted image of bytes

@@ -6,5 +6,6 @@ pub mod Procedure
 pub mod Respond
 pub mod Tick
 pub mod Turn
+pub mod Halted
 pub mod Own
 pub mod Laws

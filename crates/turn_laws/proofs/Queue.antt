@@ -4,16 +4,17 @@ use native.Mathlib.Omega.{arith}
 use mathlib.Core.Path.{_≡_, refl, sym, ap, ap₂, _∙_, subst}
 use mathlib.Core.List.{List, [], _∷_, _++_, append-assoc}
 use mathlib.Core.Bool.{Bool, true}
-use lib.ListN.{length, take, drop, set, replicate, length-append, length-take, length-drop, take-append-drop, replicate-append-replicate}
+use lib.ListN.{length, getD, take, drop, set, replicate, length-append, length-take, length-drop, take-append-drop, replicate-append-replicate}
 use lib.Dec.{T, eqb, leb, le→leb, leb→le, eqb→eq}
-use lib.Seq.{take-append-seam, drop-append-seam, set-append-seam, length-take-le}
+use lib.Seq.{take-append-le, drop-append-le, take-append-seam, drop-append-seam, set-append-seam, length-take-le}
 use lib.Ieee.Fits.{and-l, and-r, and-i}
 use Rattle.records.specs.declared.Record.{Record}
 use Rattle.plan.specs.Plan.{ownUncontrollable}
 use Rattle.rules.proofs.Valid.{both}
 use Rattle.modules.specs.declared.Own.{Own}
-use Rattle.modules.specs.Queue.{queueOf, cells, withQueue, queued}
+use Rattle.modules.specs.Queue.{queueOf, responseAt, cells, withQueue, queued, without}
 use Rattle.modules.specs.Fits.{every, queueFits}
+use Rattle.modules.proofs.Queue.{without-length}
 use Rattle.turn_laws.specs.Laws.{EightCells}
 
 zeros : (n : ℕ) → T (every (λ x. eqb x 0) (replicate n 0))
@@ -25,6 +26,19 @@ every-end : (p : ℕ → Bool) (q : List ℕ) (e : ℕ) → T (every p q) → T 
 unfolding every
 every-end p [] e t u = and-i (p e) true u tt
 every-end p (x ∷ q) e t u = and-i (p x) _ (and-l (p x) (every p q) t) (every-end p q e (and-r (p x) (every p q) t) u)
+
+every-without : (p : ℕ → Bool) (q : List ℕ) (i : ℕ) → T (every p q) → T (every p (without i q))
+unfolding every
+every-without p [] zero t = tt
+every-without p [] (suc i) t = tt
+every-without p (x ∷ q) zero t = and-r (p x) (every p q) t
+every-without p (x ∷ q) (suc i) t = and-i (p x) _ (and-l (p x) (every p q) t) (every-without p q i (and-r (p x) (every p q) t))
+
+every-at : (p : ℕ → Bool) (q : List ℕ) (i : ℕ) → i < length q → T (every p q) → T (p (getD q i 0))
+unfolding every
+every-at p [] i h t = absurd (omega arith)
+every-at p (x ∷ q) zero h t = and-l (p x) (every p q) t
+every-at p (x ∷ q) (suc i) h t = every-at p q i (omega arith) (and-r (p x) (every p q) t)
 
 -- the queue holds no more than its length says
 pub at-most : (own : Own) → length (queueOf own) ≤ own .length
@@ -67,17 +81,14 @@ module _ (rs : List Record) (m : ℕ) where
       let c : T (every (λ x. eqb x 0) (drop (length q) (q ++ z))) = subst (λ (l : List ℕ). T (every (λ x. eqb x 0) l)) (sym (drop-append-seam q z)) (zeros (8 - length q)) in
       search and-i
 
-  -- the head removed
-  pub rest-fits : (own : Own) (e : ℕ) (q : List ℕ) → queueOf own ≡ e ∷ q → T (queueFits rs m own) → T (queueFits rs m (withQueue own q))
-  unfolding every
-  rest-fits own e q h t =
-      let n : length (queueOf own) ≡ suc (length q) = ap length h in
-      queue-fits own q (omega (arith, at-most own, short own t))
-      (and-r (ownUncontrollable rs m e) _ (subst (λ (l : List ℕ). T (every (ownUncontrollable rs m) l)) h (responses own t)))
+  -- a response taken out
+  pub without-fits : (own : Own) (i : ℕ) → T (queueFits rs m own) → T (queueFits rs m (withQueue own (without i (queueOf own))))
+  without-fits own i t =
+      queue-fits own (without i (queueOf own)) (omega (arith, without-length (queueOf own) i, at-most own, short own t))
+      (every-without (ownUncontrollable rs m) (queueOf own) i (responses own t))
 
-  pub head-own : (own : Own) (e : ℕ) (q : List ℕ) → queueOf own ≡ e ∷ q → T (queueFits rs m own) → T (ownUncontrollable rs m e)
-  unfolding every
-  head-own own e q h t = and-l (ownUncontrollable rs m e) (every (ownUncontrollable rs m) q) (subst (λ (l : List ℕ). T (every (ownUncontrollable rs m) l)) h (responses own t))
+  pub response-own : (own : Own) (i : ℕ) → i < length (queueOf own) → T (queueFits rs m own) → T (ownUncontrollable rs m (responseAt own i))
+  response-own own i h t = every-at (ownUncontrollable rs m) (queueOf own) i h (responses own t)
 
   -- one response more
   pub more-fits : (own : Own) (e : ℕ) → own .length < 8 → T (ownUncontrollable rs m e) → T (queueFits rs m own) → T (queueFits rs m (queued own e))
@@ -110,11 +121,20 @@ module _ (rs : List Record) (m : ℕ) where
         ap (λ (i : ℕ). (q ++ (e ∷ [])) ++ replicate i 0) rest ∙ append-assoc q (e ∷ []) z ∙ sym (set-append-seam q 0 z e)
         ∙ ap₂ (λ (l : List ℕ) (i : ℕ). set l i e) (sym whole) count
 
-    pub head-removed : (e : ℕ) (q : List ℕ) → queueOf own ≡ e ∷ q → cells q ≡ drop 1 (own .queue) ++ (0 ∷ [])
-    head-removed e q h =
-        let n : length (queueOf own) ≡ suc (length q) = ap length h in
-        let k : ℕ = 8 - suc (length q) in
-        let one : 8 - length q ≡ k + 1 = omega (arith, count, short own t) in
-        let whole : own .queue ≡ e ∷ (q ++ replicate k 0) = queue-cells ∙ ap cells h in
-        ap (λ (i : ℕ). q ++ replicate i 0) one ∙ ap (λ (l : List ℕ). q ++ l) (sym (replicate-append-replicate k 1 0))
-        ∙ sym (append-assoc q (replicate k 0) (0 ∷ [])) ∙ ap (λ (l : List ℕ). drop 1 l ++ (0 ∷ [])) (sym whole)
+    -- a response out of the cells is one out of the queue, with the zeros behind it
+    cut : (i : ℕ) → i < own .length → (z : List ℕ) → own .queue ≡ queueOf own ++ z
+        → take i (queueOf own) ++ (drop (suc i) (queueOf own) ++ z) ≡ take i (own .queue) ++ drop (suc i) (own .queue)
+    cut i h z w =
+        let before : i ≤ length (queueOf own) = omega (arith, count) in
+        let after : suc i ≤ length (queueOf own) = omega (arith, count) in
+        ap₂ (λ (a b : List ℕ). a ++ b) (sym (take-append-le i (queueOf own) z before)) (sym (drop-append-le (suc i) (queueOf own) z after))
+        ∙ ap (λ (l : List ℕ). take i l ++ drop (suc i) l) (sym w)
+
+    pub taken-out : (i : ℕ) → i < own .length → cells (without i (queueOf own)) ≡ take i (own .queue) ++ drop (suc i) (own .queue) ++ (0 ∷ [])
+    taken-out i h =
+        let q : List ℕ = queueOf own in
+        let k : ℕ = 8 - length q in
+        let z : List ℕ = replicate k 0 in
+        let one : 8 - length (without i q) ≡ k + 1 = omega (arith, without-length q i, count, short own t) in
+        ap (λ (j : ℕ). without i q ++ replicate j 0) one ∙ ap (λ (l : List ℕ). without i q ++ l) (sym (replicate-append-replicate k 1 0))
+        ∙ sym (append-assoc (without i q) z (0 ∷ [])) ∙ ap (λ (l : List ℕ). l ++ (0 ∷ [])) (append-assoc (take i q) (drop (suc i) q) z ∙ cut i h z queue-cells)

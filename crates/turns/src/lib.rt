@@ -1,28 +1,48 @@
 // A turn of a module over a mask of disabled events, and whether it wishes for one. Their rules are specs/Turn.antt of crate modules.
 ghost use mathlib.Core.Path.{_≡_};
-ghost use lib.ListN.{drop};
-ghost use Rattle.places.specs.Places.{recordsBy};
+ghost use lib.ListN.{take};
+ghost use Rattle.bits.specs.Bit.{optionOf};
+ghost use Rattle.places.specs.Places.{recordsBy, movesOf};
 ghost use Rattle.plan.specs.Plan.{moduleMove};
-ghost use Rattle.modules.specs.Queue.{queueOf, withQueue};
+ghost use Rattle.modules.specs.Queue.{responseAt};
 ghost use Rattle.modules.specs.Turn.{byResponse, byChoice, chosen, turnOf, wish};
+ghost use Rattle.turns.specs.Usable.{firstAmong};
 use bits::Maybe;
 use modules::Own;
 use modules::Turn;
 use modules::Turned;
 use places::Places;
 
-// The response e, the head of the queue.
-fn by_response(image: &[u8], places: Places, m: u8, e: u8, own: Own) -> Turned
-    ensures { λ r. ⌜ r ≡ byResponse (withQueue own (drop 1 (queueOf own))) e (moduleMove (recordsBy (now (image .entry)) places) m (own .state) e) ⌝ }
+// The index of the first of a queue's n responses that is one of the moves.
+fn first_usable(moves: u64, q: [u8; 8], n: u8) -> Maybe
+    ensures { λ r. ⌜ optionOf r ≡ firstAmong moves (take n q) ⌝ }
 {
-    let st = own.state;
-    let mut next = modules::without_head(own);
-    let Maybe::Just(t) = plan::module_move(image, places, m, st, e) else {
+    let mut i: u8 = 0;
+    while i < n {
+        if 8 <= i {
+            return Maybe::Nothing;
+        }
+        if bits::has(moves, modules::cell(q, n, words::wide(i))) {
+            return Maybe::Just(i);
+        }
+        i += 1;
+    }
+    Maybe::Nothing
+}
+
+// The response at index i of the queue.
+fn by_response(image: &[u8], places: Places, m: u8, i: u8, own: Own) -> Turned
+    ensures { λ r. ⌜ r ≡ byResponse own i (moduleMove (recordsBy (now (image .entry)) places) m (own .state) (responseAt own i)) ⌝ }
+{
+    let q = own.queue;
+    let e = modules::cell(q, own.length, words::wide(i));
+    let Maybe::Just(t) = plan::module_move(image, places, m, own.state, e) else {
         return Turned {
-            turn: Turn::Stray(e),
-            own: next,
+            turn: Turn::Nothing,
+            own,
         };
     };
+    let mut next = modules::without(own, i);
     next.state = t;
     Turned {
         turn: Turn::Event(e),
@@ -31,18 +51,17 @@ fn by_response(image: &[u8], places: Places, m: u8, e: u8, own: Own) -> Turned
 }
 
 // The lowest command among the state's moves that the mask k does not disable.
-fn by_choice(image: &[u8], places: Places, m: u8, k: u64, own: Own) -> Turned
+fn by_choice(image: &[u8], places: Places, m: u8, k: u64, moves: u64, own: Own) -> Turned
+    requires { ⌜ moves ≡ movesOf (recordsBy (now image) places) m (own .state) ⌝ }
     ensures { λ r. ⌜ r ≡ byChoice (recordsBy (now (image .entry)) places) m own (chosen (recordsBy (now (image .entry)) places) m k own) ⌝ }
 {
-    let st = own.state;
-    let moves = places::moves_of(image, places, m, st);
     let Maybe::Just(e) = bits::lowest(masks::commands(image, places, moves) & !k) else {
         return Turned {
             turn: Turn::Nothing,
             own,
         };
     };
-    let Maybe::Just(to) = plan::module_move(image, places, m, st, e) else {
+    let Maybe::Just(to) = plan::module_move(image, places, m, own.state, e) else {
         return Turned {
             turn: Turn::Nothing,
             own,
@@ -58,23 +77,31 @@ fn by_choice(image: &[u8], places: Places, m: u8, k: u64, own: Own) -> Turned
     }
 }
 
-// A turn of module m over the mask k.
+// A turn of module m over the mask k. The moves of the state are read once, and not where nothing can fire.
 pub fn turn(image: &[u8], places: Places, m: u8, k: u64, own: Own) -> Turned
     ensures { λ r. ⌜ r ≡ turnOf (recordsBy (now (image .entry)) places) m k own ⌝ }
 {
     let p = own.procedure;
-    if own.length == 0 {
-        if p.running {
-            Turned {
-                turn: Turn::Nothing,
-                own,
+    if (own.length == 0) & p.running {
+        return Turned {
+            turn: Turn::Nothing,
+            own,
+        };
+    }
+    let q = own.queue;
+    let moves = places::moves_of(image, places, m, own.state);
+    match first_usable(moves, q, own.length) {
+        Maybe::Just(i) => by_response(image, places, m, i, own),
+        Maybe::Nothing => {
+            if p.running {
+                Turned {
+                    turn: Turn::Nothing,
+                    own,
+                }
+            } else {
+                by_choice(image, places, m, k, moves, own)
             }
-        } else {
-            by_choice(image, places, m, k, own)
         }
-    } else {
-        let q = own.queue;
-        by_response(image, places, m, q[0], own)
     }
 }
 
@@ -82,14 +109,21 @@ pub fn turn(image: &[u8], places: Places, m: u8, k: u64, own: Own) -> Turned
 pub fn wish(image: &[u8], places: Places, m: u8, own: Own) -> bool
     ensures { λ r. ⌜ r ≡ wish (recordsBy (now (image .entry)) places) m own ⌝ }
 {
-    let s = own.procedure;
-    if own.length != 0 {
-        return true;
+    let n = own.length;
+    let p = own.procedure;
+    if (n == 0) & p.running {
+        return false;
     }
-    if s.running {
-        false
-    } else {
-        let moves = places::moves_of(image, places, m, own.state);
-        masks::commands(image, places, moves) != 0
+    let q = own.queue;
+    let moves = places::moves_of(image, places, m, own.state);
+    match first_usable(moves, q, n) {
+        Maybe::Just(_) => true,
+        Maybe::Nothing => {
+            if p.running {
+                false
+            } else {
+                masks::commands(image, places, moves) != 0
+            }
+        }
     }
 }

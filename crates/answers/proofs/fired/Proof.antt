@@ -18,6 +18,9 @@ returns-2 c = search fired-unturned
 enum-known-t : tie.Need-enum-known-t
 enum-known-t c = search needs
 
+enum-told : tie.Need-enum-told
+enum-told c = search needs
+
 returns-3 : tie.Need-returns-3
 returns-3 c = search fired-eventless
 
@@ -27,4 +30,4 @@ returns-4 c = search fired-event
 pub fired-spec : {M : Type 1} → statement M
 fired-spec =
     tie.close
-    (tie.spec enum-known-a returns enum-known-s returns-2 enum-known-t returns-3 returns-4)
+    (tie.spec enum-known-a returns enum-known-s returns-2 enum-known-t enum-told returns-3 returns-4)

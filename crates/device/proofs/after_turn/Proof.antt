@@ -11,8 +11,11 @@ with-own-requires c κs = search needs
 enum-known-did : tie.Need-enum-known-did
 enum-known-did c = search needs
 
+enum-told : tie.Need-enum-told
+enum-told c = search needs
+
 returns : tie.Need-returns
-returns c = let h : length (c .before .before .before .before .before .args .d .supervisors) ≡ 32 = search needs in search after-none
+returns c = let h : length (c .before .before .before .before .before .before .args .d .supervisors) ≡ 32 = search needs in search after-none
 
 states-after-requires : tie.Need-states-after-requires
 states-after-requires c κs = search needs
@@ -22,4 +25,4 @@ returns-2 c = search after-event
 
 pub after-turn-spec : {M : Type 1} → statement M
 after-turn-spec =
-    tie.close (tie.spec with-own-requires enum-known-did returns states-after-requires returns-2)
+    tie.close (tie.spec with-own-requires enum-known-did enum-told returns states-after-requires returns-2)

@@ -13,12 +13,15 @@ put-own-requires c κs = search needs
 enum-known-did : tie.Need-enum-known-did
 enum-known-did c = search needs
 
+enum-told : tie.Need-enum-told
+enum-told c = search needs
+
 same-length : tie.Need-same-length
 same-length c = search needs
 
 returns : tie.Need-returns
 returns c =
-    let g : Bytes (c .before .before .before .before .before .before .before .before .args .state .now) = λ j. c .before .before .before .before .before .before .slice-known .given j .fits in
+    let g : Bytes (c .before .before .before .before .before .before .before .before .before .args .state .now) = λ j. c .before .before .before .before .before .before .before .slice-known .given j .fits in
     search (after-none, eight, g)
 
 states-after-requires : tie.Need-states-after-requires
@@ -48,6 +51,7 @@ keep-turn-spec =
     (tie.spec
     put-own-requires
     enum-known-did
+    enum-told
     same-length
     returns
     states-after-requires

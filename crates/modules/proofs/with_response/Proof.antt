@@ -6,8 +6,8 @@ use Rattle.modules.proofs.with_response.Tie as tie
 wide-requires : tie.Need-wide-requires
 wide-requires c κs = search needs
 
-cells-after-requires : tie.Need-cells-after-requires
-cells-after-requires c κs = search needs
+cells-without-requires : tie.Need-cells-without-requires
+cells-without-requires c κs = search needs
 
 array-write-after : tie.Need-array-write-after
 array-write-after c = search needs
@@ -20,4 +20,4 @@ returns c = search (queued-by, eight)
 
 pub with-response-spec : {M : Type 1} → statement M
 with-response-spec =
-    tie.close (tie.spec wide-requires cells-after-requires array-write-after add-next returns)
+    tie.close (tie.spec wide-requires cells-without-requires array-write-after add-next returns)

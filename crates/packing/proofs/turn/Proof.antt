@@ -9,17 +9,11 @@ enum-known-t c = search needs
 pack-requires : tie.Need-pack-requires
 pack-requires c κs = search needs
 
-enum-known-t-2 : tie.Need-enum-known-t-2
-enum-known-t-2 c = search needs
-
-pack-requires-2 : tie.Need-pack-requires-2
-pack-requires-2 c κs = search needs
-
 enum-told : tie.Need-enum-told
 enum-told c = search needs
 
-pack-requires-3 : tie.Need-pack-requires-3
-pack-requires-3 c κs = search needs
+pack-requires-2 : tie.Need-pack-requires-2
+pack-requires-2 c κs = search needs
 
 returns : tie.Need-returns
 unfolding turnAnswer
@@ -29,20 +23,7 @@ returns-2 : tie.Need-returns-2
 unfolding turnAnswer
 returns-2 c = cc
 
-returns-3 : tie.Need-returns-3
-unfolding turnAnswer
-returns-3 c = cc
-
 pub turn-spec : {M : Type 1} → statement M
 turn-spec =
     tie.close
-    (tie.spec
-    enum-known-t
-    pack-requires
-    enum-known-t-2
-    pack-requires-2
-    enum-told
-    pack-requires-3
-    returns
-    returns-2
-    returns-3)
+    (tie.spec enum-known-t pack-requires enum-told pack-requires-2 returns returns-2)

@@ -6,6 +6,9 @@ use Rattle.releasing.proofs.event_for.Tie as tie
 enum-known-t : tie.Need-enum-known-t
 enum-known-t c = search needs
 
+enum-told : tie.Need-enum-told
+enum-told c = search needs
+
 returns : tie.Need-returns
 returns c = search event-none
 
@@ -19,4 +22,4 @@ returns-3 : tie.Need-returns-3
 returns-3 c = search event-out
 
 pub event-for-spec : {M : Type 1} → statement M
-event-for-spec = tie.close (tie.spec enum-known-t returns in-alphabet-requires returns-2 returns-3)
+event-for-spec = tie.close (tie.spec enum-known-t enum-told returns in-alphabet-requires returns-2 returns-3)

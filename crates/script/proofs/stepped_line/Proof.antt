@@ -9,7 +9,7 @@ use Rattle.texts.specs.Numbers.{spaced}
 use Rattle.script.specs.Answers.{refusedLine}
 use Rattle.script.specs.SimulationLines.{steppedLine}
 use Rattle.modules.specs.declared.Turn.{Turn}
-use Rattle.modules.specs.declared.Turn.the-variants.{Event, Stray, Nothing}
+use Rattle.modules.specs.declared.Turn.the-variants.{Event, Nothing}
 use Rattle.permits.specs.declared.Stepped.{Stepped}
 use Rattle.permits.specs.declared.Stepped.the-variants.{Turns, Bids, Waits, Refused}
 use Rattle.script.proofs.stepped_line.Statement.{statement}
@@ -26,10 +26,6 @@ module _ (m : ℕ) {r : Text} {a : Stepped} where
     event-by : {e : ℕ} → t ≡ Event e → r ≡ textOf (ascii "module" ++ spaced m ++ ascii " event" ++ spaced e ++ ascii "\n") → r ≡ textOf (steppedLine m a)
     unfolding steppedLine
     event-by {e} q f = turned-by (Event e) q f
-
-    stray-by : {e : ℕ} → t ≡ Stray e → r ≡ textOf (ascii "module" ++ spaced m ++ ascii " stray" ++ spaced e ++ ascii "\n") → r ≡ textOf (steppedLine m a)
-    unfolding steppedLine
-    stray-by {e} q f = turned-by (Stray e) q f
 
     none-by : t ≡ Nothing → r ≡ textOf (ascii "module" ++ spaced m ++ ascii " none\n") → r ≡ textOf (steppedLine m a)
     unfolding steppedLine
@@ -62,18 +58,6 @@ slice-aggregate-long-line-2 c = search needs
 long-line-requires : tie.Need-long-line-requires
 long-line-requires c κs = search needs
 
-enum-known-t-2 : tie.Need-enum-known-t-2
-enum-known-t-2 c = search needs
-
-slice-aggregate-long-line-3 : tie.Need-slice-aggregate-long-line-3
-slice-aggregate-long-line-3 c = search needs
-
-slice-aggregate-long-line-4 : tie.Need-slice-aggregate-long-line-4
-slice-aggregate-long-line-4 c = search needs
-
-long-line-requires-2 : tie.Need-long-line-requires-2
-long-line-requires-2 c κs = search needs
-
 enum-told : tie.Need-enum-told
 enum-told c = search needs
 
@@ -89,14 +73,14 @@ short-line-requires c κs = search needs
 enum-known-a-2 : tie.Need-enum-known-a-2
 enum-known-a-2 c = search needs
 
-slice-aggregate-long-line-5 : tie.Need-slice-aggregate-long-line-5
-slice-aggregate-long-line-5 c = search needs
+slice-aggregate-long-line-3 : tie.Need-slice-aggregate-long-line-3
+slice-aggregate-long-line-3 c = search needs
 
-slice-aggregate-long-line-6 : tie.Need-slice-aggregate-long-line-6
-slice-aggregate-long-line-6 c = search needs
+slice-aggregate-long-line-4 : tie.Need-slice-aggregate-long-line-4
+slice-aggregate-long-line-4 c = search needs
 
-long-line-requires-3 : tie.Need-long-line-requires-3
-long-line-requires-3 c κs = search needs
+long-line-requires-2 : tie.Need-long-line-requires-2
+long-line-requires-2 c κs = search needs
 
 enum-told-2 : tie.Need-enum-told-2
 enum-told-2 c = search needs
@@ -122,23 +106,19 @@ returns c = search event-by
 
 returns-2 : tie.Need-returns-2
 unfolding ascii
-returns-2 c = search stray-by
+returns-2 c = search none-by
 
 returns-3 : tie.Need-returns-3
 unfolding ascii
-returns-3 c = search none-by
+returns-3 c = search bids-by
 
 returns-4 : tie.Need-returns-4
 unfolding ascii
-returns-4 c = search bids-by
+returns-4 c = search waits-by
 
 returns-5 : tie.Need-returns-5
 unfolding ascii
-returns-5 c = search waits-by
-
-returns-6 : tie.Need-returns-6
-unfolding ascii
-returns-6 c = search refused-by
+returns-5 c = search refused-by
 
 pub stepped-line-spec : {M : Type 1} → statement M
 stepped-line-spec =
@@ -149,18 +129,14 @@ stepped-line-spec =
     slice-aggregate-long-line
     slice-aggregate-long-line-2
     long-line-requires
-    enum-known-t-2
-    slice-aggregate-long-line-3
-    slice-aggregate-long-line-4
-    long-line-requires-2
     enum-told
     slice-aggregate-short-line
     slice-aggregate-short-line-2
     short-line-requires
     enum-known-a-2
-    slice-aggregate-long-line-5
-    slice-aggregate-long-line-6
-    long-line-requires-3
+    slice-aggregate-long-line-3
+    slice-aggregate-long-line-4
+    long-line-requires-2
     enum-told-2
     slice-aggregate-short-line-3
     slice-aggregate-short-line-4
@@ -171,5 +147,4 @@ stepped-line-spec =
     returns-2
     returns-3
     returns-4
-    returns-5
-    returns-6)
+    returns-5)

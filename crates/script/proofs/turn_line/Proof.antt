@@ -5,7 +5,7 @@ use mathlib.Core.Path.{_≡_, sym, ap, _∙_}
 use mathlib.Core.List.{_++_}
 use Prim.Native.Nat.{ℕ}
 use Rattle.modules.specs.declared.Turn.{Turn}
-use Rattle.modules.specs.declared.Turn.the-variants.{Event, Stray, Nothing}
+use Rattle.modules.specs.declared.Turn.the-variants.{Event, Nothing}
 use Rattle.device.specs.declared.Turning.{Turning}
 use Rattle.device.specs.declared.Turning.the-variants.{Done as TurnDone, Refused}
 use Rattle.texts.specs.declared.Text.{Text}
@@ -23,10 +23,6 @@ module _ (m : ℕ) {r : Text} {a : Turning} where
     event-by : {e : ℕ} → t ≡ Event e → r ≡ textOf (ascii "turn" ++ spaced m ++ ascii " event" ++ spaced e ++ ascii "\n") → r ≡ textOf (turnLine m a)
     unfolding turnLine
     event-by {e} k f = as-is (TurnDone (Event e)) (h ∙ ap TurnDone k) f
-
-    stray-by : {e : ℕ} → t ≡ Stray e → r ≡ textOf (ascii "turn" ++ spaced m ++ ascii " stray" ++ spaced e ++ ascii "\n") → r ≡ textOf (turnLine m a)
-    unfolding turnLine
-    stray-by {e} k f = as-is (TurnDone (Stray e)) (h ∙ ap TurnDone k) f
 
     none-by : t ≡ Nothing → r ≡ textOf (ascii "turn" ++ spaced m ++ ascii " none\n") → r ≡ textOf (turnLine m a)
     unfolding turnLine
@@ -50,18 +46,6 @@ slice-aggregate-long-line-2 c = search needs
 
 long-line-requires : tie.Need-long-line-requires
 long-line-requires c κs = search needs
-
-enum-known-t-2 : tie.Need-enum-known-t-2
-enum-known-t-2 c = search needs
-
-slice-aggregate-long-line-3 : tie.Need-slice-aggregate-long-line-3
-slice-aggregate-long-line-3 c = search needs
-
-slice-aggregate-long-line-4 : tie.Need-slice-aggregate-long-line-4
-slice-aggregate-long-line-4 c = search needs
-
-long-line-requires-2 : tie.Need-long-line-requires-2
-long-line-requires-2 c κs = search needs
 
 enum-told : tie.Need-enum-told
 enum-told c = search needs
@@ -87,14 +71,10 @@ returns c = search event-by
 
 returns-2 : tie.Need-returns-2
 unfolding ascii
-returns-2 c = search stray-by
+returns-2 c = search none-by
 
 returns-3 : tie.Need-returns-3
-unfolding ascii
-returns-3 c = search none-by
-
-returns-4 : tie.Need-returns-4
-returns-4 c = search refused-by
+returns-3 c = search refused-by
 
 pub turn-line-spec : {M : Type 1} → statement M
 turn-line-spec =
@@ -105,10 +85,6 @@ turn-line-spec =
     slice-aggregate-long-line
     slice-aggregate-long-line-2
     long-line-requires
-    enum-known-t-2
-    slice-aggregate-long-line-3
-    slice-aggregate-long-line-4
-    long-line-requires-2
     enum-told
     slice-aggregate-short-line
     slice-aggregate-short-line-2
@@ -117,5 +93,4 @@ turn-line-spec =
     refused-line-requires
     returns
     returns-2
-    returns-3
-    returns-4)
+    returns-3)

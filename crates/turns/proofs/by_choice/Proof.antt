@@ -3,9 +3,6 @@ use borrow.Author.Needs.{needs}
 use Rattle.turns.proofs.by_choice.Statement.{statement}
 use Rattle.turns.proofs.by_choice.Tie as tie
 
-moves-of-requires : tie.Need-moves-of-requires
-moves-of-requires c κs = search needs
-
 commands-requires : tie.Need-commands-requires
 commands-requires c κs = search needs
 
@@ -43,7 +40,6 @@ pub by-choice-spec : {M : Type 1} → statement M
 by-choice-spec =
     tie.close
     (tie.spec
-    moves-of-requires
     commands-requires
     lowest-requires
     enum-known-e

@@ -1,10 +1,13 @@
-use Rattle.turns.proofs.Turns.{stray-by, fired-by}
+use Rattle.turns.proofs.Turns.{no-move, responded}
 use borrow.Author.Needs.{needs}
 use Rattle.turns.proofs.by_response.Statement.{statement}
 use Rattle.turns.proofs.by_response.Tie as tie
 
-without-head-requires : tie.Need-without-head-requires
-without-head-requires c κs = search needs
+wide-requires : tie.Need-wide-requires
+wide-requires c κs = search needs
+
+cell-requires : tie.Need-cell-requires
+cell-requires c κs = search needs
 
 module-move-requires : tie.Need-module-move-requires
 module-move-requires c κs = search needs
@@ -16,12 +19,23 @@ enum-told : tie.Need-enum-told
 enum-told c = search needs
 
 returns : tie.Need-returns
-returns c = search stray-by
+returns c = search no-move
+
+without-requires : tie.Need-without-requires
+without-requires c κs = search needs
 
 returns-2 : tie.Need-returns-2
-returns-2 c = search fired-by
+returns-2 c = search responded
 
 pub by-response-spec : {M : Type 1} → statement M
 by-response-spec =
     tie.close
-    (tie.spec without-head-requires module-move-requires enum-known-t enum-told returns returns-2)
+    (tie.spec
+    wide-requires
+    cell-requires
+    module-move-requires
+    enum-known-t
+    enum-told
+    returns
+    without-requires
+    returns-2)
