@@ -42,13 +42,16 @@ fn keep_turn(image: &[u8], places: Places, state: &mut [u8], m: u8, states: [u8;
     requires { ⌜ (isDevice (now state) ≡ true) × (states ≡ deviceAt (now state) .supervisors) ⌝ }
     ensures { λ _. ⌜ now (state .exit) ≡ devicePut (afterTurn (recordsBy (now (image .entry)) places) (deviceAt (now (state .entry))) m t) (now (state .entry)) ⌝ }
 {
-    let own = t.own;
     let did = t.turn;
-    device_bytes::put_own(&mut *state, m, own);
     let Turn::Event(e) = did else {
+        let own = t.own;
+        device_bytes::put_own(&mut *state, m, own);
         return;
     };
+    // The own part is read after the look-ups: read at once, it would wait for the turn's stores.
     let moved = device_states::states_after(image, places, states, e);
+    let own = t.own;
+    device_bytes::put_own(&mut *state, m, own);
     words::put_bytes(&mut *state, device_bytes::SLOTS_SIZE, &moved);
 }
 

@@ -46,10 +46,10 @@ pub enum Turn {
     Nothing,
 }
 
-// A turn's answer and the module's own part after it.
+// The module's own part after a turn, and what the turn did: the larger first, so that taking it out copies it whole.
 pub struct Turned {
-    pub turn: Turn,
     pub own: Own,
+    pub turn: Turn,
 }
 
 // What a response or a tick got: taken, or the number.
