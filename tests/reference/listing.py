@@ -97,15 +97,14 @@ class Device:
         return any(event in self.masks.get(place, []) for place in self.supervisors.items())
 
     def turn(self, module):
-        """('event', E), ('stray', E), ('none',) or ('refused', N)."""
+        """('event', E), ('none',) or ('refused', N)."""
         if module not in self.states:
             return "refused", 11
-        if self.queues[module]:
-            event = self.queues[module].pop(0)
-            if not self.can_move(module, event):
-                return "stray", event
-            self.fire(module, event)
-            return "event", event
+        for event in self.queues[module]:
+            if self.can_move(module, event):
+                self.queues[module].remove(event)  # its first place in the queue is this one
+                self.fire(module, event)
+                return "event", event
         if module not in self.running:
             for event in sorted(self.events):
                 if (

@@ -11,7 +11,7 @@ writes a random small plan and a script of so many lines, most of them calls tha
 
 A line is a letter and decimal numbers without leading zeros, one space before each:
 
-    m M      a step of module M: `module M event E`, `module M stray E`, `module M none`, `module M bids V` or `module M waits`
+    m M      a step of module M: `module M event E`, `module M none`, `module M bids V` or `module M waits`
     s V      a step of supervisor V: `supervisor V permits M` or `supervisor V waits`
     d K      the delivery of the K-th message under way, from 0, in the order sent: `delivered BYTES`; `nothing` where none stands
     r M E    a response: `response M queued E`
@@ -161,17 +161,16 @@ class Module:
         return sorted(e for e in here if plan.is_event(e, module, (CONTROLLABLE,)))
 
     def wishes(self, plan, module):
-        return self.own.length > 0 or (not self.own.procedure.running and self.commands(plan, module) != [])
+        usable = self.own.first_usable(plan, module) is not None
+        return usable or (not self.own.procedure.running and self.commands(plan, module) != [])
 
     def turn(self, plan, module):
-        """('event', E), ('stray', E) or ('none',)."""
+        """('event', E) or ('none',)."""
         own = self.own
-        if own.length:
-            event = own.take()
-            after = plan.move(MODULE_MOVE, module, own.state, event)
-            if after is None:
-                return "stray", event
-            own.state = after
+        k = own.first_usable(plan, module)
+        if k is not None:
+            event = own.take(k)
+            own.state = plan.move(MODULE_MOVE, module, own.state, event)
             return "event", event
         if not own.procedure.running:
             for event in self.commands(plan, module):
@@ -354,7 +353,7 @@ class Simulation:
 
     def module_step(self, number):
         answer, sent = self.module(number).step(self.image, number, LONGEST)
-        if answer[0] in ("event", "stray", "none"):
+        if answer[0] in ("event", "none"):
             self.device.turn(self.image, number)
         said = [" ".join(["module", str(number), *map(str, answer)])] + self.send(sent)
         return said + (self.fire(answer[1]) if answer[0] == "event" else [])
@@ -456,7 +455,7 @@ def random_plan(r, shape):
         states = r.randint(1, 4)
         records.append((MODULE, [m, states, r.randrange(states)]))
         mine = [(m, s, e) for s in range(states) for e in range(events) if owner[e] == m]
-        records += [(MODULE_MOVE, [*key, r.randrange(states)]) for key in subset(r, mine, 0.8)]
+        records += [(MODULE_MOVE, [*key, r.randrange(states)]) for key in subset(r, mine, r.choice((0.5, 0.8)))]
         records += [(MARKING, [m, s]) for s in subset(r, range(states), 0.3)]
     for v in range(supervisors):
         states = r.randint(1, 4)
@@ -504,6 +503,7 @@ def random_lines(r, run):
         [b"m %d" % k for k, party in enumerate(modules) if copy.deepcopy(party).step(run.image, k, LONGEST)[0] != ("waits",)],
         [b"k %d %s" % (k, reading) for k, party in enumerate(modules) if party.own.procedure.running],
         [b"r %d %d" % (k, e) for k, e in moves if plan.is_event(e, k, (UNCONTROLLABLE,))],
+        [b"r %d %d" % (m, event)] if modules[m].own.length < 4 else [],  # the module may have no move by it yet
     ]
     useful = [lines for lines in useful[:1] + useful if lines]
     if x < 0.15 or not useful:

@@ -15,8 +15,8 @@ supervisor is kept from line to line, whichever number a call gives it:
     plan IMAGE         the image from here on; the states stay
     module M           the start of module M: `done` or `refused N at B`
     supervisor V       the start of supervisor V
-    mstep M L          a step with a buffer of L bytes, which held AA throughout: `event E N`, `stray E N`, `none N` or `bids V N`, N being
-                       the bytes written, or `waits` or `refused N at B`; then the whole buffer
+    mstep M L          a step with a buffer of L bytes, which held AA throughout: `event E N`, `none N` or `bids V N`, N being the bytes
+                       written, or `waits` or `refused N at B`; then the whole buffer
     mdeliver M BYTES   `done` or `refused N at B`
     mrespond M E       `done` or `refused N at B`
     mtick M READING    `done` or `refused N at B`
@@ -43,7 +43,7 @@ from many_devices import (
 )
 from one_device import BAD, GOOD, NO_SENSOR, PLACES, bits_of, eighths, hexadecimal, judged, mask_of, reading_of, settings, subset, text_of
 from plan_check import (
-    EVENT, MODULE, STEP, SUPERVISOR, WAIT_LITRES, WAIT_TICKS, CONTROLLABLE, UNCONTROLLABLE, bytes_of, image_of,
+    EVENT, MODULE, MODULE_MOVE, STEP, SUPERVISOR, RESPOND, WAIT_LITRES, WAIT_TICKS, CONTROLLABLE, UNCONTROLLABLE, bytes_of, image_of,
 )
 
 
@@ -407,9 +407,10 @@ class Maker:
         m = self.run.module
         return {"held": hexadecimal(m.held, 8), "received": hexadecimal(m.received, 16), "bid": m.bid, **settings(m.own)}
 
-    def put_at_step(self):
-        """The procedure put at a step, with any count or total that fits."""
-        steps = [key for key in self.plan.records[STEP] if self.plan.is_event(key[0], self.m, (CONTROLLABLE,)) or self.often(0.1)]
+    def put_at_step(self, operations=(1, 2, 3, 4, 5)):
+        """The procedure put at a step of such operations, with any count or total that fits."""
+        steps = [key for key, (operation, _) in self.plan.records[STEP].items() if operation in operations]
+        steps = [key for key in steps if self.plan.is_event(key[0], self.m, (CONTROLLABLE,)) or self.often(0.1)]
         if steps:
             event, index = self.r.choice(steps)
             operation, operand = self.plan.step(event, index)
@@ -426,11 +427,31 @@ class Maker:
         self.put(self.fields(), {**found, "bid": int(count < len(mine) and self.often(0.5))})
 
     def put_queue(self):
-        """Some responses queued."""
+        """Some responses queued, the first of them often without a move here; of a full queue of those the procedure is at a respond step."""
         events = self.events(self.m, (UNCONTROLLABLE,))
-        length = self.r.choice((0, 1, 1, 2, 2, PLACES)) if events else 0
-        queue = [self.r.choice(events) for _ in range(length)] + [0] * (PLACES - length)
+        early = self.without_move(self.run.module.own.state) or events
+        length = self.r.choice((0, 1, 1, 2, 2, 4, PLACES, PLACES)) if events else 0
+        first = self.r.choice((0, length, self.r.randint(0, length)))
+        queue = [self.r.choice(early if k < first else events) for k in range(length)] + [0] * (PLACES - length)
         self.put(self.fields(), {"length": length, **{"place %d" % k: e for k, e in enumerate(queue)}})
+        if first == PLACES:
+            self.put_at_step((RESPOND,))
+
+    def without_move(self, state):
+        """The responses by which the module has no move in the state."""
+        return [e for e in self.events(self.m, (UNCONTROLLABLE,)) if self.plan.move(MODULE_MOVE, self.m, state, e) is None]
+
+    def early(self):
+        """A queue whose first responses often have no move here, mostly with all permits held, and some steps and ticks."""
+        responses = len(self.events(self.m, (UNCONTROLLABLE,)))
+        mixed = [s for s in range(self.plan.states(MODULE, self.m)) if 0 < len(self.without_move(s)) < responses]
+        if mixed:
+            self.put(self.fields(), {"state": self.r.choice(mixed)})
+        self.put_queue()
+        self.put_permits()
+        for _ in range(self.r.randint(1, 4)):
+            self.module_step() if self.often(0.7) else self.tick()
+        self.say("mstate")
 
     def value(self, field):
         """Some value of the module's field, often one about where it stops fitting."""
@@ -464,7 +485,7 @@ class Maker:
 
     def damaged_module(self):
         """A module's state put elsewhere, mostly with some of its fields damaged, and some calls."""
-        for put, share in ((self.put_queue, 0.3), (self.put_permits, 0.7), (self.put_at_step, 0.6)):
+        for put, share in ((self.put_at_step, 0.6), (self.put_permits, 0.7), (self.put_queue, 0.5)):
             if self.often(share):
                 put()
         if self.often(0.3):
@@ -536,6 +557,8 @@ class Maker:
                 self.message()
             elif x < 0.54:
                 self.start_module() if self.often(0.5) else self.start_supervisor()
+            elif x < 0.66:
+                self.early()
             else:
                 self.some_calls()
             self.mend()

@@ -13,7 +13,7 @@ A line is a word and its arguments, one space before each. M is a module, E an e
     # ..                a comment, echoed
     plan IMAGE          the image from here on, and the start: `done` or `refused N at B`
     image IMAGE         the image from here on; the state stays
-    turn M              `event E`, `stray E`, `none` or `refused N at B`
+    turn M              `event E`, `none` or `refused N at B`
     respond M E         `done` or `refused N at B`
     tick M READING      `done` or `refused N at B`
     ticks M N READING   the last answer of N such ticks, N at least 1
@@ -165,8 +165,16 @@ class Own:
         self.queue[self.length] = event
         self.length += 1
 
-    def take(self):
-        event, self.queue = self.queue[0], self.queue[1:] + [0]
+    def first_usable(self, plan, module):
+        """The index of the first queued response by which the module has a move, or None."""
+        for k, event in enumerate(self.queue[: self.length]):
+            if plan.move(MODULE_MOVE, module, self.state, event) is not None:
+                return k
+        return None
+
+    def take(self, k):
+        """The response at the index, which leaves the queue; those behind it move up."""
+        event, self.queue = self.queue[k], self.queue[:k] + self.queue[k + 1 :] + [0]
         self.length -= 1
         return event
 
@@ -261,9 +269,12 @@ class Device:
         if refused:
             return "refused %d at %d" % refused
         own = self.modules[module]
-        if own.length:
-            event = own.take()
-            return "%s %d" % ("event" if self.fire(plan, module, event) else "stray", event)
+        k = own.first_usable(plan, module)
+        if k is not None:
+            event = own.take(k)
+            if not self.fire(plan, module, event):
+                raise AssertionError("a response without a move was taken")
+            return "event %d" % event
         if not own.procedure.running:
             disabled = set()
             for v in range(plan.supervisors):
@@ -406,7 +417,7 @@ def random_plan(r):
         states = r.randint(1, 4)
         records.append((MODULE, [m, states, r.randrange(states)]))
         mine = [(m, s, e) for s in range(states) for e in range(events) if owner[e] == m]
-        records += [(MODULE_MOVE, [*key, r.randrange(states)]) for key in subset(r, mine, 0.7)]
+        records += [(MODULE_MOVE, [*key, r.randrange(states)]) for key in subset(r, mine, r.choice((0.4, 0.7)))]
         records += [(MARKING, [m, s]) for s in subset(r, range(states), 0.3)]
     for v in range(supervisors):
         states = r.randint(1, 4)
@@ -486,9 +497,29 @@ class Maker:
         if x < 0.35:
             self.say("states")
 
-    def put_at_step(self, m):
-        """The module's procedure put at a step, with any count or total that fits."""
-        steps = [key for key in self.plan.records[STEP] if self.r.random() < 0.1 or self.plan.is_event(key[0], m, (CONTROLLABLE,))]
+    def early(self):
+        """Responses without a move here, up to a full queue of them, and behind them any; often a procedure at a respond step; some calls."""
+        m, before = self.r.randrange(self.plan.modules), copy.deepcopy(self.run.device)
+        state = before.modules[m].state
+        early = [e for e in self.responses(m) if self.plan.move(MODULE_MOVE, m, state, e) is None]
+        if not early:
+            return
+        if self.r.random() < 0.5:
+            self.put_at_step(m, (RESPOND,))
+        events = self.r.choices(early, k=self.r.choice((1, 2, 4, PLACES))) + self.r.choices(self.responses(m), k=2)
+        for event in events:
+            self.say("respond %d %d" % (m, event))
+        for _ in range(self.r.randint(1, 4)):
+            self.calls += 1
+            self.say("turn %d" % m if self.r.random() < 0.6 else "tick %d %s" % (m, NO_SENSOR))
+            self.say("own %d" % m)
+        if self.r.random() < 0.7:
+            self.restore(before)
+
+    def put_at_step(self, m, operations=(1, 2, 3, 4, 5)):
+        """The module's procedure put at a step of such operations, with any count or total that fits."""
+        steps = [key for key, (operation, _) in self.plan.records[STEP].items() if operation in operations]
+        steps = [key for key in steps if self.r.random() < 0.1 or self.plan.is_event(key[0], m, (CONTROLLABLE,))]
         if steps:
             event, index = self.r.choice(steps)
             operation, operand = self.plan.step(event, index)
@@ -572,6 +603,8 @@ class Maker:
                 self.another_image()
             elif x < 0.36:
                 self.damaged()
+            elif x < 0.5:
+                self.early()
             else:
                 self.call()
 

@@ -4,9 +4,7 @@
 pub const DONE: u8 = 0;
 /// A turn: an event fired.
 pub const EVENT: u8 = 1;
-/// A turn: a stray response.
-pub const STRAY: u8 = 2;
-/// A turn: none.
+/// A turn: none. The number 2 was a stray response and is not given again.
 pub const NONE: u8 = 3;
 /// A module bids.
 pub const BIDS: u8 = 4;

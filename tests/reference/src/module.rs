@@ -33,10 +33,10 @@ pub fn step(image: &[u8], state: &mut [u8], module: u8, buffer: &mut [u8]) -> Re
     let (plan, mut party) = open(image, state, module)?;
     let neighbours = plan.neighbours(module);
     let missing = neighbours & !party.held;
-    let wish = turn::wishes(&plan, module, &party.own);
-    let answer = if missing == 0 && (neighbours != 0 || wish) {
+    let wishes = || turn::wishes(&plan, module, &party.own);
+    let answer = if missing == 0 && (neighbours != 0 || wishes()) {
         take_turn(&plan, module, neighbours, &mut party, buffer)?
-    } else if missing != 0 && !party.bid && (party.held != 0 || wish) {
+    } else if missing != 0 && !party.bid && (party.held != 0 || wishes()) {
         let supervisor = missing.trailing_zeros() as u8;
         let length = Message::Bid { module, supervisor }.write(buffer)?;
         party.bid = true;

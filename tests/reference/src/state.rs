@@ -101,16 +101,18 @@ impl Own {
         self.queued += 1;
     }
 
-    /// Removes the queue's head.
-    pub fn pop(&mut self) -> Option<u8> {
-        if self.queued == 0 {
-            return None;
-        }
-        let head = self.queue[0];
-        self.queue.copy_within(1.., 0);
+    /// The responses that wait, the head first.
+    pub fn waiting(&self) -> &[u8] {
+        &self.queue[..usize::from(self.queued)]
+    }
+
+    /// Takes a waiting response out of the queue; those behind it move up.
+    pub fn take_at(&mut self, index: usize) -> u8 {
+        let event = self.queue[index];
+        self.queue.copy_within(index + 1.., index);
         self.queue[QUEUE_LIMIT - 1] = 0;
         self.queued -= 1;
-        Some(head)
+        event
     }
 }
 

@@ -9,7 +9,6 @@ use crate::state::Own;
 #[derive(Clone, Copy, Debug, PartialEq, Eq)]
 pub enum Turn {
     Event(u8),
-    Stray(u8),
     None,
 }
 
@@ -17,7 +16,6 @@ impl Turn {
     pub fn answer(self, length: usize) -> Answer {
         match self {
             Turn::Event(event) => Answer::new(answer::EVENT, event, length),
-            Turn::Stray(event) => Answer::new(answer::STRAY, event, length),
             Turn::None => Answer::new(answer::NONE, 0, length),
         }
     }
@@ -25,15 +23,12 @@ impl Turn {
 
 /// Takes a module's turn under the union of the masks shown to it. The supervisors move by the event that it answers.
 pub fn take(plan: &Plan, module: u8, own: &mut Own, disabled: u64) -> Turn {
-    // 1. The head of the queue is removed and fires if the module has a move by it.
-    if let Some(event) = own.pop() {
-        return match plan.module_move(module, own.state, event) {
-            Some(to) => {
-                own.state = to;
-                Turn::Event(event)
-            }
-            None => Turn::Stray(event),
-        };
+    // 1. The first queued response by which the module has a move fires; the others remain in their order.
+    let mut responses = own.waiting().iter().enumerate();
+    let usable = responses.find_map(|(index, &event)| Some((index, plan.module_move(module, own.state, event)?)));
+    if let Some((index, to)) = usable {
+        own.state = to;
+        return Turn::Event(own.take_at(index));
     }
     // 2. With an idle procedure the lowest-numbered controllable event fires that has a move here and stands in no shown mask.
     if !own.procedure.running {
@@ -51,9 +46,10 @@ pub fn take(plan: &Plan, module: u8, own: &mut Own, disabled: u64) -> Turn {
     Turn::None
 }
 
-/// A wish is a queued response, or an idle procedure where the present state has a controllable move.
+/// A wish is a queued response by which the module has a move, or an idle procedure where the present state has a controllable move.
 pub fn wishes(plan: &Plan, module: u8, own: &Own) -> bool {
-    own.queued != 0 || (!own.procedure.running && plan.events_from(module, own.state) & plan.controllable != 0)
+    let moves = plan.events_from(module, own.state);
+    own.waiting().iter().any(|&event| contains(moves, event)) || (!own.procedure.running && moves & plan.controllable != 0)
 }
 
 /// Queues a response: 11 if it is not an uncontrollable event of the module, 13 if the queue is full.

@@ -1,13 +1,15 @@
 //! The generator gives what it promises: valid plans of all sizes, every number of the table, and schedules that keep demand 3.
 
-use reference::answer::{did, length, number, FREE, STUCK};
-use reference::calls::{Engine, Reference};
+use reference::answer::{did, length, number, EVENT, FREE, NONE, STUCK, WAITS};
+use reference::calls::{Call, Engine, Reference};
 use reference::cases::{
     break_device, break_module, break_supervisor, counter, counts_case, crowded, device_case, fit_device, fit_module, fit_supervisor,
     full_with_two_states, image_case, image_of, lively_plan, message_case, module_case, pages_case, plan, record_case, records_of, rounds,
-    schedule, sized, stuck_case, supervisor_case, switches, Case, Ground, Rng, World, COUNT_BYTES, DEVICE_CLAUSES, MODULE_CLAUSES,
+    schedule, sized, stuck_case, supervisor_case, switches, Case, Ground, Op, Rng, World, COUNT_BYTES, DEVICE_CLAUSES, MODULE_CLAUSES,
     STUCK_BYTES, SUPERVISOR_CLAUSES,
 };
+use reference::plan::{contains, Plan, RESPOND};
+use reference::state::{OWN_BYTES, QUEUE_LIMIT};
 use std::collections::BTreeSet;
 
 /// Draws cases on many plans and gives how often each number arose, 0 for accepted.
@@ -173,6 +175,106 @@ fn schedules_keep_demand_three() {
         fired += world.record.len();
     }
     assert!(fired > 1000, "{fired} events");
+}
+
+/// How often contacts that closed early came to something.
+#[derive(Debug, Default)]
+struct Early {
+    /// A turn's event was not the head of the queue.
+    passed: usize,
+    /// A command fired while responses waited.
+    command: usize,
+    /// A turn or a step did nothing while responses waited.
+    none: usize,
+    /// A procedure stayed at its respond step, and no response in the full queue has a move.
+    halted: usize,
+}
+
+impl Early {
+    /// Counts an accepted call by what the own part before it was.
+    fn count(&mut self, plan: &Plan, call: Call, own: &[u8], answer: u64) {
+        let (Call::DeviceTurn { module } | Call::ModuleStep { module } | Call::DeviceTick { module, .. } | Call::ModuleTick { module, .. }) =
+            call
+        else {
+            return;
+        };
+        if number(answer) != 0 || own[1] == 0 {
+            return;
+        }
+        let moves = plan.events_from(module, own[0]);
+        let usable = own[2..2 + usize::from(own[1])].iter().position(|&event| contains(moves, event));
+        if let Call::DeviceTick { .. } | Call::ModuleTick { .. } = call {
+            let responds = own[10] == 1 && plan.step(own[11], own[12]).is_some_and(|step| step.operation == RESPOND);
+            self.halted += usize::from(responds && usize::from(own[1]) == QUEUE_LIMIT && usable.is_none());
+            return;
+        }
+        match (did(answer), usable) {
+            (EVENT, Some(index)) => self.passed += usize::from(index > 0),
+            (EVENT, None) => self.command += 1,
+            (NONE | WAITS, None) => self.none += 1,
+            _ => {}
+        }
+    }
+
+    /// Asserts that each of them happened so many times.
+    fn arise(&self, times: usize) {
+        let all = [self.passed, self.command, self.none, self.halted];
+        assert!(all.iter().all(|&count| count >= times), "{self:?}");
+    }
+}
+
+#[test]
+fn early_contacts_arise_in_single_calls() {
+    let (mut device, mut module) = (Early::default(), Early::default());
+    counts(17, 240, |rng, ground| {
+        let case = device_case(rng, ground);
+        if let Call::DeviceTurn { module } | Call::DeviceTick { module, .. } = case.call {
+            let mut state = case.state.clone();
+            let answer = Reference.call(case.call, &case.image, &mut state, &[], &mut []);
+            let at = usize::from(module) * OWN_BYTES;
+            if number(answer) == 0 {
+                let plan = reference::plan::check(&case.image).expect("a valid plan");
+                device.count(&plan, case.call, &case.state[at..], answer);
+            }
+        }
+        case
+    });
+    counts(18, 240, |rng, ground| {
+        let case = module_case(rng, ground);
+        let (mut state, mut buffer) = (case.state.clone(), case.buffer.clone());
+        let answer = Reference.call(case.call, &case.image, &mut state, &case.message, &mut buffer);
+        if number(answer) == 0 {
+            let plan = reference::plan::check(&case.image).expect("a valid plan");
+            module.count(&plan, case.call, &case.state, answer);
+        }
+        case
+    });
+    device.arise(20);
+    module.arise(20);
+}
+
+#[test]
+fn early_contacts_arise_in_schedules() {
+    let mut rng = Rng::new(19);
+    let mut early = Early::default();
+    for _ in 0..60 {
+        let image = image_of(&lively_plan(&mut rng));
+        let plan = reference::plan::check(&image).expect("a valid plan");
+        let mut world = World::new(Reference, &image);
+        for op in schedule(&mut rng, &image, 500) {
+            let before = world.modules.clone();
+            let answer = world.apply(op).answer;
+            let (module, call) = match op {
+                Op::ModuleStep(module) => (module, Call::ModuleStep { module }),
+                Op::Tick(module, sensor, litres) => (module, Call::ModuleTick { module, sensor, litres }),
+                _ => continue,
+            };
+            if let (Some(own), Some(answer)) = (before.get(usize::from(module)), answer) {
+                early.count(&plan, call, own, answer);
+            }
+        }
+    }
+    early.arise(20);
 }
 
 /// Of small plans many get stuck and many do not, and words of several lengths lead there.

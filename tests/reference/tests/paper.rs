@@ -1,6 +1,6 @@
 //! Document 01's own examples, and those of the readings, on the reference.
 
-use reference::answer::{did, length, number, offset, value, BIDS, DONE, EVENT, NONE, SENDS, STRAY, WAITS};
+use reference::answer::{did, length, number, offset, value, BIDS, DONE, EVENT, NONE, SENDS, WAITS};
 use reference::cases::{hex, PLAN_P};
 use reference::state::{DEVICE_BYTES, MODULE_BYTES, OWN_BYTES, SUPERVISOR_BYTES};
 use reference::*;
@@ -55,14 +55,97 @@ fn the_sheet() {
     assert_eq!((state[0], state[OWN_BYTES], state[16 * OWN_BYTES]), (1, 0, 0));
 }
 
+/// In the start of P valve 1 has no move by its response 3: the command 2 goes first, 3 waits, and fires where the valve expects it.
 #[test]
-fn a_stray_response() {
+fn a_contact_that_closes_early() {
     let image = p();
     let mut state = device(&image);
+    let turn = |state: &mut Vec<u8>| {
+        let answer = device_turn(&image, state, 1);
+        (did(answer), value(answer))
+    };
     assert_eq!(device_respond(&image, &mut state, 1, 3), 0);
-    let answer = device_turn(&image, &mut state, 1);
-    assert_eq!((did(answer), value(answer)), (STRAY, 3));
+    assert_eq!(turn(&mut state), (EVENT, 2));
+    assert_eq!(state[OWN_BYTES..OWN_BYTES + 4], [1, 1, 3, 0]);
+    assert_eq!(turn(&mut state), (EVENT, 3));
     assert_eq!(state, device(&image));
+}
+
+/// One module, and no supervisor. It goes round by the responses 2, 1 and 3; in the last state it has the command 0 too, whose procedure
+/// responds by 1.
+const ROUND: &str = "10010004 11000001 11010000 11020000 11030000 12000300 \
+    1300000201 1300010102 1300020002 1300020300 17000005 0000000000000001 1F";
+
+/// What a turn of module 0 comes to, and its queue then.
+fn turned(image: &[u8], state: &mut [u8]) -> (u8, u8, Vec<u8>) {
+    let answer = device_turn(image, state, 0);
+    assert_eq!(state[2 + usize::from(state[1])..10], vec![0; 8 - usize::from(state[1])]);
+    (did(answer), value(answer), state[2..2 + usize::from(state[1])].to_vec())
+}
+
+#[test]
+fn the_first_usable_response_goes_and_the_others_stay_in_order() {
+    let image = hex(ROUND);
+    let mut state = device(&image);
+    for event in [1, 3, 2, 1, 2, 3] {
+        assert_eq!(device_respond(&image, &mut state, 0, event), 0);
+    }
+    for (event, left) in [
+        (2, vec![1, 3, 1, 2, 3]),
+        (1, vec![3, 1, 2, 3]),
+        (3, vec![1, 2, 3]),
+        (2, vec![1, 3]),
+        (1, vec![3]),
+        (3, vec![]),
+    ] {
+        assert_eq!(turned(&image, &mut state), (EVENT, event, left));
+    }
+    assert_eq!(turned(&image, &mut state), (NONE, 0, vec![]));
+    assert_eq!(state, device(&image));
+}
+
+#[test]
+fn a_response_without_a_move_is_no_wish() {
+    let image = hex(ROUND);
+    let mut state = module(&image, 0);
+    assert_eq!(module_respond(&image, &mut state, 0, 1), 0);
+    assert_eq!(did(module_step(&image, &mut state, 0, &mut [])), WAITS);
+    assert_eq!(module_respond(&image, &mut state, 0, 2), 0);
+    let answer = module_step(&image, &mut state, 0, &mut []);
+    assert_eq!((did(answer), value(answer)), (EVENT, 2));
+    assert_eq!(state[..4], [1, 1, 1, 0]);
+    // With a neighbour it bids for a wish only, but with all permits held takes its turn in any case.
+    let image = hex(&ROUND
+        .replace("10010004", "10010104")
+        .replace("17000005", "14000100 0000000000000002 17000005"));
+    let (mut state, mut buffer) = (module(&image, 0), [0; 4]);
+    assert_eq!(module_respond(&image, &mut state, 0, 1), 0);
+    assert_eq!(did(module_step(&image, &mut state, 0, &mut buffer)), WAITS);
+    state[38] = 1;
+    let answer = module_step(&image, &mut state, 0, &mut buffer);
+    assert_eq!((did(answer), length(answer)), (NONE, 4));
+    assert_eq!(buffer[..], hex("03 00 00 FF"));
+    assert_eq!((state[1], state[38]), (1, 0));
+}
+
+/// Eight responses without a move, and a procedure at a respond step: no turn, tick or response changes anything any more.
+#[test]
+fn a_halted_module() {
+    let image = hex(ROUND);
+    let mut state = device(&image);
+    for event in [2, 1] {
+        device_respond(&image, &mut state, 0, event);
+        assert_eq!(turned(&image, &mut state), (EVENT, event, vec![]));
+    }
+    assert_eq!(turned(&image, &mut state), (EVENT, 0, vec![]));
+    for _ in 0..8 {
+        assert_eq!(device_respond(&image, &mut state, 0, 1), 0);
+    }
+    let before = state.clone();
+    assert_eq!(turned(&image, &mut state), (NONE, 0, vec![1; 8]));
+    assert_eq!(device_tick(&image, &mut state, 0, 1, 1.0), 0);
+    assert_eq!(device_respond(&image, &mut state, 0, 3), 13);
+    assert_eq!(state, before);
 }
 
 #[test]

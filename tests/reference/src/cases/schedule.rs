@@ -2,7 +2,7 @@
 
 use super::inputs::reading;
 use super::Rng;
-use crate::answer::{did, length, number, value, EVENT, NONE, STRAY};
+use crate::answer::{did, length, number, value, EVENT, NONE};
 use crate::calls::{Call, Engine, Reference};
 use crate::message::{Message, BID, BID_BYTES, PERMIT, PERMIT_BYTES, RELEASE_BYTES};
 use crate::plan::{self, Plan};
@@ -114,7 +114,7 @@ impl<'a, E: Engine + Copy> World<'a, E> {
     }
 
     /// A call that has something to do: a message to take, a permit to send, a module that wishes, a procedure to go on with, a
-    /// response that the module has a move by.
+    /// response that the module has a move by, now and then one that it may have none by yet.
     pub fn lively_op(&self, rng: &mut Rng) -> Op {
         let mut ops: Vec<Op> = (0..self.wire.len()).map(Op::Deliver).collect();
         for (state, supervisor) in self.supervisors.iter().zip(0..) {
@@ -124,14 +124,23 @@ impl<'a, E: Engine + Copy> World<'a, E> {
         }
         for (state, module) in self.modules.iter().zip(0..) {
             let moves = self.plan.events_from(module, state[0]);
-            let (held, queued, running) = (state[35..39] != [0; 4], state[1] != 0, state[10] == 1);
-            if state[47] == 0 && (held || queued || (!running && moves & self.plan.controllable != 0)) {
+            let (held, running) = (state[35..39] != [0; 4], state[10] == 1);
+            let waiting = &state[2..2 + usize::from(state[1])];
+            let usable = waiting.iter().any(|&event| plan::contains(moves, event));
+            if state[47] == 0 && (held || usable || (!running && moves & self.plan.controllable != 0)) {
                 ops.push(Op::ModuleStep(module));
             }
             if running {
                 ops.push(Op::Tick(module, 1, rng.below(81) as f64 / 8.0));
             }
-            match rng.bit(moves & !self.plan.controllable) {
+            // Few wait at a time, so that a module is seldom full of responses without a move.
+            let early = rng.chance(50) && waiting.len() < 4;
+            let events = if early {
+                self.plan.module_events[usize::from(module)]
+            } else {
+                moves
+            };
+            match rng.bit(events & !self.plan.controllable) {
                 Some(event) if rng.chance(30) => ops.push(Op::Respond(module, event)),
                 _ => {}
             }
@@ -168,7 +177,7 @@ impl<'a, E: Engine + Copy> World<'a, E> {
     fn module_step(&mut self, module: u8) -> Applied {
         let applied = self.call(Call::ModuleStep { module }, Party::Module(module), &[]);
         let answer = applied.answer.unwrap_or(1);
-        if number(answer) != 0 || !matches!(did(answer), EVENT | STRAY | NONE) {
+        if number(answer) != 0 || !matches!(did(answer), EVENT | NONE) {
             return applied;
         }
         if did(answer) == EVENT {

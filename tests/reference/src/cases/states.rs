@@ -1,7 +1,7 @@
 //! States that fit a plan, and states that break one clause of fitting each.
 
 use super::Rng;
-use crate::plan::{self, Plan, Step};
+use crate::plan::{self, contains, Plan, Step};
 use crate::state::{
     own_slot, supervisor_slots, Module, Own, Procedure, Supervisor, DEVICE_BYTES, MODULE_BYTES, MODULE_SLOTS, OWN_BYTES, QUEUE_LIMIT,
     SUPERVISOR_BYTES, SUPERVISOR_SLOTS,
@@ -16,12 +16,44 @@ fn fit_own(rng: &mut Rng, plan: &Plan, module: u8) -> Own {
         ..Own::default()
     };
     let responses = plan.module_events[module as usize] & !plan.controllable;
-    for _ in 0..rng.pick(&[0, 0, 0, 1, 1, 2, 7, 8]) {
-        if let Some(event) = rng.bit(responses) {
+    let moves = plan.events_from(module, own.state);
+    let mut queued = rng.pick(&[0, 0, 0, 1, 1, 2, 4, 7, 8]);
+    // So many at the head came early: the module has no move by them here. The one behind them, often the last, it has a move by.
+    let some = rng.between(0, queued);
+    let mut early = rng.pick(&[None, None, Some(some), Some(queued.max(1) - 1)]);
+    if let Some(procedure) = at_respond(rng, plan, module).filter(|_| rng.chance(25)) {
+        own.procedure = procedure;
+        queued = QUEUE_LIMIT;
+        early = Some(QUEUE_LIMIT);
+    }
+    for index in 0..queued {
+        let wanted = match early {
+            Some(early) if index < early => responses & !moves,
+            Some(early) if index == early => responses & moves,
+            _ => responses,
+        };
+        if let Some(event) = rng.bit(wanted).or_else(|| rng.bit(responses)) {
             own.push(event);
         }
     }
     own
+}
+
+/// A procedure at one of the module's respond steps, if it has any.
+fn at_respond(rng: &mut Rng, plan: &Plan, module: u8) -> Option<Procedure> {
+    let commands = plan.module_events[module as usize] & plan.controllable;
+    let places: Vec<(u8, u8)> = (0..64)
+        .filter(|&event| contains(commands, event))
+        .flat_map(|event| (0..64).map(move |index| (event, index)))
+        .filter(|&(event, index)| plan.step(event, index).is_some_and(|step| step.operation == plan::RESPOND))
+        .collect();
+    let (event, index) = *places.get(rng.below(places.len()))?;
+    Some(Procedure {
+        running: true,
+        event,
+        index,
+        ..Procedure::default()
+    })
 }
 
 fn fit_procedure(rng: &mut Rng, plan: &Plan, module: u8) -> Procedure {
