@@ -172,20 +172,26 @@ static const struct plan *choose_small(void)
     return &plan;
 }
 
-/* An uncontrollable event of the module; event records follow the head, four bytes each. */
+/* An uncontrollable event of the module, half of the time the lowest, so that a queue has several and the module has no move by some of them;
+ * event records follow the head, four bytes each. */
 static uint8_t response_of(const struct plan *plan, uint8_t module)
 {
+    uint8_t found[PEWTERSLUG_EVENT_LIMIT];
+    uint32_t count = 0;
     for (size_t place = 4; plan->image[place] == PEWTERSLUG_RECORD_EVENT; place += 4)
         if (plan->image[place + 2] == module && plan->image[place + 3] == 0)
-            return plan->image[place + 1];
-    return 0xFF;
+            found[count++] = plan->image[place + 1];
+    if (count == 0)
+        return 0xFF;
+    return found[chance_one_in(&chance, 2) ? 0 : chance_below(&chance, count)];
 }
 
 /* Calls that lead a device to a state with responses queued and procedures running. */
 static void lead_device(const struct plan *plan)
 {
-    uint8_t module = (uint8_t)chance_below(&chance, plan->modules), event = response_of(plan, module);
+    uint8_t module = (uint8_t)chance_below(&chance, plan->modules);
     for (uint32_t calls = chance_below(&chance, 24); calls > 0; calls--) {
+        uint8_t event = response_of(plan, module);
         if (chance_one_in(&chance, 4))
             pewterslug_device_turn(plan->image, plan->length, state.start, state.length, (uint8_t)chance_below(&chance, plan->modules));
         else if (chance_one_in(&chance, 4))
@@ -198,8 +204,9 @@ static void lead_device(const struct plan *plan)
 /* The same of a module, which gets a permit for each of its bids; its mask disables nothing. */
 static void lead_module(const struct plan *plan, uint8_t module)
 {
-    uint8_t written[PEWTERSLUG_STEP_BYTES], event = response_of(plan, module);
+    uint8_t written[PEWTERSLUG_STEP_BYTES];
     for (uint32_t calls = chance_below(&chance, 24); calls > 0; calls--) {
+        uint8_t event = response_of(plan, module);
         uint64_t answer = pewterslug_module_step(plan->image, plan->length, state.start, state.length, module, written, sizeof written);
         uint8_t permit[PEWTERSLUG_MESSAGE_BYTES] = {0x02, pewterslug_value(answer), module};
         if (pewterslug_number(answer) == 0 && pewterslug_did(answer) == PEWTERSLUG_BIDS)

@@ -310,7 +310,8 @@ static void tick(uint8_t *state, unsigned ticks, double litres)
     }
 }
 
-/* That plan through its whole procedure: disabled event 0, fired event 2, the waits at their ends, a full queue, a stray response. */
+/* That plan through its whole procedure: disabled event 0, fired event 2, the waits at their ends, a full queue; then responses without a
+ * move, which wait while the command 0 fires, and the first of which fires where the command led. */
 static void run_named(void)
 {
     uint8_t state[PEWTERSLUG_DEVICE_BYTES];
@@ -338,6 +339,9 @@ static void run_named(void)
     tick(state, 1, 0);
     show_own("responded", own);
     say("turn", pewterslug_device_turn(named, named_length, state, sizeof state, 0));
+    show_own("a command fired, eight wait", own);
+    say("turn", pewterslug_device_turn(named, named_length, state, sizeof state, 0));
+    show_own("the first of them fired", own);
 }
 
 /* Every number, by its name, from a call that gives it. */
@@ -608,8 +612,8 @@ static void answers(void)
 
 static void codes(void)
 {
-    printf("done %d event %d stray %d none %d bids %d sends %d waits %d free %d stuck %d\n", PEWTERSLUG_DONE, PEWTERSLUG_EVENT,
-           PEWTERSLUG_STRAY, PEWTERSLUG_NONE, PEWTERSLUG_BIDS, PEWTERSLUG_SENDS, PEWTERSLUG_WAITS, PEWTERSLUG_FREE, PEWTERSLUG_STUCK);
+    printf("done %d event %d none %d bids %d sends %d waits %d free %d stuck %d\n", PEWTERSLUG_DONE, PEWTERSLUG_EVENT, PEWTERSLUG_NONE,
+           PEWTERSLUG_BIDS, PEWTERSLUG_SENDS, PEWTERSLUG_WAITS, PEWTERSLUG_FREE, PEWTERSLUG_STUCK);
     printf("limits: image %d, modules %d, supervisors %d, events %d, queue %d, outputs %d\n", PEWTERSLUG_IMAGE_LIMIT,
            PEWTERSLUG_MODULE_LIMIT, PEWTERSLUG_SUPERVISOR_LIMIT, PEWTERSLUG_EVENT_LIMIT, PEWTERSLUG_QUEUE_LIMIT, PEWTERSLUG_OUTPUT_LIMIT);
     printf("bytes: device %d, own %d, module %d, supervisor %d, record %d, message %d, release %d, step %d, stuck %d, count %d, check %d\n",

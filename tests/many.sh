@@ -14,7 +14,7 @@ repo=$PWD
 prove many_vectors
 for seed in 1 2 3; do
   lines=target/many-lines-$seed.txt
-  python3 "$reference" --random "$seed" 1500 > "$lines"
+  python3 "$reference" --random "$seed" 4000 > "$lines"
   python3 "$reference" < "$lines" > "$expected"
   start many_vectors < "$lines" > "$given"
   cmp "$given" "$expected" || { echo "many: $lines is answered otherwise than by the reference"; exit 1; }
