@@ -25,8 +25,8 @@ static const struct {
     enum breakage breakage;
 } breakages[] = {
     {"release-none", BREAK_RELEASE_NONE}, {"acknowledge", BREAK_ACKNOWLEDGE}, {"old-mask", BREAK_OLD_MASK},
-    {"own-permit", BREAK_OWN_PERMIT},     {"no-water", BREAK_NO_WATER},       {"twice", BREAK_TWICE},
-    {"lose", BREAK_LOSE},                 {"in-order", BREAK_IN_ORDER},
+    {"own-permit", BREAK_OWN_PERMIT},     {"no-water", BREAK_NO_WATER},       {"lose-early", BREAK_LOSE_EARLY},
+    {"twice", BREAK_TWICE},               {"lose", BREAK_LOSE},               {"in-order", BREAK_IN_ORDER},
 };
 
 static bool is_in_plan(const struct plan *plan, int party)

@@ -90,6 +90,17 @@ static uint64_t acknowledge(struct module *module, const uint8_t *before, uint64
     return (answer & ~UINT64_C(0xFFFFFF00)) | PEWTERSLUG_NONE << 8;
 }
 
+/* A module that loses the head of its queue where it has no move by it: only made so on purpose. */
+static void lose_early(struct module *module, const uint8_t *before)
+{
+    uint8_t queued = pewterslug_own_queued(before), *queue = module->state + 2;
+    if (queued == 0 || pewterslug_own_queued(module->state) < queued)
+        return;
+    memmove(queue, queue + 1, PEWTERSLUG_QUEUE_LIMIT - 1);
+    queue[PEWTERSLUG_QUEUE_LIMIT - 1] = 0;
+    module->state[1]--;
+}
+
 /* The turn is reported and answered before the first release goes on the wire: see recorder.c for why this makes the record's order. */
 static void took_turn(struct module *module, uint64_t answer, uint8_t *releases)
 {
@@ -121,10 +132,11 @@ static void step(struct module *module)
         refused(module, answer);
     switch (pewterslug_did(answer)) {
     case PEWTERSLUG_EVENT:
-    case PEWTERSLUG_STRAY:
     case PEWTERSLUG_NONE:
         if (module->run->broken == BREAK_ACKNOWLEDGE && module->turned)
             answer = acknowledge(module, before, answer, buffer);
+        if (module->run->broken == BREAK_LOSE_EARLY)
+            lose_early(module, before);
         module->turned = true;
         took_turn(module, answer, buffer);
         break;
@@ -161,8 +173,11 @@ static void tick(struct module *module, const struct happening *happening)
 
 static void plant_acts(struct module *module)
 {
-    struct view view = {pewterslug_own_state(module->state), pewterslug_own_queued(module->state) > 0, pewterslug_own_running(module->state)};
-    struct happening happening = plant_happens(&module->plant, view, &module->chance);
+    struct view view = {.state = pewterslug_own_state(module->state), .running = pewterslug_own_running(module->state)};
+    struct happening happening;
+    for (uint8_t index = 0; index < pewterslug_own_queued(module->state); index++)
+        view.waiting |= UINT64_C(1) << pewterslug_own_response(module->state, index);
+    happening = plant_happens(&module->plant, view, &module->chance);
     for (unsigned i = 0; i < happening.times; i++) {
         if (happening.act == PLANT_RESPONDS)
             respond(module, &happening);

@@ -2,26 +2,48 @@
 
 #include <string.h>
 
-static void note(struct plant *plant, const uint8_t *record, uint8_t module)
+static void note_event(struct plant *plant, uint8_t event, uint8_t class)
 {
-    if (record[0] == PEWTERSLUG_RECORD_EVENT && record[2] == module && record[3] == PEWTERSLUG_CLASS_UNCONTROLLABLE)
-        plant->uncontrollable |= UINT64_C(1) << record[1];
-    if (record[0] == PEWTERSLUG_RECORD_MODULE_MOVE && record[1] == module)
+    *(class == PEWTERSLUG_CLASS_CONTROLLABLE ? &plant->controllable : &plant->uncontrollable) |= UINT64_C(1) << event;
+}
+
+/* Notes a record; `leads` has the states that a move leads to, by the state that it starts from. */
+static void note(struct plant *plant, uint32_t leads[32], const uint8_t *record, uint8_t module)
+{
+    if (record[0] == PEWTERSLUG_RECORD_EVENT && record[2] == module)
+        note_event(plant, record[1], record[3]);
+    if (record[0] == PEWTERSLUG_RECORD_MODULE_MOVE && record[1] == module) {
         plant->listed[record[2]] |= plant->uncontrollable & UINT64_C(1) << record[3];
+        leads[record[2]] |= UINT32_C(1) << record[4];
+    }
+    if (record[0] == PEWTERSLUG_RECORD_STEP && (plant->controllable >> record[1] & 1) != 0)
+        plant->procedures = true;
+}
+
+static void note_soon(struct plant *plant, const uint32_t leads[32])
+{
+    for (unsigned state = 0; state < 32; state++) {
+        for (unsigned next = 0; next < 32; next++)
+            if ((leads[state] >> next & 1) != 0)
+                plant->soon[state] |= plant->listed[next];
+        plant->soon[state] &= ~plant->listed[state];
+    }
 }
 
 /* The plan is accepted, so that events stand before moves and every number is in its range. */
 void plant_start(struct plant *plant, const struct plan *plan, uint8_t module)
 {
     size_t place = 0;
+    uint32_t leads[32] = {0};
     memset(plant, 0, sizeof *plant);
     while (place < plan->length) {
         uint64_t answer = pewterslug_read_record(plan->image, plan->length, place);
         if (pewterslug_number(answer) != 0)
             return;
-        note(plant, plan->image + place, module);
+        note(plant, leads, plan->image + place, module);
         place += pewterslug_length(answer);
     }
+    note_soon(plant, leads);
 }
 
 /* One of a mask's events at random; the mask is not 0. */
@@ -59,19 +81,26 @@ static struct happening tick(struct chance *chance)
     return tick;
 }
 
-/* While a procedure runs, the response that it waits for is mostly its own; at other times the plant reports by itself. */
+/* While a procedure runs, the response that it waits for is mostly its own; at other times the plant reports by itself.
+ *
+ * A contact that closes early reports what the module will expect after one move more, and once: it waits in the queue until then. Reports at
+ * random would not do. What the module never expects waits for ever, and eight of those fill the queue: what it does expect is then refused,
+ * and a procedure at a respond step goes no further. So a contact chatters only where the module has no procedure, and with
+ * what the module expects here or after one move more. */
 struct happening plant_happens(const struct plant *plant, struct view view, struct chance *chance)
 {
     struct happening response = {.act = PLANT_RESPONDS, .times = 1};
-    uint32_t often = view.responses ? 0 : view.running ? 10 : 80;
+    uint64_t here = plant->listed[view.state], soon = plant->soon[view.state];
+    uint32_t often = (here & view.waiting) != 0 ? 0 : view.running ? 10 : 80;
     uint32_t kind = chance_below(chance, 512);
-    if (kind < often && plant->listed[view.state] != 0) {
-        response.event = one_of(plant->listed[view.state], chance);
-    } else if (kind >= 500 && plant->uncontrollable != 0) { /* often one without a move here: a stray */
-        response.event = one_of(plant->uncontrollable, chance);
-        if (kind == 500) /* a contact that chatters: more than the queue holds */
-            response.times = 10;
-    } else if (kind == 499) { /* mostly not an event of this module: refused */
+    if (kind < often && here != 0) {
+        response.event = one_of(here, chance);
+    } else if (kind >= 480 && soon != 0 && view.waiting == 0) { /* early */
+        response.event = one_of(soon, chance);
+    } else if (kind == 479 && (here | soon) != 0 && !plant->procedures) { /* chatters: more than the queue holds */
+        response.event = one_of(here | soon, chance);
+        response.times = 10;
+    } else if (kind == 478) { /* mostly not an event of this module: refused */
         response.event = (uint8_t)chance_below(chance, 256);
     } else {
         return tick(chance);

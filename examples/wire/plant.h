@@ -6,8 +6,10 @@
 #include "plan.h"
 
 struct plant {
-    uint64_t uncontrollable; /* the module's own uncontrollable events */
-    uint64_t listed[32];     /* those with a move, by state of the module */
+    uint64_t uncontrollable, controllable; /* the module's own events */
+    uint64_t listed[32];                   /* the uncontrollable ones with a move, by state of the module */
+    uint64_t soon[32];                     /* those without one, but with one in a state that a move leads to */
+    bool procedures;                       /* some command of the module has steps */
 };
 
 enum plant_act { PLANT_RESPONDS, PLANT_TICKS };
@@ -26,11 +28,11 @@ void plant_start(struct plant *plant, const struct plan *plan, uint8_t module);
 /* What the plant sees of its module. */
 struct view {
     uint8_t state;
-    bool responses; /* some are queued */
-    bool running;   /* a procedure runs */
+    uint64_t waiting; /* the responses that are queued */
+    bool running;     /* a procedure runs */
 };
 
-/* What happens next, at random: mostly what can happen there, now and then what can not. */
+/* What happens next, at random: mostly what can happen there, now and then what can only happen soon, or not at all. */
 struct happening plant_happens(const struct plant *plant, struct view view, struct chance *chance);
 
 #endif

@@ -27,7 +27,10 @@ struct recorder {
     int *links;
     uint8_t device[PEWTERSLUG_DEVICE_BYTES];
     int64_t last_turn; /* milliseconds; used for giving up, never for what is compared */
-    uint64_t turns, events, strays, responses, ticks, refused, permits;
+    uint64_t turns, events, responses, ticks, refused, permits;
+    uint64_t past;    /* turns in which a response fired past others that wait ahead of it */
+    uint64_t between; /* turns in which a command fired while responses wait */
+    uint8_t most;     /* that ever waited in one queue */
     uint64_t left, sent, delivered, differences;
     struct report wire;
 };
@@ -58,22 +61,32 @@ static int number(int party)
 static void compare_answer(struct recorder *recorder, int module, const char *call, const struct report *report, uint64_t one)
 {
     uint32_t many = (uint32_t)report->answer;
+    const uint8_t *own = pewterslug_own_part(recorder->device, (uint8_t)module);
+    if (pewterslug_own_queued(own) > recorder->most)
+        recorder->most = pewterslug_own_queued(own);
     if (many != (uint32_t)one)
         differs(recorder, "%s of module %d: many devices number %d, did %d of %d; one device number %d, did %d of %d", call, module,
                 pewterslug_number(many), pewterslug_did(many), pewterslug_value(many), pewterslug_number(one), pewterslug_did(one),
                 pewterslug_value(one));
-    else if (memcmp(report->state, pewterslug_own_part(recorder->device, (uint8_t)module), PEWTERSLUG_OWN_BYTES) != 0)
+    else if (memcmp(report->state, own, PEWTERSLUG_OWN_BYTES) != 0)
         differs(recorder, "%s of module %d: the module's state after it", call, module);
 }
 
 static void took_turn(struct recorder *recorder, int module, const struct report *report)
 {
     const struct plan *plan = &recorder->run->plan;
+    const uint8_t *own = pewterslug_own_part(recorder->device, (uint8_t)module);
+    uint8_t queued = pewterslug_own_queued(own), head = pewterslug_own_response(own, 0);
     uint64_t one = pewterslug_device_turn(plan->image, plan->length, recorder->device, sizeof recorder->device, (uint8_t)module);
     compare_answer(recorder, module, "turn", report, one);
     recorder->turns++;
-    recorder->events += pewterslug_did(one) == PEWTERSLUG_EVENT;
-    recorder->strays += pewterslug_did(one) == PEWTERSLUG_STRAY;
+    if (pewterslug_did(one) != PEWTERSLUG_EVENT)
+        return;
+    recorder->events++;
+    if (pewterslug_own_queued(own) < queued)
+        recorder->past += pewterslug_value(one) != head;
+    else
+        recorder->between += queued > 0;
 }
 
 static void responded(struct recorder *recorder, int module, const struct report *report)
@@ -210,9 +223,10 @@ static void print(const struct recorder *recorder)
     const struct report *wire = &recorder->wire;
     printf("plan %s: %zu bytes, %d modules, %d supervisors, %d events; seed %llu\n", plan->name, plan->length, plan->modules,
            plan->supervisors, plan->events, (unsigned long long)recorder->run->seed);
-    printf("turns: %llu, with %llu events fired, %llu stray, %llu none\n", (unsigned long long)recorder->turns,
-           (unsigned long long)recorder->events, (unsigned long long)recorder->strays,
-           (unsigned long long)(recorder->turns - recorder->events - recorder->strays));
+    printf("turns: %llu, with %llu events fired, %llu none\n", (unsigned long long)recorder->turns, (unsigned long long)recorder->events,
+           (unsigned long long)(recorder->turns - recorder->events));
+    printf("early: %llu commands while responses waited; %llu responses past others; at most %d waiting\n",
+           (unsigned long long)recorder->between, (unsigned long long)recorder->past, recorder->most);
     printf("plant: %llu responses, %llu ticks, %llu refusals\n", (unsigned long long)recorder->responses,
            (unsigned long long)recorder->ticks, (unsigned long long)recorder->refused);
     printf("messages: %llu sent; deliveries: %llu delayed, %llu reordered, %llu past one of the same two parties\n",

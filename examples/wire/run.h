@@ -18,6 +18,7 @@ enum breakage {
     BREAK_OLD_MASK,     /* modules use the mask of the permit before */
     BREAK_OWN_PERMIT,   /* a module gives itself the permits that it should bid for */
     BREAK_NO_WATER,     /* modules never add to a water total */
+    BREAK_LOSE_EARLY,   /* modules lose a response that they have no move by */
     BREAK_TWICE,        /* the wire delivers a message twice */
     BREAK_LOSE,         /* the wire loses a message */
     BREAK_IN_ORDER      /* the wire neither delays nor reorders: a run that shows nothing */
