@@ -130,7 +130,7 @@ enum pewterslug_message {
 enum pewterslug_done {
     PEWTERSLUG_DONE = 0,  /* taken; the value is 0, of a read record or message its kind */
     PEWTERSLUG_EVENT = 1, /* a turn: an event fired, the value is the event */
-    PEWTERSLUG_STRAY = 2, /* a turn: a stray response, the value is its event */
+    /* 2 was a stray response, until request 2.5; it is not given again */
     PEWTERSLUG_NONE = 3,  /* a turn: none */
     PEWTERSLUG_BIDS = 4,  /* a module bids, the value is the supervisor */
     PEWTERSLUG_SENDS = 5, /* a supervisor sends its permit, the value is the module */
@@ -229,7 +229,7 @@ static inline double pewterslug_word_litres(uint64_t word)
  * A module's own part, 35 bytes:
  *    0      state of the automaton
  *    1      responses queued, 0 to 8
- *    2..9   the queue, its head first; places past the length are 0
+ *    2..9   the queue, its head first; places past the length are 0; a response stays until a turn fires it
  *   10      1 while a procedure runs, else 0
  *   11      its event          12      its step's index
  *   13..14  ticks counted of a wait
@@ -415,8 +415,12 @@ uint64_t pewterslug_count_words(const uint8_t *image, size_t image_length, uint6
  * numbers and 11. */
 uint64_t pewterslug_device_start(const uint8_t *image, size_t image_length, uint8_t *buffer, size_t buffer_length);
 
+/* A turn: the first queued response by which the module has a move in its present state fires, and the others remain in their order. If none
+ * has one and no procedure runs, the lowest-numbered command fires that has a move here and that no supervisor disables. Else none. */
 uint64_t pewterslug_device_turn(const uint8_t *image, size_t image_length, uint8_t *state, size_t state_length, uint8_t module);
 
+/* A response goes to the end of the module's queue, also where the module has no move by it yet; only a turn takes it out. Where the queue
+ * holds PEWTERSLUG_QUEUE_LIMIT already it is 13. */
 uint64_t pewterslug_device_respond(const uint8_t *image, size_t image_length, uint8_t *state, size_t state_length, uint8_t module,
                                    uint8_t event);
 
@@ -428,7 +432,9 @@ uint64_t pewterslug_device_tick(const uint8_t *image, size_t image_length, uint8
 
 uint64_t pewterslug_module_start(const uint8_t *image, size_t image_length, uint8_t module, uint8_t *buffer, size_t buffer_length);
 
-/* A step: writes a bid, releases of 4 bytes each, or nothing into the buffer. */
+/* A step: writes a bid, releases of 4 bytes each, or nothing into the buffer. With the permits of all its neighbours the module takes a turn,
+ * as on one device but over the masks received, and the turn may be none. It begins to bid, or without neighbours takes a turn, if it has a
+ * queued response by which it has a move here, or if no procedure runs and a command has a move here, disabled or not. */
 uint64_t pewterslug_module_step(const uint8_t *image, size_t image_length, uint8_t *state, size_t state_length, uint8_t module,
                                 uint8_t *buffer, size_t buffer_length);
 
