@@ -17,7 +17,7 @@ use reference::cases::{
 use reference::message::Message;
 use reference::pieces::CHECK_BYTES;
 use reference::plan::{self, Plan};
-use reference::state::{DEVICE_BYTES, MODULE_BYTES, SUPERVISOR_BYTES};
+use reference::state::{DEVICE_BYTES, MODULE_BYTES, QUEUE_LIMIT, SUPERVISOR_BYTES};
 use std::hint::black_box;
 use std::process::ExitCode;
 use std::time::Instant;
@@ -60,7 +60,8 @@ impl Rows<'_> {
         bytes
     }
 
-    /// The check, and a turn on one device, of a module that fires if there is one.
+    /// The check, and a turn on one device, of a module that fires if there is one; and such a turn with a full queue of responses without a
+    /// move, all of which are looked at before the command.
     fn one_device(&mut self) {
         self.add("check", Call::Check, &[], &[]);
         let state = start(Call::DeviceStart, self.image, DEVICE_BYTES);
@@ -68,8 +69,23 @@ impl Rows<'_> {
             let answer = Reference.call(Call::DeviceTurn { module }, self.image, &mut state.clone(), &[], &mut []);
             did(answer) == EVENT
         };
+        let early = |module: u8| {
+            let responses = self.plan.module_events[usize::from(module)] & !self.plan.controllable;
+            let moves = self.plan.events_from(module, self.plan.module_initial[usize::from(module)]);
+            Some((responses & !moves).trailing_zeros() as u8).filter(|&event| event < 64)
+        };
         let module = (0..self.plan.modules).find(fires).unwrap_or(0);
+        let waits = (0..self.plan.modules)
+            .filter(fires)
+            .find_map(|module| Some((module, early(module)?)));
         self.add("one-device turn", Call::DeviceTurn { module }, &state, &[]);
+        if let Some((module, event)) = waits {
+            let mut state = state;
+            for _ in 0..QUEUE_LIMIT {
+                Reference.call(Call::DeviceRespond { module, event }, self.image, &mut state, &[], &mut []);
+            }
+            self.add("one-device turn, 8 wait", Call::DeviceTurn { module }, &state, &[]);
+        }
     }
 
     /// A module that bids at its start, and that state.
@@ -103,7 +119,7 @@ impl Rows<'_> {
         self.add("module step, turn", step, &state, &[]);
     }
 
-    /// A tick, in a running procedure if the plan has one.
+    /// A tick with nothing queued, in a running procedure if the plan has one.
     fn tick(&mut self) {
         let mut rng = Rng::new(1);
         let running = (0..200).map(|_| {
@@ -111,7 +127,10 @@ impl Rows<'_> {
             (module, fit_module(&mut rng, &self.plan, module))
         });
         let idle = (0, start(Call::ModuleStart { module: 0 }, self.image, MODULE_BYTES));
-        let (module, state) = running.into_iter().find(|(_, state)| state[10] == 1).unwrap_or(idle);
+        let (module, state) = running
+            .into_iter()
+            .find(|(_, state)| state[1] == 0 && state[10] == 1)
+            .unwrap_or(idle);
         let call = Call::ModuleTick {
             module,
             sensor: 1,
