@@ -1,1 +1,3 @@
 // What an accepted plan promises, as one checked statement: specs/Plan.antt.
+
+#![tactic(auto)]

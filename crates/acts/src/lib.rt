@@ -1,4 +1,6 @@
 // The script of the simulation: what a line asks.
+#![tactic(auto)]
+
 ghost use Rattle.std.specs.Prelude.{◌≡◌};
 ghost use Rattle.acts.specs.Act.{reading_by, reading_of, module_by, supervisor_by, delivery_by, response_by, tick_by, tick_of, act_of, ActAs};
 
@@ -8,7 +10,7 @@ use script::Line;
 
 // What a line of the script asks: a step of a module or a supervisor, a delivery, a response, a tick with a reading in eighths of a litre, or
 // one where no sensor is fitted.
-#[derive(Drop)]
+#[derive(Clone, Copy)]
 pub enum Act {
     Module(u8),
     Supervisor(u8),
@@ -20,7 +22,7 @@ pub enum Act {
 }
 
 // What stands behind a tick's module.
-#[derive(Drop)]
+#[derive(Clone, Copy)]
 enum Reading {
     Eighths(u16),
     NoSensor,

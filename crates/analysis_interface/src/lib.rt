@@ -1,4 +1,6 @@
 // The analyses of a plan over lent bytes: specs/Analysis.antt, specs/Counts.antt.
+#![tactic(auto)]
+
 ghost use Rattle.analysis_interface.specs.Analysis.{blocking_answer, FoundBytes};
 ghost use Rattle.analysis_interface.specs.Counts.{counting_answer, CountedBytes};
 ghost use Rattle.std.specs.Prelude.{◌≡◌};

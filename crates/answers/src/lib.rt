@@ -1,4 +1,6 @@
 // What the simulation prints of what a line of its script got, and the rows of events: specs/AnswerLines.antt.
+#![tactic(auto)]
+
 ghost use Rattle.std.specs.Prelude.{◌≡◌};
 ghost use Rattle.places.specs.Places.{records_by};
 ghost use Rattle.messages.specs.Message.{message_bytes};
@@ -15,7 +17,7 @@ use simulation::Answer;
 use texts::Text;
 
 // The numbers of a row that is still to be printed.
-#[derive(Drop)]
+#[derive(Clone, Copy)]
 pub struct Row {
     pub numbers: [u8; 1024],
     pub count: usize,

@@ -1,9 +1,11 @@
 // Masks of events and of automata.
+#![tactic(auto)]
+
 ghost use Rattle.std.specs.Prelude.{◌≡◌};
 ghost use Rattle.bits.specs.Bit.{bit, all_below, every_event, put_bit, least, option_of};
 
 // A number, or that there is none.
-#[derive(Drop)]
+#[derive(Clone, Copy)]
 pub enum Maybe {
     Just(u8),
     Nothing,

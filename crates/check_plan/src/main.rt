@@ -1,4 +1,6 @@
 // The program for the workstation: whether the plan image on standard input is accepted. It is read once, in pieces, and never held as a whole.
+#![tactic(auto)]
+
 use pieces::CheckState;
 use rules::Verdict;
 use texts::Text;
@@ -13,7 +15,7 @@ fn print(t: Text) {
 }
 
 // The check of what has come of the image, whether there may be more, and whether it could not be read.
-#[derive(Drop)]
+#[derive(Clone, Copy)]
 struct Progress {
     state: CheckState,
     more: bool,

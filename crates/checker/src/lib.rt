@@ -1,5 +1,7 @@
 // The check of a plan image, in one pass over its records: those of each kind in a loop of their own, and the judge where these stop. `pass` goes by the
 // same loops from any offset, with what the bytes of a check's state remember.
+#![tactic(auto)]
+
 ghost use Rattle.std.specs.Prelude.{◌≡◌, ◌+◌, ◌%◌, ◌<◌, ◌≤◌, length, replicate, ◌==◌, slice_index};
 ghost use Rattle.rules.specs.Check.{verdict_of, end_at};
 ghost use Rattle.places.specs.Places.{nowhere};
@@ -27,21 +29,21 @@ use rules::Verdict;
 pub const LIMIT: usize = 49152;
 
 // Accepted, with the places of the plan's records, or the number and the offset.
-#[derive(Drop)]
+#[derive(Clone, Copy)]
 pub enum Examined {
     Accepted(Places),
     Refused(u8, usize),
 }
 
 // Where a stretch of records ends: the last record's kind and key, and the next offset.
-#[derive(Drop)]
+#[derive(Clone, Copy)]
 struct Place {
     last: RecordKey,
     next: usize,
 }
 
 // The same after modules or supervisors, and the numbers declared.
-#[derive(Drop)]
+#[derive(Clone, Copy)]
 struct PlaceOfNumbers {
     known: u64,
     last: RecordKey,
@@ -49,7 +51,7 @@ struct PlaceOfNumbers {
 }
 
 // The same after events, and those of them that are controllable.
-#[derive(Drop)]
+#[derive(Clone, Copy)]
 struct PlaceOfEvents {
     known: u64,
     controllable: u64,

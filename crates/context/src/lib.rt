@@ -1,11 +1,13 @@
 // What the check of a plan remembers of the records before: one struct by value, some 500 bytes.
+#![tactic(auto)]
+
 ghost use Rattle.std.specs.Prelude.{◌≡◌};
 ghost use Rattle.context.specs.Context.{with_event, with_step, with_module, with_supervisor, with_record, start, owner_at, steps_at, module_states_at, supervisor_states_at, alphabet_at};
 
 use records::{Record, RecordKey};
 
 // The head's counts.
-#[derive(Drop)]
+#[derive(Clone, Copy)]
 pub struct Counts {
     pub modules: u8,
     pub supervisors: u8,
@@ -13,7 +15,7 @@ pub struct Counts {
 }
 
 // The events that have a record, those of them that are controllable, the module of each, and how many steps each has so far.
-#[derive(Drop)]
+#[derive(Clone, Copy)]
 pub struct Events {
     pub known: u64,
     pub controllable: u64,
@@ -22,14 +24,14 @@ pub struct Events {
 }
 
 // The modules that have a record, and how many states each has.
-#[derive(Drop)]
+#[derive(Clone, Copy)]
 pub struct Modules {
     pub known: u64,
     pub states: [u8; 16],
 }
 
 // The supervisors that have a record, how many states each has, and its alphabet.
-#[derive(Drop)]
+#[derive(Clone, Copy)]
 pub struct Supervisors {
     pub known: u64,
     pub states: [u8; 32],
@@ -37,7 +39,7 @@ pub struct Supervisors {
 }
 
 // Whether a record has come, the last one's kind and key, and what the records declared.
-#[derive(Drop)]
+#[derive(Clone, Copy)]
 pub struct Context {
     pub begun: bool,
     pub last: RecordKey,

@@ -1,5 +1,7 @@
 // What the check of a plan remembers as bytes of a check's state: specs/Encoding.antt. The length is tested once, and parts of constant length are
 // copied, which the compiler does in blocks.
+#![tactic(auto)]
+
 ghost use Rattle.std.specs.Prelude.{◌≡◌, ◌+◌, ◌≤◌, length};
 ghost use Rattle.std.proofs.lemmas.List.Edits.{sets};
 ghost use Rattle.words.specs.Word.{put_at};

@@ -1,19 +1,21 @@
 // The lines in which counts are printed: specs/Lines.antt says what stands in them. Their length is found before anything is written, and they are
 // written from the last byte to the first.
+#![tactic(auto)]
+
 ghost use Rattle.std.specs.Prelude.{◌≡◌, ◌≤◌, ◌<◌, length, get_or};
 ghost use Rattle.words.specs.Word.{written};
 ghost use Rattle.count_lines.specs.Lines.{number_line, lines_with_sum, by_numbers, Prints};
 ghost use Rattle.count_lines.specs.Post.{Measures, Puts};
 
 // The bytes written, or that the buffer is shorter than the lines.
-#[derive(Drop)]
+#[derive(Clone, Copy)]
 pub enum Lines {
     Printed(usize),
     Short,
 }
 
 // The length of a text, or that it is longer than the room.
-#[derive(Drop)]
+#[derive(Clone, Copy)]
 enum Measured {
     Is(usize),
     TooLong,

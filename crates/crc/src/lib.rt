@@ -1,4 +1,6 @@
 // The CRC-16 of a frame: specs/Crc.antt.
+#![tactic(auto)]
+
 ghost use Rattle.std.specs.Prelude.{◌≡◌};
 ghost use Rattle.crc.specs.Crc.{shifted, entry_of, crc_byte, crc_from, crc_of};
 

@@ -1,4 +1,6 @@
 // The calls of the one-device controller. specs/Device.antt says what each gives.
+#![tactic(auto)]
+
 ghost use Rattle.std.specs.Prelude.{◌≡◌};
 ghost use Rattle.places.specs.Places.{records_by};
 ghost use Rattle.modules.specs.Procedure.{respond_of, tick_of};
@@ -14,21 +16,21 @@ use places::Places;
 use water::Flow;
 
 // What a turn got.
-#[derive(Drop)]
+#[derive(Clone, Copy)]
 pub enum Turning {
     Done(Turn),
     Refused(u8, usize),
 }
 
 // A turn's answer and the state after it.
-#[derive(Drop)]
+#[derive(Clone, Copy)]
 pub struct DeviceTurned {
     pub answer: Turning,
     pub device: Device,
 }
 
 // The answer of a start, a response or a tick, and the state after it.
-#[derive(Drop)]
+#[derive(Clone, Copy)]
 pub struct DeviceCalled {
     pub answer: Called,
     pub device: Device,

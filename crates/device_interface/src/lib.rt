@@ -1,5 +1,7 @@
 // The calls of the one-device controller over lent bytes: specs/Calls.antt. A call changes the bytes of one slot, and a turn that fires an event
 // also the states behind the slots; what is left is what the call of crate device leaves.
+#![tactic(auto)]
+
 ghost use Rattle.std.specs.Prelude.{◌≡◌, true, []};
 ghost use Rattle.places.specs.Places.{records_by};
 ghost use Rattle.modules.specs.Procedure.{respond_of, tick_of};

@@ -1,4 +1,6 @@
 // The state of the one-device controller: each module's own part and each supervisor's state. specs/States.antt says what each function gives.
+#![tactic(auto)]
+
 ghost use Rattle.std.specs.Prelude.{◌≡◌, cond, eqb, ltb, get_or};
 ghost use Rattle.bits.specs.Bit.{all_below};
 ghost use Rattle.places.specs.Places.{records_by};
@@ -13,7 +15,7 @@ use modules::Own;
 use places::Places;
 
 // Each module's own part and each supervisor's state. Slots that the plan lacks hold 0.
-#[derive(Drop)]
+#[derive(Clone, Copy)]
 pub struct Device {
     pub modules: [Own; 16],
     pub supervisors: [u8; 32],

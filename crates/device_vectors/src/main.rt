@@ -1,6 +1,8 @@
 // Runs the calls of the one-device controller on the lines of standard input, and prints what each gives.
 // tests/reference/one_device.py says which lines there are, and prints the same; crate example_lines reads them, crate
 // example_states the own part of a module, and crate texts makes what is printed.
+#![tactic(auto)]
+
 use device::{DeviceCalled, Turning};
 use device_states::Device;
 use modules::{Called, Own, Turn};
@@ -142,7 +144,7 @@ fn run_call(image: &[u8], d: Device, s: &[u8]) -> Device {
 }
 
 // The device, and the image's length.
-#[derive(Drop)]
+#[derive(Clone, Copy)]
 struct Held {
     device: Device,
     n: usize,

@@ -1,4 +1,6 @@
 // The lines of the stored examples: specs/Words.antt says what a line is, specs/Image.antt what an image in it is.
+#![tactic(auto)]
+
 ghost use Rattle.std.specs.Prelude.{◌≡◌, ◌+◌, ◌-◌, ◌*◌, ◌%◌, ◌<◌, ◌≤◌, [], ◌∷◌, ◌++◌, length, take, drop};
 ghost use Rattle.std.proofs.Math.Seq.{paste};
 ghost use Rattle.example_lines.specs.Words as Words;
@@ -144,7 +146,7 @@ pub fn bits_in(s: &[u8], k: usize) -> u64
 // ---- images
 
 // An image as far as it is read: its length and the fields of `Part`.
-#[derive(Drop)]
+#[derive(Clone, Copy)]
 struct Piece {
     n: usize,
     start: usize,

@@ -1,4 +1,6 @@
 // A module's own part in the lines of the stored examples: specs/Setting.antt says how a line sets a field of it, specs/Printed.antt how it is printed.
+#![tactic(auto)]
+
 ghost use Rattle.std.specs.Prelude.{◌≡◌, ◌≤◌};
 ghost use Rattle.texts.specs.Text.{appended};
 ghost use Rattle.example_states.specs.Setting.{float_in, flow_in, with_water, with_procedure_field, with_queued, with_field};

@@ -1,4 +1,6 @@
 // Numbers of two bytes, flags and f64 in the bytes of a state: specs/Fields.antt.
+#![tactic(auto)]
+
 ghost use Rattle.std.specs.Prelude.{◌≡◌, ◌<◌};
 ghost use Rattle.std.specs.Float.{binary64};
 ghost use Rattle.std.specs.Float.Ieee.{to_bits, of_bits, nan_bits};

@@ -1,4 +1,6 @@
 // Whether the own part of a module fits the plan. Its rules are specs/Fits.antt of crate modules.
+#![tactic(auto)]
+
 ghost use Rattle.std.specs.Prelude.{◌≡◌, cond, ◌≤◌, eqb, ltb, take, drop};
 ghost use Rattle.places.specs.Places.{records_by};
 ghost use Rattle.plan.specs.Plan.{own_uncontrollable};

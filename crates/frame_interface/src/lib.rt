@@ -1,4 +1,6 @@
 // A message in a Modbus RTU frame over lent bytes: specs/Frames.antt.
+#![tactic(auto)]
+
 ghost use Rattle.std.specs.Prelude.{◌≡◌, []};
 ghost use Rattle.packing.specs.Answer.{Answered};
 ghost use Rattle.frame_interface.specs.Frames.{framed_answer, write_frame_bytes, unframed_answer, read_frame_bytes};

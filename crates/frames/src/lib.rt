@@ -1,4 +1,6 @@
 // Messages in Modbus RTU frames: specs/Frame.antt and specs/Calls.antt.
+#![tactic(auto)]
+
 ghost use Rattle.std.specs.Prelude.{◌≡◌, ◌+◌, ◌≤◌, length};
 ghost use Rattle.words.specs.Word.{written};
 ghost use Rattle.messages.specs.Message.{parse, parsed_number};
@@ -9,14 +11,14 @@ ghost use Rattle.frames.specs.Calls.{FramedAs, UnframedAs};
 use messages::Parsed;
 
 // What became of a message to be written: the length of its frame, or the number and the offset of the refusal.
-#[derive(Drop)]
+#[derive(Clone, Copy)]
 pub enum Framed {
     Length(usize),
     Refused(u8, usize),
 }
 
 // What became of a frame to be read: the address and the length of its message, or the number and the offset of the refusal.
-#[derive(Drop)]
+#[derive(Clone, Copy)]
 pub enum Unframed {
     Message(u8, usize),
     Refused(u8, usize),

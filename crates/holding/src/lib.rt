@@ -1,5 +1,7 @@
 // The permits that a module holds and those that it lacks, by the mask of its neighbours, whether its state fits, and a call that is refused:
 // permits/specs/Module.antt.
+#![tactic(auto)]
+
 ghost use Rattle.std.specs.Prelude.{◌≡◌};
 ghost use Rattle.places.specs.Places.{records_by};
 ghost use Rattle.bits.specs.Bit.{option_of};

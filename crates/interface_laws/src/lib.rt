@@ -1,1 +1,3 @@
 // What holds of every call over lent bytes: specs/Laws.antt. No code.
+
+#![tactic(auto)]

@@ -1,4 +1,6 @@
 // Judges one record from what the check remembers and the record's own fields alone, and passes faultless records up to the end record.
+#![tactic(auto)]
+
 ghost use Rattle.std.specs.Prelude.{◌≡◌};
 ghost use Rattle.judge.specs.Past.{past_from};
 ghost use Rattle.judge.specs.Judge.{event_known, operand_known, module_known, supervisor_known, index_by, order_by, names_by, respond_by, rules_by, all_by, judge_by};
@@ -270,7 +272,7 @@ pub fn judge(c: Context, r: Record) -> u8
 }
 
 // How far whole records go that are faultless and no end record: what is remembered after them, and the next offset.
-#[derive(Drop)]
+#[derive(Clone, Copy)]
 pub struct Past {
     pub context: Context,
     pub next: usize,

@@ -1,12 +1,14 @@
 // The length that `word_counts` reads from standard input, in pieces, so that the input may be of any length: specs/Length.antt says what length the whole
 // input is, specs/Input.antt what is kept of it on the way.
+#![tactic(auto)]
+
 ghost use Rattle.std.specs.Prelude.{◌≡◌, ◌+◌, ◌*◌, ◌<◌};
 ghost use Rattle.length_input.specs.Length.{capped};
 ghost use Rattle.length_input.specs.Input.{begun, first_byte, next_byte, with_byte, with_bytes, LengthAs};
 
 // What has come so far: nothing; digits, by the number that they are; digits and the line feed; or what is no length whatever follows. A number of
 // more than 64 bits is held as the largest, and 0 is the digit 0 alone.
-#[derive(Drop)]
+#[derive(Clone, Copy)]
 pub enum Input {
     Empty,
     Digits(u64),
@@ -15,7 +17,7 @@ pub enum Input {
 }
 
 // The length that the input is, if it is one.
-#[derive(Drop)]
+#[derive(Clone, Copy)]
 pub enum WordLength {
     Value(u64),
     Misshapen,

@@ -1,4 +1,6 @@
 // What the lines of both scripts are read by: a line that comes byte by byte, its numbers and its spaces; and a hexadecimal digit to print.
+#![tactic(auto)]
+
 ghost use Rattle.std.specs.Prelude.{◌≡◌, ◌%◌};
 ghost use Rattle.lines.specs.Number.{number_from, up_to, number_up_to, number_of, space_in};
 ghost use Rattle.lines.specs.Partial.{begun, with_byte, has_byte};
@@ -7,14 +9,14 @@ ghost use Rattle.lines.specs.Hex.{hex_digit};
 use bits::Maybe;
 
 // The first twelve bytes of a line that is still coming, and how many of them there are.
-#[derive(Drop)]
+#[derive(Clone, Copy)]
 pub struct Partial {
     pub bytes: [u8; 12],
     pub length: usize,
 }
 
 // The number that bytes are, if they are one.
-#[derive(Drop)]
+#[derive(Clone, Copy)]
 pub enum Number {
     Value(u16),
     Misshapen,

@@ -1,6 +1,8 @@
 // The listing program: plays the script of standard input on the plan of `plan.bin` and prints what each line got. Crate sheet says what a line
 // does and prints, and what a whole script prints (`listed`); here it is read and printed. Lines come byte by byte, so that script and lines may
 // be of any length.
+#![tactic(auto)]
+
 use checker::Examined;
 use device_states::Device;
 use lines::Partial;
@@ -25,7 +27,7 @@ fn play_line(image: &[u8], d: Device, line: Partial) -> Device {
 }
 
 // How far the script has come: the device, the line that is still coming, and whether there may be more.
-#[derive(Drop)]
+#[derive(Clone, Copy)]
 struct Progress {
     device: Device,
     line: Partial,

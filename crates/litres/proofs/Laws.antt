@@ -50,6 +50,10 @@ cross p q r t a c C h k =
     (mul_right_comm p t c ∙ ap (λ (x : ℕ). x * t) h ∙ mul_right_comm a q t ∙ ap (λ (x : ℕ). x * q) (sym k) ∙ mul_right_comm r c q)
 
 pub unique : (x y : Float) (s : Bool) (a c : ℕ) → 0 < c → T (fits binary64 x) → T (fits binary64 y) → HasValue x s a c → HasValue y s a c → x ≡ y
+unique nan y s a c C p q v w = elim v [ ]
+unique (inf _) y s a c C p q v w = elim v [ ]
+unique (fin t m e) nan s a c C p q v w = elim w [ ]
+unique (fin t m e) (inf _) s a c C p q v w = elim w [ ]
 unique (fin t m e) (fin u n d) s a c C p q v w =
     sym (of_bits-to_bits binary64 (fin t m e) p)
     ∙ ap (of_bits binary64)
@@ -73,6 +77,8 @@ zero_iff p q a c Q C h =
 
 zero_test : (z : Float) (s : Bool) (a c : ℕ) → 0 < c → HasValue z s a c → eq z (fin false 0 (pos 0)) ≡ eqb a 0
 unfolding eq
+zero_test nan s a c C v = elim v [ ]
+zero_test (inf _) s a c C v = elim v [ ]
 zero_test (fin true m e) s a c C v = rw (zero-mul, mul-one) (and_or (eqb (m * up e) 0) false ∙ zero_iff (m * up e) (down e) a c (down_pos e) C v.1)
 zero_test (fin false m e) s a c C v = rw (zero-mul, mul-one) (and_or (eqb (m * up e) 0) true ∙ zero_iff (m * up e) (down e) a c (down_pos e) C v.1)
 
@@ -154,6 +160,8 @@ flip m e t = unfold neg in neg-fits binary64 (fin false m e) t
 -- what `is_eighths` returns in each arm
 pub yes_arm : (x : Float) → T (fits binary64 x) → T (finite_eighths x) → ltb (to_bits binary64 x) (2 ^ 63) ≡ is_eighths x
 unfolding is_eighths
+yes_arm nan t h = elim h [ ]
+yes_arm (inf _) t h = elim h [ ]
 yes_arm (fin true m e) t h = is_false (ltb (to_bits binary64 (fin true m e)) (2 ^ 63)) (not_T (ltb (to_bits binary64 (fin true m e)) (2 ^ 63)) (λ u. not-le_of_lt (ltb→lt (to_bits binary64 (fin true m e)) (2 ^ 63) u) (sign_set m e)))
 yes_arm (fin false m e) t h = is_true (ltb (to_bits binary64 (fin false m e)) (2 ^ 63)) (lt→ltb (to_bits binary64 (fin false m e)) (2 ^ 63) (sign_clear m e (flip m e t))) ∙ sym (is_true (eqb (m * up e * 8 % down e) 0) h)
 
@@ -166,12 +174,16 @@ no_arm (fin false m e) h = h
 
 pub not_nan : (x : Float) → T (finite_eighths x) → T (not (is_nan x))
 unfolding is_nan
+not_nan nan h = elim h [ ]
+not_nan (inf _) h = elim h [ ]
 not_nan (fin s m e) h = tt
 
 -- ---- `is_eighths` and `count` are what they say: a value is n / 8 where its count is n
 
 pub value_of : (x : Float) → T (is_eighths x) → HasValue x false (count x) 8
 unfolding is_eighths count
+value_of nan t = elim t [ ]
+value_of (inf _) t = elim t [ ]
 value_of (fin true m e) t = absurd t
 value_of (fin false m e) t =
     let a = m * up e * 8 in
@@ -179,6 +191,8 @@ value_of (fin false m e) t =
 
 pub of_value : (x : Float) (n : ℕ) → HasValue x false n 8 → T (is_eighths x) × (count x ≡ n)
 unfolding is_eighths count
+of_value nan n v = elim v [ ]
+of_value (inf _) n v = elim v [ ]
 of_value (fin true m e) n v = absurd (true≢false v.0)
 of_value (fin false m e) n v = (eq→eqb (ap (λ (x : ℕ). x % down e) v.1 ∙ mul-mod_left n (down e)), ap (λ (x : ℕ). x / down e) v.1 ∙ mul-div_cancel n (down_pos e))
 
@@ -203,6 +217,10 @@ or_split p q t = go (ltb p q) (ltb→lt p q) (eqb p q) (eqb→eq p q) t
 
 values_of_le : (x y : Float) (a b c : ℕ) → 0 < c → HasValue x false a c → HasValue y false b c → T (le x y) → a ≤ b
 unfolding le
+values_of_le nan y a b c C v w h = elim v [ ]
+values_of_le (inf _) y a b c C v w h = elim v [ ]
+values_of_le (fin false m e) nan a b c C v w h = elim w [ ]
+values_of_le (fin false m e) (inf _) a b c C v w h = elim w [ ]
 values_of_le (fin true m e) y a b c C v w h = absurd (true≢false v.0)
 values_of_le (fin false m e) (fin true n d) a b c C v w h = absurd (true≢false w.0)
 values_of_le (fin false m e) (fin false n d) a b c C v w h =
@@ -223,6 +241,10 @@ le_counts x y t u = le_values x y (count x) (count y) 8 (lit< tt) (value_of x t)
 -- `<` and `==` of values in eighths
 lt_values : (x y : Float) (a b c : ℕ) → 0 < c → HasValue x false a c → HasValue y false b c → lt x y ≡ ltb a b
 unfolding lt
+lt_values nan y a b c C v w = elim v [ ]
+lt_values (inf _) y a b c C v w = elim v [ ]
+lt_values (fin false m e) nan a b c C v w = elim w [ ]
+lt_values (fin false m e) (inf _) a b c C v w = elim w [ ]
 lt_values (fin true m e) y a b c C v w = absurd (true≢false v.0)
 lt_values (fin false m e) (fin true n d) a b c C v w = absurd (true≢false w.0)
 lt_values (fin false m e) (fin false n d) a b c C v w =
@@ -245,6 +267,10 @@ sum_values p q r t a b c h k =
 
 add_values : (x y : Float) (a b : ℕ) → HasValue x false a 8 → HasValue y false b 8 → add binary64 x y ≡ eighths (a + b)
 unfolding add eighths
+add_values nan y a b v w = elim v [ ]
+add_values (inf _) y a b v w = elim v [ ]
+add_values (fin false m e) nan a b v w = elim w [ ]
+add_values (fin false m e) (inf _) a b v w = elim w [ ]
 add_values (fin true m e) y a b v w = absurd (true≢false v.0)
 add_values (fin false m e) (fin true n d) a b v w = absurd (true≢false w.0)
 add_values (fin false m e) (fin false n d) a b v w =
@@ -323,6 +349,8 @@ unfolding is_eighths is_nan
 target_not_nan b h = subst (λ (t : Bool). T (not t)) (sym (nan_bits_is binary64 b)) (go (of_bits binary64 b) h)
   where
     go : (x : Float) → T (is_eighths x) → T (not (is_nan x))
+    go nan t = elim t [ ]
+    go (inf _) t = elim t [ ]
     go (fin s m e) t = tt
 
 -- ---- what the tests mean: exactly the floats n / 8 in range

@@ -1,4 +1,6 @@
 // Litres in whole eighths, as f64: what a flow reading and a plan's target may be.
+#![tactic(auto)]
+
 ghost use Rattle.std.specs.Prelude.{◌≡◌};
 ghost use Rattle.litres.specs.Eighths.{is_eighths, litres_ok, target_ok};
 

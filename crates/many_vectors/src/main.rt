@@ -1,6 +1,8 @@
 // Runs the calls of the distributed controller on the lines of standard input, and prints what each gives.
 // tests/reference/many_vectors.py says which lines there are, and prints the same; crate example_lines reads them, crate
 // example_states the own part of a module, and crate texts makes what is printed.
+#![tactic(auto)]
+
 use messages::{Message, Parsed};
 use modules::{Called, Turn};
 use permits::{Holder, Module, ModuleCalled, Served, Stepped, Supervisor, SupervisorCalled};
@@ -274,7 +276,7 @@ fn run_supervisor(image: &[u8], bytes: &[u8], y: Supervisor, s: &[u8]) -> Superv
 }
 
 // The module, the supervisor, and the image's length.
-#[derive(Drop)]
+#[derive(Clone, Copy)]
 struct Held {
     module: Module,
     supervisor: Supervisor,

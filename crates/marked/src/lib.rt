@@ -1,1 +1,3 @@
 // The marked examples of document 01, as one checked table: specs/Table.antt.
+
+#![tactic(auto)]

@@ -1,4 +1,6 @@
 // Masks of a plan: the commands among moves, a module's events and its neighbours, and the modules near a supervisor.
+#![tactic(auto)]
+
 ghost use Rattle.std.specs.Prelude.{◌≡◌, ℕ, ◌<◌, ◌/◌, ◌^◌, List, cond, ◌&&◌, eqb, ltb};
 ghost use Rattle.std.specs.Int.Bits.{bit_or};
 ghost use Rattle.bits.specs.Bit.{bit, some_below, mask_of};

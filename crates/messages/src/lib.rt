@@ -1,4 +1,6 @@
 // Messages between modules and supervisors: specs/Message.antt.
+#![tactic(auto)]
+
 ghost use Rattle.std.specs.Prelude.{◌≡◌, ◌+◌, ◌≤◌, length};
 ghost use Rattle.std.proofs.lemmas.List.Edits.{sets};
 ghost use Rattle.messages.specs.Message.{message_bytes, ParsedAs};
@@ -15,7 +17,7 @@ pub const BUFFER_LENGTH: usize = 32 * RELEASE_SIZE;
 
 // Document 01's terms: a bid of a module to a supervisor, the supervisor's permit with its shown mask, and the module's release with the event
 // that fired, or 255 for no event.
-#[derive(Drop)]
+#[derive(Clone, Copy)]
 pub enum Message {
     Bid {
         owner: u8,
@@ -34,7 +36,7 @@ pub enum Message {
 }
 
 // What bytes are: a message, or misshapen.
-#[derive(Drop)]
+#[derive(Clone, Copy)]
 pub enum Parsed {
     Whole(Message),
     Misshapen,

@@ -1,4 +1,6 @@
 // The start, the responses and the ticks of a module on many devices: definitions in permits/specs/Module.antt.
+#![tactic(auto)]
+
 ghost use Rattle.std.specs.Prelude.{◌≡◌};
 ghost use Rattle.places.specs.Places.{records_by};
 ghost use Rattle.rules.specs.declared.Verdict.TheVariants.{Accepted};

@@ -1,4 +1,6 @@
 // A message delivered to a module: definitions in permits/specs/Module.antt.
+#![tactic(auto)]
+
 ghost use Rattle.std.specs.Prelude.{◌≡◌, List, true, ◌<◌};
 ghost use Rattle.bits.specs.Bit.{put_bit};
 ghost use Rattle.places.specs.Places.{records_by};

@@ -1,4 +1,6 @@
 // The calls of a module on its own device over lent bytes: specs/Calls.antt.
+#![tactic(auto)]
+
 ghost use Rattle.std.specs.Prelude.{[]};
 ghost use Rattle.party_bytes.specs.Module.{module_size, module_bytes};
 ghost use Rattle.packing.specs.Answer.{Answered, start_answer};

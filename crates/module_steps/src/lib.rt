@@ -1,4 +1,6 @@
 // The module's step on many devices: definitions in permits/specs/Module.antt.
+#![tactic(auto)]
+
 ghost use Rattle.std.specs.Prelude.{◌≡◌, List, true, ◌||◌};
 ghost use Rattle.places.specs.Places.{records_by};
 ghost use Rattle.records.specs.declared.Record.{Record};
@@ -16,7 +18,7 @@ use permits::{Module, ModuleStepped, Stepped};
 use places::Places;
 
 // What a step does.
-#[derive(Drop)]
+#[derive(Clone, Copy)]
 enum Chosen {
     Turn,
     Bid(u8),

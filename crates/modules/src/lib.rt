@@ -1,4 +1,6 @@
 // The module's own part: the same struct on one device and on many. What a response and a tick do to it, and its parts of a turn.
+#![tactic(auto)]
+
 ghost use Rattle.std.specs.Prelude.{◌≡◌, List, true, false, cond, ℕ, suc, ◌<◌, eqb, ltb, length, get_or, take};
 ghost use Rattle.places.specs.Places.{records_by};
 ghost use Rattle.plan.specs.Plan.{counts};
@@ -18,7 +20,7 @@ use water::{Flow, Water};
 
 // The procedure that runs: idle, with every field 0, or at a step of an event. A wait's ticks so far are counted; a litres step has its
 // water. Fields not used at a step are 0.
-#[derive(Drop)]
+#[derive(Clone, Copy)]
 pub struct Procedure {
     pub running: bool,
     pub event: u8,
@@ -28,7 +30,7 @@ pub struct Procedure {
 }
 
 // The automaton's state, the response queue with the cells past its length 0, the procedure, and the 32 outputs.
-#[derive(Drop)]
+#[derive(Clone, Copy)]
 pub struct Own {
     pub state: u8,
     pub queue: [u8; 8],
@@ -38,35 +40,35 @@ pub struct Own {
 }
 
 // What a turn did: an event fired, or nothing.
-#[derive(Drop)]
+#[derive(Clone, Copy)]
 pub enum Turn {
     Event(u8),
     Nothing,
 }
 
 // The module's own part after a turn, and what the turn did: the larger first, so that taking it out copies it whole.
-#[derive(Drop)]
+#[derive(Clone, Copy)]
 pub struct Turned {
     pub own: Own,
     pub turn: Turn,
 }
 
 // What a response or a tick got: taken, or the number.
-#[derive(Drop)]
+#[derive(Clone, Copy)]
 pub enum Reply {
     Taken,
     Refused(u8),
 }
 
 // A reply and the module's own part after it.
-#[derive(Drop)]
+#[derive(Clone, Copy)]
 pub struct Replied {
     pub reply: Reply,
     pub own: Own,
 }
 
 // What a call got that has no other answer: done, or the number and the offset.
-#[derive(Drop)]
+#[derive(Clone, Copy)]
 pub enum Called {
     Done,
     Refused(u8, usize),
@@ -203,7 +205,7 @@ fn idle() -> Procedure
 }
 
 // Whether an event has a step of an index, and its operation and operand.
-#[derive(Drop)]
+#[derive(Clone, Copy)]
 pub struct StepFields {
     pub present: bool,
     pub operation: u8,

@@ -1,4 +1,6 @@
 // The bids that a supervisor has noted, the module that its permit goes to, and whether its state fits: permits/specs/Supervisor.antt.
+#![tactic(auto)]
+
 ghost use Rattle.std.specs.Prelude.{◌≡◌, not, ◌&&◌, ◌||◌, ◌<◌};
 ghost use Rattle.places.specs.Places.{records_by};
 ghost use Rattle.bits.specs.Bit.{bit, all_below, every_event, least, option_of};

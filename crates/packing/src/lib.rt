@@ -1,4 +1,6 @@
 // Answers as one number: specs/Answer.antt.
+#![tactic(auto)]
+
 ghost use Rattle.std.specs.Prelude.{◌≡◌, ◌<◌, eqb};
 ghost use Rattle.modules.specs.Numbers.{called_number};
 ghost use Rattle.permits.specs.Numbers.{stepped_number, served_number};

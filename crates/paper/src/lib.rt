@@ -1,4 +1,6 @@
 // A plan on paper: a line for each record, 60 lines to a page, written into a lent buffer. specs/Paper.antt says what stands in a line.
+#![tactic(auto)]
+
 ghost use Rattle.std.specs.Prelude.{◌≡◌, [], ◌∷◌, ◌+◌, ◌*◌, ◌≤◌, length, drop, leb};
 ghost use Rattle.std.proofs.lemmas.List.Edits.{sets};
 ghost use Rattle.reader.specs.Read.{record_of, shape_at};
@@ -11,14 +13,14 @@ use reader::Shape;
 use rules::Verdict;
 
 // The length written, or the number and the offset.
-#[derive(Drop)]
+#[derive(Clone, Copy)]
 pub enum Printed {
     Length(usize),
     Refused(u8, usize),
 }
 
 // The fields of a record by their columns: the first `count` of the four bytes, and the word if it is `wide`.
-#[derive(Drop)]
+#[derive(Clone, Copy)]
 struct Fields {
     count: usize,
     first: u8,

@@ -1,4 +1,6 @@
 // Every party of a plan with its state, the messages under way, and one device beside them: specs/Parties.antt.
+#![tactic(auto)]
+
 ghost use Rattle.std.specs.Prelude.{◌≡◌};
 ghost use Rattle.permits.specs.Module.{module_start};
 ghost use Rattle.permits.specs.Supervisor.{supervisor_start};
@@ -10,7 +12,7 @@ use permits::{Module, Supervisor};
 use wire::Wire;
 
 // Every party's state, the messages under way, and the one device.
-#[derive(Drop)]
+#[derive(Clone, Copy)]
 pub struct Parties {
     pub modules: [Module; 16],
     pub supervisors: [Supervisor; 32],

@@ -1,4 +1,6 @@
 // The states of a module and of a supervisor on their own devices as bytes: specs/Module.antt and specs/Supervisor.antt.
+#![tactic(auto)]
+
 ghost use Rattle.std.specs.Prelude.{◌≡◌, length};
 ghost use Rattle.messages.specs.Message.{put_at};
 ghost use Rattle.party_bytes.specs.Module.{module_size, module_bytes, module_at, is_module, unfit_module, module_of};

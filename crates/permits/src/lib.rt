@@ -1,5 +1,7 @@
 // The states and answers of the distributed controller: specs/Module.antt and specs/Supervisor.antt. What a message names:
 // specs/Names.antt.
+#![tactic(auto)]
+
 ghost use Rattle.std.specs.Prelude.{◌≡◌};
 ghost use Rattle.places.specs.Places.{records_by};
 ghost use Rattle.plan.specs.Plan.{neighbour};
@@ -13,7 +15,7 @@ use places::Places;
 
 // A module on its own device: its own part, the supervisors whose permits it holds, the union of the masks received with them, and whether
 // a bid is outstanding, which is always with its lowest neighbour not held.
-#[derive(Drop)]
+#[derive(Clone, Copy)]
 pub struct Module {
     pub own: Own,
     pub held: u32,
@@ -22,7 +24,7 @@ pub struct Module {
 }
 
 // Where a supervisor's permit is, in document 01's terms: home, or out, here with the module that it was sent to.
-#[derive(Drop)]
+#[derive(Clone, Copy)]
 pub enum Holder {
     Home,
     Out(u8),
@@ -30,7 +32,7 @@ pub enum Holder {
 
 // A supervisor on its own device: its state, the modules whose bids are noted, its permit's holder and the module last served. Noted and last
 // served are document 01's terms.
-#[derive(Drop)]
+#[derive(Clone, Copy)]
 pub struct Supervisor {
     pub state: u8,
     pub noted: u16,
@@ -39,7 +41,7 @@ pub struct Supervisor {
 }
 
 // What a module step did, with the bytes written: a turn and its releases, a bid, or nothing; or the number and the offset.
-#[derive(Drop)]
+#[derive(Clone, Copy)]
 pub enum Stepped {
     Turns(Turn, usize),
     Bids(u8, usize),
@@ -48,7 +50,7 @@ pub enum Stepped {
 }
 
 // What a supervisor step did: sent its permit to a module, with the bytes written, or nothing.
-#[derive(Drop)]
+#[derive(Clone, Copy)]
 pub enum Served {
     Sends(u8, usize),
     Waits,
@@ -56,25 +58,25 @@ pub enum Served {
 }
 
 // The answers with the states after them. The buffer lent to a step is the caller's.
-#[derive(Drop)]
+#[derive(Clone, Copy)]
 pub struct ModuleStepped {
     pub answer: Stepped,
     pub state: Module,
 }
 
-#[derive(Drop)]
+#[derive(Clone, Copy)]
 pub struct ModuleCalled {
     pub answer: Called,
     pub state: Module,
 }
 
-#[derive(Drop)]
+#[derive(Clone, Copy)]
 pub struct SupervisorStepped {
     pub answer: Served,
     pub state: Supervisor,
 }
 
-#[derive(Drop)]
+#[derive(Clone, Copy)]
 pub struct SupervisorCalled {
     pub answer: Called,
     pub state: Supervisor,

@@ -1,4 +1,6 @@
 // The C interface: include/pewterslug.h. Each function but the version is the one of the crate below it under the name that the header declares.
+#![tactic(auto)]
+
 ghost use Rattle.std.specs.Prelude.{◌≡◌, []};
 ghost use Rattle.packing.specs.Answer.{Answered};
 ghost use Rattle.analysis_interface.specs.Analysis.{FoundBytes};

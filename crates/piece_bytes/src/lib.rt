@@ -1,4 +1,6 @@
 // The state of a check in pieces as bytes: specs/State.antt. What it remembers of the records is put and read by context_bytes.
+#![tactic(auto)]
+
 ghost use Rattle.std.specs.Prelude.{◌≡◌, ◌∷◌, ◌++◌, ◌≤◌, length};
 ghost use Rattle.std.proofs.lemmas.List.Edits.{sets};
 ghost use Rattle.words.specs.Word.{put_at, quad_bytes};

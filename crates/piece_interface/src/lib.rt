@@ -1,4 +1,6 @@
 // The check of a plan in pieces over lent bytes: specs/Calls.antt.
+#![tactic(auto)]
+
 ghost use Rattle.std.specs.Prelude.{◌≡◌, []};
 ghost use Rattle.packing.specs.Answer.{Answered};
 ghost use Rattle.piece_interface.specs.Calls.{check_start_bytes, check_piece_bytes, check_answer_bytes};

@@ -1,5 +1,7 @@
 // The check of a plan image in pieces: specs/Pieces.antt. What is kept between them is one struct by value, some 500 bytes; crate taking does the same in
 // lent bytes.
+#![tactic(auto)]
+
 ghost use Rattle.std.specs.Prelude.{◌≡◌, true, ◌≤◌, ◌<◌, ◌+◌, ◌-◌, length, set, leb};
 ghost use Rattle.rules.specs.Check.{limit};
 ghost use Rattle.pieces.specs.Pieces.{starting, overlong, between, record_taken, byte_open, byte_taken, piece_taken, verdict_by};
@@ -15,7 +17,7 @@ use rules::Verdict;
 const LIMIT: u32 = 49152;
 
 // How far the check has come: records are read, a faultless end record was read, or the number and the offset of a refusal.
-#[derive(Drop)]
+#[derive(Clone, Copy)]
 pub enum Stage {
     Open,
     Ended,
@@ -24,7 +26,7 @@ pub enum Stage {
 
 // What is remembered of the whole records, the bytes of the record that has begun, how many they are, how many bytes were taken, up to one past the
 // limit, and the stage.
-#[derive(Drop)]
+#[derive(Clone, Copy)]
 pub struct CheckState {
     pub context: Context,
     pub cut: [u8; 12],
@@ -141,7 +143,7 @@ fn byte(k: CheckState, b: u8) -> CheckState
 }
 
 // The bytes held of a record, how many they are, and how far a piece is taken.
-#[derive(Drop)]
+#[derive(Clone, Copy)]
 struct Filled {
     cut: [u8; 12],
     held: u8,
@@ -185,7 +187,7 @@ fn fill(cut: [u8; 12], held: u8, piece: &[u8], from: usize) -> Filled
 }
 
 // A state, and how far a piece is taken.
-#[derive(Drop)]
+#[derive(Clone, Copy)]
 struct Went {
     state: CheckState,
     next: usize,

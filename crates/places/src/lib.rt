@@ -1,4 +1,6 @@
 // Where the records of each kind begin in an image, and the look-up by these places: specs/Places.antt.
+#![tactic(auto)]
+
 ghost use Rattle.std.specs.Prelude.{◌≡◌, true, false, cond, suc, ◌+◌, ◌-◌, ◌*◌, ◌≤◌, ◌<◌, length, drop};
 ghost use Rattle.records.specs.Kinds.{size_by};
 ghost use Rattle.records.specs.Key.{key_by, key_of};
@@ -12,7 +14,7 @@ use records::{Record, RecordKey};
 
 // The offsets at which the records of each kind begin; those of a kind end where the next kind's begin. An image that is accepted is shorter
 // than 65,536 bytes.
-#[derive(Drop)]
+#[derive(Clone, Copy)]
 pub struct Places {
     pub k11: u16,
     pub k12: u16,
@@ -71,7 +73,7 @@ pub fn noted(p: Places, last: u8, kind: u8, at: usize) -> Places
 }
 
 // The records of a kind: where they begin, the bytes of each, and how many there are.
-#[derive(Drop)]
+#[derive(Clone, Copy)]
 struct Run {
     begin: usize,
     size: usize,

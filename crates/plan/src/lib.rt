@@ -1,4 +1,6 @@
 // Look-ups on a plan: specs/Plan.antt. They take any bytes and any places, and go by the record that is found there.
+#![tactic(auto)]
+
 ghost use Rattle.std.specs.Prelude.{◌≡◌, true};
 ghost use Rattle.bits.specs.Bit.{option_of};
 ghost use Rattle.places.specs.Places.{records_by};
@@ -15,7 +17,7 @@ use reader::Found;
 use records::{Record, RecordKey};
 
 // The first fields of a record in their order, the one of eight bytes last, and 0 for those that it lacks.
-#[derive(Drop)]
+#[derive(Clone, Copy)]
 struct Fields {
     first: u8,
     second: u8,

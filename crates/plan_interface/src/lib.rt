@@ -1,4 +1,6 @@
 // The check of a plan, its pages, one record and one message over lent bytes: specs/Records.antt, specs/Pages.antt and specs/Messages.antt.
+#![tactic(auto)]
+
 ghost use Rattle.std.specs.Prelude.{◌≡◌, []};
 ghost use Rattle.packing.specs.Answer.{Answered};
 ghost use Rattle.plan_interface.specs.Records.{check_answer, read_answer, word_record_by, record_by, written_answer, write_bytes};

@@ -1,4 +1,6 @@
 // The program for the workstation: the plan of `plan.bin` on paper, one line for each record, page by page.
+#![tactic(auto)]
+
 use paper::Printed;
 use texts::Text;
 

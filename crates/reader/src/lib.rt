@@ -1,4 +1,6 @@
 // The reader of records by slice and offset.
+#![tactic(auto)]
+
 ghost use Rattle.std.specs.Prelude.{◌≡◌, ◌≤◌, length, drop};
 ghost use Rattle.records.specs.Key.{key_by, key_of};
 ghost use Rattle.reader.specs.Read.{record_of, shape_at, ReadsAs};
@@ -89,7 +91,7 @@ pub fn record_of(kind: u8, s: &[u8], b: usize) -> Record
 }
 
 // What stands at an offset.
-#[derive(Drop)]
+#[derive(Clone, Copy)]
 pub enum Read {
     // the record and the next offset
     Whole(Record, usize),
@@ -99,7 +101,7 @@ pub enum Read {
 }
 
 // The same without the fields.
-#[derive(Drop)]
+#[derive(Clone, Copy)]
 pub enum Shape {
     // the kind, and the offsets of the body and of what follows it
     Whole(u8, usize, usize),
@@ -141,7 +143,7 @@ pub fn read_at(s: &[u8], at: usize) -> Read
 }
 
 // What a look-up by kind and key finds.
-#[derive(Drop)]
+#[derive(Clone, Copy)]
 pub enum Found {
     It(Record),
     Missing,

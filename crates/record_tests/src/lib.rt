@@ -1,4 +1,6 @@
 // The tests that the check makes of one record, by its fields and by masks of what was declared before it: specs/Tests.antt.
+#![tactic(auto)]
+
 ghost use Rattle.std.specs.Prelude.{◌≡◌};
 ghost use Rattle.record_tests.specs.Tests.{stands_at, supervisor_kept, move_named, disabling_named, respond_fits, step_kept, end_kept};
 
@@ -6,7 +8,7 @@ use context::Counts;
 use records::{Record, RecordKey};
 
 // The first fields of a record, one byte each.
-#[derive(Drop)]
+#[derive(Clone, Copy)]
 pub struct Fields {
     pub first: u8,
     pub second: u8,

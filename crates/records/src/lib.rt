@@ -1,11 +1,13 @@
 // Plan records: their kinds, body lengths, ranges and keys.
+#![tactic(auto)]
+
 ghost use Rattle.std.specs.Prelude.{◌≡◌};
 ghost use Rattle.records.specs.Kinds.{body_len, size_by, kind_of};
 ghost use Rattle.records.specs.Range.{in_range, operand_in_range};
 ghost use Rattle.records.specs.Key.{key_by, key_of, same_key, precedes, rank_of};
 
 // A plan's record, document 01's term: one of each kind, with its fields in their order; document 02 adds `Marking`.
-#[derive(Drop)]
+#[derive(Clone, Copy)]
 pub enum Record {
     Head {
         modules: u8,
@@ -165,7 +167,7 @@ pub fn in_range(r: Record) -> bool
 }
 
 // A record's kind and key; what a key lacks is 0.
-#[derive(Drop)]
+#[derive(Clone, Copy)]
 pub struct RecordKey {
     pub kind: u8,
     pub first: u8,

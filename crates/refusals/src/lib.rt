@@ -1,1 +1,3 @@
 // What a refused call leaves as it was: specs/Refusals.antt.
+
+#![tactic(auto)]

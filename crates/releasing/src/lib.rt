@@ -1,4 +1,6 @@
 // The releases of a turn: specs/Released.antt.
+#![tactic(auto)]
+
 ghost use Rattle.std.specs.Prelude.{◌≡◌, ◌*◌, ◌≤◌, length};
 ghost use Rattle.places.specs.Places.{records_by};
 ghost use Rattle.messages.specs.Message.{release_size, message_bytes, written, put_at};

@@ -1,4 +1,6 @@
 // An accepted plan taken apart into records and written, one after another, into a lent buffer.
+#![tactic(auto)]
+
 ghost use Rattle.std.specs.Prelude.{◌≡◌, ◌++◌, true, ◌+◌, ◌≤◌, length, take, drop};
 ghost use Rattle.records.specs.Kinds.{size_of};
 ghost use Rattle.records.specs.Bytes.{bytes_of};
@@ -11,7 +13,7 @@ use records::Record;
 use rules::Verdict;
 
 // The length written, or the number and the offset.
-#[derive(Drop)]
+#[derive(Clone, Copy)]
 pub enum Rewritten {
     Length(usize),
     Refused(u8, usize),

@@ -1,5 +1,7 @@
 // The verdict on a plan image. Its definition is specs/Check.antt; the code that gives it is in the crate checker.
-#[derive(Drop)]
+#![tactic(auto)]
+
+#[derive(Clone, Copy)]
 pub enum Verdict {
     Accepted,
     // the number and the offset

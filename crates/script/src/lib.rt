@@ -1,4 +1,6 @@
 // The lines of the listing and the simulation: what a line of the listing's script is, and lines of output as values.
+#![tactic(auto)]
+
 ghost use Rattle.std.specs.Prelude.{◌≡◌, ◌++◌, false, ◌+◌, ◌≤◌, length, take};
 ghost use Rattle.lines.specs.Partial.{partly};
 ghost use Rattle.texts.specs.Ascii.{ascii};
@@ -18,7 +20,7 @@ use permits::{Served, Stepped};
 use texts::Text;
 
 // What a line of the script is.
-#[derive(Drop)]
+#[derive(Clone, Copy)]
 pub enum Line {
     Turn(u8),
     Response(u8, u8),

@@ -1,4 +1,6 @@
 // What a line of the listing's script does to the device, and the line printed of it: specs/Listing.antt.
+#![tactic(auto)]
+
 ghost use Rattle.std.specs.Prelude.{◌≡◌};
 ghost use Rattle.sheet.specs.Listing.{played};
 
@@ -10,7 +12,7 @@ use texts::Text;
 const MISSHAPEN: u8 = 10;
 
 // The device after a line, and the line to print.
-#[derive(Drop)]
+#[derive(Clone, Copy)]
 pub struct Played {
     pub device: Device,
     pub line: Text,

@@ -1,6 +1,8 @@
 // The simulation: plays the script of standard input on the controller of many devices, with every module and every supervisor of the plan of
 // `plan.bin` as its own party, and feeds one device beside them the same turns, responses and ticks. Crate simulation says what a line does
 // and crate answers what is printed of it; here it is read and printed. tests/reference/many_devices.py prints the same.
+#![tactic(auto)]
+
 use answers::Row;
 use bits::Maybe;
 use checker::Examined;
@@ -15,7 +17,7 @@ use wire::{MessageAt, Wire};
 const ROOM: usize = 49153;
 
 // The places of the plan's records, the parties, and the rows of events fired and of commands that are still to be printed.
-#[derive(Drop)]
+#[derive(Clone, Copy)]
 struct State {
     places: Places,
     parties: Parties,
@@ -96,7 +98,7 @@ fn play_line(image: &[u8], t: State, line: Partial) -> State {
 // ---- the script
 
 // How far the script has come: the state, the line that is still coming, and whether there may be more.
-#[derive(Drop)]
+#[derive(Clone, Copy)]
 struct Progress {
     state: State,
     line: Partial,

@@ -1,4 +1,6 @@
 // What a line of the simulation's script does to the parties: specs/Play.antt.
+#![tactic(auto)]
+
 ghost use Rattle.std.specs.Prelude.{◌≡◌, min};
 ghost use Rattle.litres.specs.Eighths.{eighths};
 ghost use Rattle.messages.specs.Message.{message_bytes};
@@ -15,7 +17,7 @@ use water::Flow;
 use wire::{MessageAt, Wire};
 
 // What a line got.
-#[derive(Drop)]
+#[derive(Clone, Copy)]
 pub enum Answer {
     Module(u8, Stepped),
     Supervisor(u8, Served),
@@ -26,7 +28,7 @@ pub enum Answer {
     Misshapen,
 }
 
-#[derive(Drop)]
+#[derive(Clone, Copy)]
 pub struct Played {
     pub answer: Answer,
     pub play: Parties,

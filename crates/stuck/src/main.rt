@@ -1,4 +1,6 @@
 // The program for the workstation: whether the plan of `plan.bin` ever gets stuck, and by which word.
+#![tactic(auto)]
+
 use blocking::Blocking;
 use checker::Examined;
 use places::Places;

@@ -1,4 +1,6 @@
 // The supervisor's calls on many devices but for its step: definitions in permits/specs/Supervisor.antt.
+#![tactic(auto)]
+
 ghost use Rattle.std.specs.Prelude.{◌≡◌, true, cond, ◌≤◌, ◌<◌};
 ghost use Rattle.places.specs.Places.{records_by};
 ghost use Rattle.rules.specs.LookUp.{modules_of};

@@ -1,4 +1,6 @@
 // The supervisor's step on many devices: definitions in permits/specs/Supervisor.antt.
+#![tactic(auto)]
+
 ghost use Rattle.std.specs.Prelude.{◌≡◌, ◌<◌};
 ghost use Rattle.std.proofs.Math.Option.{some};
 ghost use Rattle.places.specs.Places.{records_by};

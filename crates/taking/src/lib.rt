@@ -1,6 +1,8 @@
 // A piece taken in the lent bytes of a check's state: specs/Taken.antt. Whole records are passed there, bytes of a cut record held and, after a
 // refusal, bytes counted. What is left is taken by value: a record that is faulty or an end, what comes behind an end, a piece past the limit, and
 // states that no call left.
+#![tactic(auto)]
+
 ghost use Rattle.std.specs.Prelude.{◌≡◌, true, ◌+◌, ◌-◌, ◌≤◌, ◌<◌, length, get_or, replicate};
 ghost use Rattle.records.specs.Kinds.{body_len};
 ghost use Rattle.pieces.specs.Pieces.{between};
@@ -21,7 +23,7 @@ fn put_progress(state: &mut [u8], taken: u32, held: u8, cut: [u8; 12])
 }
 
 // The bytes held of a record, how many they are, and how far a piece is taken with them.
-#[derive(Drop)]
+#[derive(Clone, Copy)]
 struct Tail {
     cut: [u8; 12],
     held: u8,

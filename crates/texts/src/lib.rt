@@ -1,5 +1,7 @@
 // A line of output as a value: specs/Text.antt says what a text is, and the other files of specs/ what is put behind one. A program prints a text
 // by one call, `io::write_all(1, texts::first(&bytes, n))`.
+#![tactic(auto)]
+
 ghost use Rattle.std.specs.Prelude.{◌≡◌, [], take};
 ghost use Rattle.texts.specs.Ascii.{decimal};
 ghost use Rattle.texts.specs.Digits.{hex_digits, hexes, buffer_text};
@@ -7,7 +9,7 @@ ghost use Rattle.texts.specs.Numbers.{spaced, spaced_all};
 ghost use Rattle.texts.specs.Text.{text_of, pushed, appended, cut};
 
 // A line of output: its bytes, zeros after them, and how many they are. A buffer of 160 bytes has room in hexadecimal digits, behind a space.
-#[derive(Drop)]
+#[derive(Clone, Copy)]
 pub struct Text {
     pub bytes: [u8; 328],
     pub length: usize,

@@ -1,4 +1,6 @@
 // A turn of a module over a mask of disabled events, and whether it wishes for one. Their rules are specs/Turn.antt of crate modules.
+#![tactic(auto)]
+
 ghost use Rattle.std.specs.Prelude.{◌≡◌, take};
 ghost use Rattle.bits.specs.Bit.{option_of};
 ghost use Rattle.places.specs.Places.{records_by, moves_of};

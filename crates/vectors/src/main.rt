@@ -1,6 +1,8 @@
 // Runs the plan check, the reader, the writer and the copy of a plan on the lines of standard input, and prints what each gives.
 // tests/reference/plan_check.py says which lines there are, and prints the same; crate example_lines reads them and crate texts makes
 // what is printed.
+#![tactic(auto)]
+
 use reader::Read;
 use records::Record;
 use rewrite::Rewritten;

@@ -1,11 +1,13 @@
 // A reader over a plan image that keeps its place between records. It holds the image's slice, so each function over it is
 // proved by hand; `read_on`, which takes and gives plain data, serves the callers.
+#![tactic(auto)]
+
 ghost use Rattle.std.specs.Prelude.{◌≡◌};
 ghost use Rattle.walk.specs.Place.{place_after, started, Moved, ReadsOn};
 
 use reader::Read;
 
-#[derive(Drop)]
+#[derive(Clone, Copy)]
 pub struct Reader<'a> {
     pub image: &'a [u8],
     pub offset: usize,
@@ -45,7 +47,7 @@ pub fn place<'a>(r: Reader<'a>) -> usize
 }
 
 // What stands at an offset of an image, and the place of a reader that has read it.
-#[derive(Drop)]
+#[derive(Clone, Copy)]
 pub struct PlacedRead {
     pub read: Read,
     pub place: usize,

@@ -38,6 +38,12 @@ by_order p q a b h k = go (eqb a b) refl
 
 eq_counts : (x y : Float) → T (is_eighths x) → T (is_eighths y) → eq x y ≡ eqb (count x) (count y)
 unfolding eq lt is_eighths
+eq_counts nan y t u = elim t [ ]
+eq_counts (inf _) y t u = elim t [ ]
+eq_counts (fin false m e) nan t u = elim u [ ]
+eq_counts (fin false m e) (inf _) t u = elim u [ ]
+eq_counts (fin false m e) (fin true n d) t u = elim u [ ]
+eq_counts (fin true m e) y t u = elim t [ ]
 eq_counts (fin false m e) (fin false n d) t u =
     let P : ℕ = m * up e * down d in
     let Q : ℕ = n * up d * down e in

@@ -1,17 +1,19 @@
 // The water of a running litres step, and a flow reading. Their rules are specs/Water.antt.
+#![tactic(auto)]
+
 ghost use Rattle.std.specs.Prelude.{◌≡◌};
 ghost use Rattle.water.specs.Water as Rules;
 ghost use Rattle.water.specs.Water.{no_water, water_of, Summed, Compared, is_zero, water_zero};
 
 // One small record of target and total, in litres.
-#[derive(Drop)]
+#[derive(Clone, Copy)]
 pub struct Water {
     pub target: f64,
     pub total: f64,
 }
 
 // A flow reading: litres, or that no sensor is fitted.
-#[derive(Drop)]
+#[derive(Clone, Copy)]
 pub enum Flow {
     Litres(f64),
     NoSensor,

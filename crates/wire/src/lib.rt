@@ -1,25 +1,27 @@
 // The messages under way, in the order sent: specs/Wire.antt.
+#![tactic(auto)]
+
 ghost use Rattle.std.specs.Prelude.{◌≡◌, ◌+◌, leb, take, drop};
 ghost use Rattle.wire.specs.Wire.{under, empty, with_message, with_messages, nth_of, without};
 
 use messages::Message;
 
 // A message under way.
-#[derive(Drop)]
+#[derive(Clone, Copy)]
 pub struct Sent {
     pub message: Message,
 }
 
 // At most 48 messages are under way: one bid of each module, and one message for each permit, which carries it or brings it home (`few` of
 // crate simulation_laws). A step is lent room for all that it may write, so there is room for 32 more, and some is left.
-#[derive(Drop)]
+#[derive(Clone, Copy)]
 pub struct Wire {
     pub messages: [Sent; 96],
     pub count: usize,
 }
 
 // The message at an index, or none.
-#[derive(Drop)]
+#[derive(Clone, Copy)]
 pub enum MessageAt {
     It(Message),
     Missing,

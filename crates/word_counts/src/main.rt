@@ -1,4 +1,6 @@
 // The program for the workstation: how many event words of the length on standard input end in each reachable joint state of the plan of `plan.bin`.
+#![tactic(auto)]
+
 use checker::Examined;
 use counting::Counting;
 use length_input::{Input, WordLength};
@@ -17,7 +19,7 @@ fn print(t: Text) {
 }
 
 // What has come of the input, and whether there may be more.
-#[derive(Drop)]
+#[derive(Clone, Copy)]
 struct Progress {
     input: Input,
     more: bool,

@@ -1,4 +1,6 @@
 // Bytes and numbers of four and of eight bytes in a slice.
+#![tactic(auto)]
+
 ghost use Rattle.std.specs.Prelude.{◌≡◌, ◌<◌, ◌≤◌, ◌+◌, length, get_or};
 ghost use Rattle.std.proofs.lemmas.List.Edits.{sets};
 ghost use Rattle.words.specs.Word.{all_zero, put_at, quad_at, quad_bytes, word_at, word_bytes};

@@ -1,4 +1,6 @@
 // The writer of one record into a lent buffer.
+#![tactic(auto)]
+
 ghost use Rattle.std.specs.Prelude.{◌≡◌, ◌≤◌, length};
 ghost use Rattle.std.proofs.lemmas.List.Edits.{sets};
 ghost use Rattle.records.specs.Kinds.{size_of};
@@ -8,7 +10,7 @@ ghost use Rattle.writer.specs.Write.{Wrote};
 use records::Record;
 
 // The length written, or the number, 5 or 15, and the offset, 0.
-#[derive(Drop)]
+#[derive(Clone, Copy)]
 pub enum Written {
     Length(usize),
     Refused(u8, usize),

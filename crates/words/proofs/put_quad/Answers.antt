@@ -1,0 +1,7 @@
+use Rattle.words.specs.Word.{quad_bytes}
+use borrow.Author.Rules.{rules}
+use Rattle.words.proofs.put_quad.Goals as goal
+
+pub returns : goal.returns
+unfolding quad_bytes
+returns c = search rules
