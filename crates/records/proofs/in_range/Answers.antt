@@ -35,8 +35,7 @@ returns-in-Disabling c = search range_arm
 
 pub returns-in-Step : goal.returns-in-Step
 unfolding in_range
-returns-in-Step c =
-    ap (λ (t : Bool). leb c.r-in-Step-1.given.0.1.0 63 && t) c.operand_in_range.ensures ∙ sym (ap in_range c.in-Step.is)
+returns-in-Step c = ap (λ (t : Bool). leb c.in-Step.index 63 && t) c.operand_in_range.ensures ∙ sym (ap in_range c.in-Step.is)
 
 pub returns-in-Marking : goal.returns-in-Marking
 unfolding in_range
