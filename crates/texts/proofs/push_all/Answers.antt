@@ -1,5 +1,4 @@
 use mathlib.Core.Path.{refl}
-use Prim.Native.Nat.{◌-◌}
 use Rattle.texts.proofs.Texts.{push_again, push_done}
 use Rattle.texts.proofs.push_all.Goals as goal
 

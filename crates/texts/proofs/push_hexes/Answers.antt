@@ -1,6 +1,4 @@
 use mathlib.Core.Path.{refl}
-use Prim.Native.Nat.{◌-◌}
-use Rattle.texts.specs.Digits.{hexes}
 use Rattle.texts.proofs.Texts.{hexes_again, hexes_done}
 use Rattle.texts.proofs.push_hexes.Goals as goal
 

@@ -1,4 +1,3 @@
-use Prim.Native.Nat.{◌-◌}
 use Rattle.texts.proofs.Texts.{listed_first, slice_again, listed_done}
 use Rattle.texts.proofs.push_numbers.Goals as goal
 
