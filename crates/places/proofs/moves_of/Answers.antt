@@ -29,19 +29,19 @@ key_in-key-requires c = (refl, search (key_room, inside_by), search (move_room, 
 pub returns-then-most-rank : goal.returns-then-most-rank
 returns-then-most-rank c =
     moves_stop _ _ _ _ c.loop-i.invariant c.loop-i-test.true c.body_at-at.ensures c.key_in-key.ensures
-    (omega arith) (omega (arith, c.key_in-key.type-inv)) (omega (arith, c.key_in-key.type-inv)) (omega arith) (omega arith) c.rank-rank.ensures _ c.keyed_run-run.ensures
+    (omega arith) (omega (arith, c.key_in-key.type_inv)) (omega (arith, c.key_in-key.type_inv)) (omega arith) (omega arith) c.rank-rank.ensures _ c.keyed_run-run.ensures
     c.halve-i.ensures c.rank-floor.ensures c.if-most-rank.true
 
 pub loop-i-preserved-then-floor-rank : goal.loop-i-preserved-then-floor-rank
 loop-i-preserved-then-floor-rank c =
     moves_hit _ _ _ _ c.loop-i.invariant c.loop-i-test.true c.body_at-at.ensures c.key_in-key.ensures
-    (omega arith) (omega (arith, c.key_in-key.type-inv)) (omega (arith, c.key_in-key.type-inv)) (omega arith) (omega arith) c.rank-rank.ensures c.rank-floor.ensures
+    (omega arith) (omega (arith, c.key_in-key.type_inv)) (omega (arith, c.key_in-key.type_inv)) (omega arith) (omega arith) c.rank-rank.ensures c.rank-floor.ensures
     c.if-most-rank.false c.if-floor-rank.true c.put-mask.ensures
 
 pub loop-i-preserved : goal.loop-i-preserved
 loop-i-preserved c =
     moves_miss _ _ _ _ c.loop-i.invariant c.loop-i-test.true c.body_at-at.ensures c.key_in-key.ensures
-    (omega arith) (omega (arith, c.key_in-key.type-inv)) (omega (arith, c.key_in-key.type-inv)) (omega arith) (omega arith) c.rank-rank.ensures c.if-floor-rank.false
+    (omega arith) (omega (arith, c.key_in-key.type_inv)) (omega (arith, c.key_in-key.type_inv)) (omega arith) (omega arith) c.rank-rank.ensures c.if-floor-rank.false
 
 pub returns : goal.returns
 returns c =
