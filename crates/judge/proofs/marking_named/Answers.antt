@@ -1,0 +1,6 @@
+use Rattle.judge.specs.Judge.{names_by}
+use Rattle.judge.proofs.marking_named.Goals as goal
+
+pub returns : goal.returns
+unfolding names_by
+returns c = cc
