@@ -40,4 +40,4 @@ returns-in-Marking c = search all_arm
 
 pub returns-in-End : goal.returns-in-End
 unfolding all_by
-returns-in-End c = all_arm _ _ c.in-End.is (simp (c.has_below.ensures, c.has_below-in-End.ensures, c.has_below-in-End-2.ensures))
+returns-in-End c = all_arm c.args.c c.args.r c.in-End.is (simp (c.has_below.ensures, c.has_below-in-End.ensures, c.has_below-in-End-2.ensures))

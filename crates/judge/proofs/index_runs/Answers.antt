@@ -32,7 +32,7 @@ returns-in-Disabling c = search index_arm
 
 pub returns-in-Step : goal.returns-in-Step
 unfolding index_by
-returns-in-Step c = index_arm _ _ c.in-Step.is (simp c.steps_of.ensures)
+returns-in-Step c = index_arm c.args.c c.args.r c.in-Step.is (simp c.steps_of.ensures)
 
 pub returns-in-Marking : goal.returns-in-Marking
 unfolding index_by

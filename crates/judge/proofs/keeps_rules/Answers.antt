@@ -17,7 +17,7 @@ returns-in-Module c = search rules_arm
 
 pub returns-in-ModuleMove : goal.returns-in-ModuleMove
 unfolding rules_by
-returns-in-ModuleMove c = rules_arm _ _ c.in-ModuleMove.is (simp c.owner_of.ensures)
+returns-in-ModuleMove c = rules_arm c.args.c c.args.r c.in-ModuleMove.is (simp c.owner_of.ensures)
 
 pub returns-in-Supervisor : goal.returns-in-Supervisor
 unfolding rules_by
@@ -25,15 +25,15 @@ returns-in-Supervisor c = search rules_arm
 
 pub returns-in-SupervisorMove : goal.returns-in-SupervisorMove
 unfolding rules_by
-returns-in-SupervisorMove c = rules_arm _ _ c.in-SupervisorMove.is (simp (c.has.ensures, c.alphabet_of.ensures))
+returns-in-SupervisorMove c = rules_arm c.args.c c.args.r c.in-SupervisorMove.is (simp (c.has.ensures, c.alphabet_of.ensures))
 
 pub returns-in-Disabling : goal.returns-in-Disabling
 unfolding rules_by
-returns-in-Disabling c = rules_arm _ _ c.in-Disabling.is (simp (c.within.ensures, c.alphabet_of-in-Disabling.ensures))
+returns-in-Disabling c = rules_arm c.args.c c.args.r c.in-Disabling.is (simp (c.within.ensures, c.alphabet_of-in-Disabling.ensures))
 
 pub returns-in-Step : goal.returns-in-Step
 unfolding rules_by
-returns-in-Step c = rules_arm _ _ c.in-Step.is (simp (c.has-in-Step.ensures, c.respond_kept.ensures))
+returns-in-Step c = rules_arm c.args.c c.args.r c.in-Step.is (simp (c.has-in-Step.ensures, c.respond_kept.ensures))
 
 pub returns-in-Marking : goal.returns-in-Marking
 unfolding rules_by

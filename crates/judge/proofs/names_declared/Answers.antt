@@ -20,7 +20,7 @@ returns-in-ModuleMove c = search names_arm
 
 pub returns-in-Supervisor : goal.returns-in-Supervisor
 unfolding names_by
-returns-in-Supervisor c = names_arm _ _ c.in-Supervisor.is (simp c.within.ensures)
+returns-in-Supervisor c = names_arm c.args.c c.args.r c.in-Supervisor.is (simp c.within.ensures)
 
 pub returns-in-SupervisorMove : goal.returns-in-SupervisorMove
 unfolding names_by
@@ -32,7 +32,7 @@ returns-in-Disabling c = search names_arm
 
 pub returns-in-Step : goal.returns-in-Step
 unfolding names_by
-returns-in-Step c = names_arm _ _ c.in-Step.is (simp (c.event_known.ensures, c.Operand-Known.ensures))
+returns-in-Step c = names_arm c.args.c c.args.r c.in-Step.is (simp (c.event_known.ensures, c.operand_known.ensures))
 
 pub returns-in-Marking : goal.returns-in-Marking
 unfolding names_by
