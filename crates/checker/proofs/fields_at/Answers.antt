@@ -1,0 +1,4 @@
+use Rattle.checker.proofs.fields_at.Goals as goal
+
+pub returns : goal.returns
+returns c = cc

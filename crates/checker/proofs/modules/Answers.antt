@@ -1,0 +1,24 @@
+use Rattle.std.proofs.Common.{◌-◌, lit≤, rules}
+use Rattle.checker.specs.Stretch.{Passed, at_modules}
+use Rattle.checker.proofs.Stretch.{begins_stretch, fields_by, fits_by, further_by, module_step}
+use Rattle.checker.proofs.Stretch.{index_in}
+use Rattle.checker.proofs.modules.Goals as goal
+
+pub loop-n-init : goal.loop-n-init
+loop-n-init c = (search begins_stretch, search rules)
+
+pub fields_at-f-requires : goal.fields_at-f-requires
+fields_at-f-requires c = search (fields_by, lit≤)
+
+pub bounds-states-k : goal.bounds-states-k
+bounds-states-k c = search index_in
+
+pub overflow_add-i : goal.overflow_add-i
+overflow_add-i c = search (rules, fits_by)
+
+pub loop-n-smaller : goal.loop-n-smaller
+loop-n-smaller c = search further_by
+
+pub loop-n-preserved : goal.loop-n-preserved
+unfolding Passed at_modules
+loop-n-preserved c = (search module_step, search rules)

@@ -1,0 +1,4 @@
+use Rattle.checker.proofs.same_module.Goals as goal
+
+pub returns : goal.returns
+returns c = simp c.wide-k.ensures

@@ -1,0 +1,34 @@
+use mathlib.Core.Path.{ap}
+use mathlib.Core.Bool.{not}
+use Rattle.checker.proofs.Stretch.{word_by}
+use Rattle.records.specs.Kinds.{body_len}
+use Rattle.std.proofs.Common.{◌-◌, lit≤, rules}
+use Rattle.checker.proofs.Stretch.{begins_stretch, fields_by, inside_by, fits_by, further_by, step_step}
+use Rattle.checker.proofs.steps.Goals as goal
+
+pub loop-n-init : goal.loop-n-init
+loop-n-init c = (search begins_stretch, search rules)
+
+pub fields_at-f-requires : goal.fields_at-f-requires
+fields_at-f-requires c = search (fields_by, lit≤)
+
+pub overflow_add-i : goal.overflow_add-i
+overflow_add-i c = search (rules, inside_by, lit≤)
+
+pub word_in-x-requires : goal.word_in-x-requires
+unfolding body_len
+word_in-x-requires c = search (word_by, lit≤)
+
+pub overflow_add-i-in-loop-n : goal.overflow_add-i-in-loop-n
+overflow_add-i-in-loop-n c = search (rules, fits_by)
+
+pub loop-n-smaller : goal.loop-n-smaller
+loop-n-smaller c = search further_by
+
+pub loop-n-preserved : goal.loop-n-preserved
+loop-n-preserved c = (
+  step_step _ _ _ _ _ _ c.fields_at-f.ensures c.wide-k.ensures _ _ _ _ c.size_by-size.ensures c.stands.ensures (ap not c.if-not-stands.false)
+      c.word_in-x.ensures c.if-e-ge64.false c.same_module-same.ensures c.step_kept-kept.ensures c.precedes.ensures
+      (ap not c.if-not-precedes-f.false) c.wrapping_add_u8.ensures.value c.loop-n.invariant.0,
+  search rules,
+)
