@@ -8,13 +8,10 @@ use lib.Dec.{T, eqb, ltb, leb, eqb→eq, leb→le, ltb→lt}
 use lib.Ieee.Fits.{and_r}
 use denote.Floats.{passes, is_true}
 use borrow.Author.Tests.{ne_eqb}
-use types.Run.{OneOf, miss}
-use denote.Enum.Declared.{tag_of}
-use Rattle.records.specs.contracts.Record.{the_type}
 use Rattle.records.specs.Key.{key_by, key_of, same_key}
 use Rattle.records.specs.Range.{in_range, operand_in_range}
 use Rattle.records.specs.declared.Record.{Record}
-use Rattle.records.specs.declared.Record.TheVariants.{Step}
+use Rattle.records.specs.declared.Record.TheVariants.{Step, Disabling, End, Event, Head, Marking, Module, ModuleMove, Supervisor, SupervisorMove}
 use Rattle.records.specs.declared.RecordKey.{RecordKey}
 use Rattle.reader.specs.Find.{find_in, found}
 use Rattle.reader.specs.declared.Found.{Found}
@@ -38,6 +35,15 @@ found_key p (x ∷ rs) r e = go (same_key (key_of x) p) refl e (found_key p rs r
 -- by a step's key only a step
 step_key : (e i : ℕ) (r : Record) → T (same_key (key_of r) (key_by 0x17 e i 0)) → Step e i (field3 r) (word_field r) ≡ r
 unfolding key_of same_key field3 word_field
+step_key e i (Head _ _ _) t = elim t [ ]
+step_key e i (Event _ _ _) t = elim t [ ]
+step_key e i (Module _ _ _) t = elim t [ ]
+step_key e i (ModuleMove _ _ _ _) t = elim t [ ]
+step_key e i (Supervisor _ _ _ _) t = elim t [ ]
+step_key e i (SupervisorMove _ _ _ _) t = elim t [ ]
+step_key e i (Disabling _ _ _) t = elim t [ ]
+step_key e i (Marking _ _) t = elim t [ ]
+step_key e i End t = elim t [ ]
 step_key e i (Step a b o x) t =
     let p : a ≡ e = eqb→eq a e (search both) in
     let q : b ≡ i = eqb→eq b i (search both) in
@@ -79,10 +85,8 @@ module _ (rs : List Record) (e i : ℕ) where
     unfolding found field_of field3 word_field
     a_step {r} {a} {b} {o} {x} q s = ap (λ (f : Found). record { present = found f; operation = field_of field3 f; operand = field_of word_field f }) (ap It (sym s) ∙ sym q ∙ p)
 
-    pub not_a_step : {r : Record} {w : StepFields} → y ≡ It r → OneOf (0 ∷ 1 ∷ 2 ∷ 3 ∷ 4 ∷ 5 ∷ 6 ∷ 8 ∷ 9 ∷ []) (tag_of the_type r) → w ≡ step_fields_of rs e i
-    not_a_step {r} q o =
-        let s = (step_found r (sym p ∙ q)).0 in
-        absurd (miss (0 ∷ 1 ∷ 2 ∷ 3 ∷ 4 ∷ 5 ∷ 6 ∷ 8 ∷ 9 ∷ []) 7 tt (subst (λ (t : Record). OneOf (0 ∷ 1 ∷ 2 ∷ 3 ∷ 4 ∷ 5 ∷ 6 ∷ 8 ∷ 9 ∷ []) (tag_of the_type t)) (sym s) o))
+    pub not_a_step : {r : Record} {w : StepFields} → y ≡ It r → ((a b o x : ℕ) → r ≡ Step a b o x → ⊥) → w ≡ step_fields_of rs e i
+    not_a_step {r} q o = absurd (o e i (field3 r) (word_field r) (sym (step_found r (sym p ∙ q)).0))
 
 -- ---- the ranges of a step that counts
 

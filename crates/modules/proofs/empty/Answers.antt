@@ -1,0 +1,4 @@
+use Rattle.modules.proofs.empty.Goals as goal
+
+pub returns : goal.returns
+returns c = cc
