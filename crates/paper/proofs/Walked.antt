@@ -8,8 +8,6 @@ use native.Mathlib.Omega.{arith}
 use lib.ListN.{length, get_or, take, drop, length-drop, drop_of_length-le}
 use lib.Seq.{sets, sets-eq, length-sets, length-take-le, drop-drop}
 use lib.Dec.{leb, eqb}
-use types.Run.{OneOf, miss}
-use denote.Enum.Declared.{tag_of}
 use Rattle.records.specs.Kinds.{body_len, no_len}
 use Rattle.records.specs.declared.Record.{Record}
 use Rattle.reader.specs.Read.{record_of, read_at, read_by, shape_at}
@@ -71,12 +69,12 @@ module _ (s : List ℕ) (i : ℕ) {y : Shape} (e : y ≡ shape_at s i) where
     unfolding records_in
     more_by = ap records_in (walks_by s i refl read_by_lem)
 
-  none_by : OneOf (1 ∷ 2 ∷ 3 ∷ []) (tag_of the_type y) → records_in (walk_from s i) ≡ []
+  none_by : ((k b n : ℕ) → y ≡ Whole k b n → ⊥) → records_in (walk_from s i) ≡ []
   unfolding records_in
   none_by t = ap records_in (walks s i ∙ ap (next s i) (reads_by s i e)) ∙ stopped y t
     where
-      stopped : (x : Shape) → OneOf (1 ∷ 2 ∷ 3 ∷ []) (tag_of the_type x) → records_in (next s i (read_by s x)) ≡ []
-      stopped (Whole k b n) o = absurd (miss (1 ∷ 2 ∷ 3 ∷ []) 0 tt o)
+      stopped : (x : Shape) → ((k b n : ℕ) → x ≡ Whole k b n → ⊥) → records_in (next s i (read_by s x)) ≡ []
+      stopped (Whole k b n) o = absurd (o k b n refl)
       stopped Unknown o = refl
       stopped Cut o = refl
       stopped Nothing o = refl
@@ -104,7 +102,7 @@ module _ (s : List ℕ) (n i k z : ℕ) {y : Shape} (v : Counted s n i k z) (e :
   pub counted_room : {j b m : ℕ} → y ≡ Whole j b m → n < length s
   counted_room f = let w = told_by s i {r = read_at s i} refl (read_by_lem s i e f) in omega (arith, v.within, w.inside)
 
-  pub counted_done : OneOf (1 ∷ 2 ∷ 3 ∷ []) (tag_of the_type y) → n ≡ length (records_of s)
+  pub counted_done : ((k b n : ℕ) → y ≡ Whole k b n → ⊥) → n ≡ length (records_of s)
   counted_done t =
       let l : length (records_in (walk_from s i)) ≡ 0 = ap length (none_by s i e t) in
       omega (arith, v.rest)
@@ -162,6 +160,6 @@ module _ (s l b : List ℕ) (i o k z : ℕ) {y : Shape} (v : Lined s l b i o k z
         last = known_by s i e f;
       }
 
-  pub lined_done : OneOf (1 ∷ 2 ∷ 3 ∷ []) (tag_of the_type y) → b ≡ sets l 0 (lines_of (records_of s))
+  pub lined_done : ((k b n : ℕ) → y ≡ Whole k b n → ⊥) → b ≡ sets l 0 (lines_of (records_of s))
   unfolding lines_of
   lined_done t = sym (ap (λ (rs : List Record). sets b o (lines_of rs)) (none_by s i e t)) ∙ v.rest

@@ -8,8 +8,6 @@ use native.Mathlib.Omega.{arith}
 use lib.ListN.{length, take, drop, length-append, length-drop, drop_of_length-le}
 use lib.Seq.{take_all, take-length, take_at, take-add, drop-drop, drop-append-add, length-take-le}
 use borrow.Author.Tests.{lt-ltb, le-ltb}
-use types.Run.{OneOf, miss}
-use denote.Enum.Declared.{tag_of}
 use Rattle.records.specs.Kinds.{size_of}
 use Rattle.records.specs.Bytes.{bytes_of}
 use Rattle.records.specs.Range.{in_range}
@@ -17,7 +15,6 @@ use Rattle.records.specs.declared.Record.{Record}
 use Rattle.reader.specs.Walk.{Walk, walk_from, records_in, stop_of}
 use Rattle.reader.specs.declared.Read.{Read}
 use Rattle.reader.specs.declared.Read.TheVariants.{Whole, Unknown, Cut, Nothing}
-use Rattle.reader.specs.contracts.Read.{the_type}
 use Rattle.reader.proofs.Reading.{walks, next, walks_by, told_by, less_by as read-less}
 use Rattle.walk.specs.Place.{read_on}
 use Rattle.walk.specs.declared.PlacedRead.{PlacedRead}
@@ -100,22 +97,22 @@ module _ (s b₀ b : List ℕ) (i : ℕ) {y : PlacedRead} where
         stops = sym (ap stop_of walk) ∙ v.stops;
       })
 
-  ended : Going s b₀ b i → y ≡ read_on s i → OneOf (1 ∷ 2 ∷ 3 ∷ []) (tag_of the_type y.read) → b ≡ s ++ drop (length s) b₀
+  ended : Going s b₀ b i → y ≡ read_on s i → ((r : Record) (n : ℕ) → y.read ≡ Whole r n → ⊥) → b ≡ s ++ drop (length s) b₀
   unfolding stop_of
   ended v e t =
       let z : i ≡ length s = sym (ap stop_of (walks s i ∙ ap (next s i) (sym (read_by_lem s i e))) ∙ stopped y.read t) ∙ v.stops in
       v.bytes ∙ rw (z, take-length)
     where
-      stopped : (x : Read) → OneOf (1 ∷ 2 ∷ 3 ∷ []) (tag_of the_type x) → stop_of (next s i x) ≡ i
-      stopped (Whole r n) o = absurd (miss (1 ∷ 2 ∷ 3 ∷ []) 0 tt o)
+      stopped : (x : Read) → ((r : Record) (n : ℕ) → x ≡ Whole r n → ⊥) → stop_of (next s i x) ≡ i
+      stopped (Whole r n) o = absurd (o r n refl)
       stopped Unknown o = refl
       stopped Cut o = refl
       stopped Nothing o = refl
 
-  pub done_by : IsPlan s → Going s b₀ b i → y ≡ read_on s i → OneOf (1 ∷ 2 ∷ 3 ∷ []) (tag_of the_type y.read) → b ≡ plan_bytes s ++ drop (length s) b₀
+  pub done_by : IsPlan s → Going s b₀ b i → y ≡ read_on s i → ((r : Record) (n : ℕ) → y.read ≡ Whole r n → ⊥) → b ≡ plan_bytes s ++ drop (length s) b₀
   done_by a v e t = ended v e t ∙ rw (own_bytes_lem s v.small a)
 
-  pub long_by : Going s b₀ b i → y ≡ read_on s i → OneOf (1 ∷ 2 ∷ 3 ∷ []) (tag_of the_type y.read) → length b ≡ length b₀
+  pub long_by : Going s b₀ b i → y ≡ read_on s i → ((r : Record) (n : ℕ) → y.read ≡ Whole r n → ⊥) → length b ≡ length b₀
   long_by v e t = ap length (ended v e t) ∙ simp (length-append, length-drop) (omega arith)
 
 -- from what the code of `rewrite` is told: the verdict v
