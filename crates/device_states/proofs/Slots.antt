@@ -1,15 +1,15 @@
 -- A test of every slot, as loops go through them.
-use Prim.Native.Nat.{ℕ, zero, suc, ◌+◌, ◌-◌, ◌≤◌, ◌<◌}
-use native.Mathlib.Nat.{add-zero, add-suc, suc-add, zero-add}
+use Prim.Native.Nat.{ℕ, suc, ◌+◌, ◌-◌, ◌≤◌, ◌<◌}
+use native.Mathlib.Nat.{add-zero, add-suc, suc-add}
 use native.Mathlib.Numerals.{add-one}
 use native.Mathlib.Omega.{arith}
 use mathlib.Core.Path.{◌≡◌, refl, sym, ap, ap₂, ◌∙◌}
-use mathlib.Core.List.{List, [], ◌∷◌, ◌++◌, append_assoc, append-nil}
-use mathlib.Core.Bool.{Bool, true, false, cond, ◌&&◌, true≢false, and-true, and_assoc, and_comm}
-use lib.ListN.{length, get_or, set, take, drop, replicate, length-drop}
+use mathlib.Core.List.{List, [], ◌∷◌}
+use mathlib.Core.Bool.{Bool, true, false, cond, ◌&&◌, and-true, and_assoc, and_comm}
+use lib.ListN.{length, get_or, set, take, drop, length-drop}
 use lib.Bits.{bit_or}
 use lib.Dec.{eqb, ltb}
-use lib.Seq.{set-append_seam, take_all, drop-cons, get_or-drop}
+use lib.Seq.{take_all, get_or-drop}
 use borrow.Author.Tests.{lt-ltb, le-ltb}
 use Rattle.bits.specs.Bit.{bit, all_below}
 use Rattle.bits.proofs.Laws.{bit_none}
