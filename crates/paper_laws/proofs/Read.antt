@@ -2,7 +2,7 @@
 use mathlib.Core.Path.{◌≡◌, refl, sym, ap, ◌∙◌}
 use mathlib.Core.List.Memᴰ
 use mathlib.Core.List.{List, [], ◌∷◌, ◌++◌, append_assoc, append-nil}
-use mathlib.Core.Bool.{Bool, true, false}
+use mathlib.Core.Bool.{cond, Bool, true, false}
 use mathlib.Core.Option.{some}
 use Prim.Native.Nat.{ℕ, zero, suc, ◌+◌, ◌*◌, ◌-◌, ◌/◌, ◌%◌, ◌^◌, ◌≤◌, ◌<◌}
 use native.Mathlib.Nat.{suc-add, zero-add, pow-suc}
@@ -100,7 +100,7 @@ hex_shown d = go (ltb d 10) refl
 number_append : (base n : ℕ) (p q : List ℕ) → number_in base n (p ++ q) ≡ number_in base (number_in base n p) q
 unfolding number_in
 number_append base n [] q = refl
-number_append base n (c ∷ p) q = number_append base _ p q
+number_append base n (c ∷ p) q = number_append base (cond (eqb c 32) n (n * base + digit_of c)) p q
 
 hex_number : (k x : ℕ) → x < 16 ^ k → number_in 16 0 (hex_digits k x) ≡ x
 unfolding hex_digits number_in
