@@ -1,0 +1,14 @@
+use Rattle.packing.proofs.Accepted.{step_turned, step_bids, step_waits, step_refused_lem}
+use Rattle.packing.proofs.is_stepped.Goals as goal
+
+pub returns-in-Turns : goal.returns-in-Turns
+returns-in-Turns c = search step_turned
+
+pub returns-in-Bids : goal.returns-in-Bids
+returns-in-Bids c = search step_bids
+
+pub returns-in-Waits : goal.returns-in-Waits
+returns-in-Waits c = search step_waits
+
+pub returns-in-Refused : goal.returns-in-Refused
+returns-in-Refused c = search step_refused_lem

@@ -1,0 +1,6 @@
+use Rattle.texts.specs.Ascii.{ascii}
+use Rattle.script.proofs.device_line.Goals as goal
+
+pub returns : goal.returns
+unfolding ascii
+returns c = c.states_row.ensures
