@@ -1,5 +1,5 @@
 -- `OneFound` of specs/Analysis.antt.
-use mathlib.Core.Path.{◌≡◌, sym, ap, ◌∙◌}
+use mathlib.Core.Path.{sym, ap, ◌∙◌}
 use Rattle.blocking.proofs.OneAnswer.{one_answer}
 use Rattle.analysis_interface.specs.Analysis.{blocking_answer, OneFound}
 
