@@ -11,7 +11,7 @@ use denote.Floats.{is_true, passes as holds}
 use Rattle.bits.proofs.Laws.{all_of}
 use Rattle.records.specs.declared.Record.{Record}
 use Rattle.rules.specs.LookUp.{modules_of, supervisors_of, supervisor_state}
-use Rattle.plan.specs.Plan.{in_alphabet, neighbour, neighbours}
+use Rattle.plan.specs.Plan.{in_alphabet, neighbours}
 use Rattle.modules.specs.Fits.{own_fits}
 use Rattle.permits.specs.declared.Module.{Module}
 use Rattle.permits.specs.declared.Supervisor.{Supervisor}
