@@ -3,6 +3,6 @@
 set -eu
 cd "$(dirname "$0")/.."
 mkdir -p target
-rt staticlib pewterslug > target/frames.log 2>&1 || { tail -n 40 target/frames.log; exit 1; }
-${CC:-cc} -shared -o target/libframes.so -Wl,--whole-archive target/staticlib/libpewterslug.a -Wl,--no-whole-archive -lm
+tests/archive.sh
+${CC:-cc} -shared -o target/libframes.so -Wl,--whole-archive crates/pewterslug/out/libpewterslug.a -Wl,--no-whole-archive -lm
 python3 tests/frames/frames.py target/libframes.so "${1:-tests/frames/cases.txt}"

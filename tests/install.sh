@@ -1,7 +1,7 @@
 #!/usr/bin/env bash
 # ./install into a temporary folder: its files, a program that is compiled with the flags of pewterslug.pc, linked and run, examples/wire built
 # against the folder and run, and the same built against a header of another version, which must refuse to run. Then DESTDIR, and calls that
-# must be refused. The archive is that of `rt staticlib pewterslug`; without one, or with an old one, ./install makes it.
+# must be refused. The archive is that of `tests/archive.sh`; without one, or with an old one, ./install makes it.
 set -eu
 cd "$(dirname "$0")/.."
 folder=$(mktemp -d)
@@ -26,7 +26,7 @@ asked() { # OPTION FIELD
 
 DESTDIR='' ./install "$prefix" > "$folder/log" || { cat "$folder/log"; exit 1; }
 cmp include/pewterslug.h "$prefix/include/pewterslug.h"
-cmp target/staticlib/libpewterslug.a "$prefix/lib/libpewterslug.a"
+cmp crates/pewterslug/out/libpewterslug.a "$prefix/lib/libpewterslug.a"
 [ "$(find "$prefix" -type f | wc -l)" -eq 3 ] || fail "other files than the three were installed"
 
 version=$(sed -n 's/^#define PEWTERSLUG_VERSION //p' include/pewterslug.h)
@@ -66,7 +66,7 @@ grep -q "the archive has version $version, the header $((version + 1))" "$folder
 staged=$folder/stage$folder/opt
 DESTDIR=$folder/stage ./install "$folder/opt" > "$folder/log" || { cat "$folder/log"; exit 1; }
 cmp include/pewterslug.h "$staged/include/pewterslug.h"
-cmp target/staticlib/libpewterslug.a "$staged/lib/libpewterslug.a"
+cmp crates/pewterslug/out/libpewterslug.a "$staged/lib/libpewterslug.a"
 [ "$(sed -n 's/^prefix=//p' "$staged/lib/pkgconfig/pewterslug.pc")" = "$folder/opt" ] || fail "DESTDIR stands in pewterslug.pc"
 
 if ./install > "$folder/log" 2>&1; then fail "no PREFIX was accepted"; fi
@@ -77,8 +77,9 @@ if (cd "$folder/c d" && "$here/install" out > "$folder/log" 2>&1); then fail "a 
 grep -q "break at the space in '$folder/c d/out'" "$folder/log" || { cat "$folder/log"; fail "a space is refused otherwise"; }
 
 # a tree without an archive, and a build that fails: what it says is on standard error
-mkdir -p "$folder/tree/crates" "$folder/bin"
-cp install "$folder/tree/install"
+mkdir -p "$folder/tree/crates/pewterslug" "$folder/tree/tests" "$folder/bin"
+cp install crates.txt "$folder/tree"
+cp tests/programs.sh "$folder/tree/tests"
 printf '%s\n' '#!/bin/sh' 'echo "crate a is not proved"' 'exit 1' > "$folder/bin/rt"
 chmod +x "$folder/bin/rt"
 if PATH=$folder/bin:$PATH "$folder/tree/install" "$folder/none" > "$folder/log" 2> "$folder/told"; then fail "a failed build was installed"; fi

@@ -6,7 +6,7 @@
 set -eu
 cd "$(dirname "$0")/.."
 strict=(-Wall -Wextra -Werror -pedantic -Iinclude)
-archive=target/staticlib/libpewterslug.a
+archive=crates/pewterslug/out/libpewterslug.a
 
 same() { # PROGRAM
   "$1" > "$1.given"
@@ -14,7 +14,7 @@ same() { # PROGRAM
 }
 
 mkdir -p target
-rt staticlib pewterslug > target/interface.log 2>&1 || { tail -n 40 target/interface.log; exit 1; }
+tests/archive.sh
 ${CC:-gcc} -std=c99 "${strict[@]}" -fsyntax-only tests/interface.c
 ${CC:-gcc} -std=c11 "${strict[@]}" -g -fsanitize=address,undefined -fno-sanitize-recover=all tests/interface.c "$archive" -lm -o target/interface
 same target/interface

@@ -3,7 +3,7 @@
 # run it. Stored examples (tests/WORD/cases.txt) and, where python3 is there, plans at the limits (tests/WORD/extremes.py) and random ones; the
 # reference must give the same answers.
 #   tests/joint.sh WORD [FILE]     WORD is stuck or counts; with FILE its lines only
-# The archive is that of `rt staticlib pewterslug` (target/staticlib), which tests/interface.sh makes.
+# The archive is that of `tests/archive.sh`, which tests/interface.sh calls.
 set -eu
 word=$1
 file=${2:+$(realpath "$2")}
@@ -12,7 +12,7 @@ room=target/joint/$word
 mkdir -p "$room"
 python=$(command -v python3 || true)
 ${CC:-gcc} -std=c11 -Wall -Wextra -Werror -pedantic -O1 -g -fsanitize=address,undefined -fno-sanitize-recover=all -Iinclude \
-  tests/joint/driver.c target/staticlib/libpewterslug.a -lm -o "$room/driver"
+  tests/joint/driver.c crates/pewterslug/out/libpewterslug.a -lm -o "$room/driver"
 count=0
 
 # Each line of a file must be answered as it says.

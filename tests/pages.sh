@@ -3,7 +3,7 @@
 # ones (tests/pages/extremes.py) and random ones; the reference must give the same answers, and read every text that the engine wrote back by its
 # columns to the image. That reader must take no spoilt text but one that is the text of what it reads (tests/pages/misprints.py).
 #   tests/pages.sh [FILE]     the lines of FILE only
-# The archive is that of `rt staticlib pewterslug` (target/staticlib), which tests/interface.sh makes.
+# The archive is that of `tests/archive.sh`, which tests/interface.sh calls.
 set -eu
 file=${1:+$(realpath "$1")}
 cd "$(dirname "$0")/.."
@@ -11,7 +11,7 @@ room=target/pages
 mkdir -p "$room"
 python=$(command -v python3 || true)
 ${CC:-gcc} -std=c11 -Wall -Wextra -Werror -pedantic -O1 -g -fsanitize=address,undefined -fno-sanitize-recover=all -Iinclude \
-  tests/pages/driver.c target/staticlib/libpewterslug.a -lm -o "$room/driver"
+  tests/pages/driver.c crates/pewterslug/out/libpewterslug.a -lm -o "$room/driver"
 count=0
 read=0
 

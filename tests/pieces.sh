@@ -3,7 +3,7 @@
 # place and at the limit (tests/pieces/extremes.py) and random ones; the reference must give the same answers. Every image is also handed over in
 # one piece and byte by byte.
 #   tests/pieces.sh [FILE]     the lines of FILE only
-# The archive is that of `rt staticlib pewterslug` (target/staticlib), which tests/interface.sh makes.
+# The archive is that of `tests/archive.sh`, which tests/interface.sh calls.
 set -eu
 file=${1:+$(realpath "$1")}
 cd "$(dirname "$0")/.."
@@ -11,7 +11,7 @@ room=target/pieces
 mkdir -p "$room"
 python=$(command -v python3 || true)
 ${CC:-gcc} -std=c11 -Wall -Wextra -Werror -pedantic -O1 -g -fsanitize=address,undefined -fno-sanitize-recover=all -Iinclude \
-  tests/pieces/driver.c target/staticlib/libpewterslug.a -lm -o "$room/driver"
+  tests/pieces/driver.c crates/pewterslug/out/libpewterslug.a -lm -o "$room/driver"
 count=0
 
 # Long lines without their middle.

@@ -5,29 +5,27 @@
 # *.expected), random and damaged images and texts, drawings.
 set -eu
 cd "$(dirname "$0")/.."
-here=$PWD
-mkdir -p target
-rt check listing simulate stuck > target/plans.log 2>&1 || { tail -n 40 target/plans.log; exit 1; }
-kit=$(dirname "$(dirname "$(rt doc)")")
-loader=$(find "$kit" -name ld-linux-x86-64.so.2 | head -n 1)
+repo=$PWD
+# shellcheck source=tests/programs.sh
+. tests/programs.sh
+for program in listing simulate stuck; do prove $program; done
 room=$(mktemp -d)
 trap 'rm -rf "$room"' EXIT
 count=0
 
 fail() { echo "plans: $*"; exit 1; }
-run() { "$loader" --library-path "$(dirname "$loader")" "$here/target/bin/$1"; }
 
 for plan in examples/plans/*.plan; do
   name=${plan%.plan}
   tools/plan build "$plan" -o "$room/plan.bin" || fail "$plan is not built"
   tests/bytes.sh "$name.hex" | cmp - "$room/plan.bin" || fail "$plan is not $name.hex"
   read -r modules supervisors events < <(od -An -tu1 -j1 -N3 "$room/plan.bin")
-  [ "$(cd "$room" && run listing < /dev/null | head -n 1)" = "plan $modules $supervisors $events" ] || fail "$plan is not accepted"
+  [ "$(cd "$room" && start listing < /dev/null | head -n 1)" = "plan $modules $supervisors $events" ] || fail "$plan is not accepted"
   if [ -e "$name.script" ]; then
-    (cd "$room" && run simulate < "$here/$name.script") | cmp - "$name.expected" || fail "$name.script is answered otherwise"
+    (cd "$room" && start simulate < "$repo/$name.script") | cmp - "$name.expected" || fail "$name.script is answered otherwise"
   fi
   if [ -e "$name.stuck" ]; then
-    (cd "$room" && run stuck) | cmp - "$name.stuck" || fail "whether $plan gets stuck is answered otherwise"
+    (cd "$room" && start stuck) | cmp - "$name.stuck" || fail "whether $plan gets stuck is answered otherwise"
   fi
   count=$((count + 1))
 done
@@ -38,7 +36,7 @@ ${CC:-cc} -std=c11 -Wall -Wextra -Werror -Iinclude -Iexamples/wire tests/orchard
 # the program stuck without a plan, with an image that is refused, and with an initial state that is stuck, to which the empty word leads
 mkdir "$room/alone"
 stuck() { # EXPECTED
-  [ "$(cd "$room/alone" && run stuck)" = "$1" ] || fail "stuck does not print: $1"
+  [ "$(cd "$room/alone" && start stuck)" = "$1" ] || fail "stuck does not print: $1"
 }
 stuck 'plan refused 3 at 0'
 printf '\037' > "$room/alone/plan.bin"
@@ -115,5 +113,5 @@ tools/plan draw "$room/text" 2> "$room/told" && fail "drawings have the name of 
 tools/plan --help | grep -q 'THE TEXT' || fail "there is no help"
 tools/plan build 2>&1 | grep -q '^usage: plan build ' || fail "the usage is told otherwise"
 
-found=$(python3 tests/plans.py "$loader" --library-path "$(dirname "$loader")" "$here/target/bin/listing") || exit 1
+found=$(python3 tests/plans.py "$repo/crates/listing/out/listing") || exit 1
 echo "plans: $count plans built and accepted; $found"

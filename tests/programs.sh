@@ -1,44 +1,65 @@
 # shellcheck shell=bash disable=SC2154
-# For scripts that start a program of the repository; `repo` is its folder. Sourced by ./run, ./demo and the tests of the programs.
+# For scripts that start a program of the repository or link the archive of its C interface; `repo` is its folder. Sourced by ./run, ./demo, ./install,
+# ./bench and the tests.
 
-# How many crates of the repository a program takes, itself among them.
-crates_of() { # PROGRAM
+# The crates of the repository that a crate takes, each behind those that it takes, itself last: in this order rt proves them.
+needs() { # CRATE
   NAME=$1 awk '
     { sub(/#.*/, ""); i = index($0, ":"); if (!i) next
-      n = substr($0, 1, i - 1); gsub(/[ \t]/, "", n); needs[n] = substr($0, i + 1) }
+      split(substr($0, 1, i - 1), words, " "); needs[words[1]] = substr($0, i + 1) }
     function reach(n,   a, k, m) {
       if (!(n in needs) || (n in seen)) return
-      seen[n]; count++
+      seen[n]
       m = split(needs[n], a, " ")
       for (k = 1; k <= m; k++) reach(a[k])
+      print n
     }
-    END { reach(ENVIRON["NAME"]); print count + 0 }' "$repo/crates.txt"
+    END { reach(ENVIRON["NAME"]) }' "$repo/crates.txt"
 }
 
-# Proves and builds what is missing of a program. Each crate that had to be proved is a line on standard error: one that has not changed
-# since is counted and not named.
-prove() { # PROGRAM
-  local log=$repo/target/$1.log
+# Whether what was built of a crate is not there, or something that it was built from is newer.
+is_old() { # CRATE FILE
+  local name parts=("$repo/crates.txt")
+  [ -e "$2" ] || return 0
+  for name in $(needs "$1"); do
+    for name in "$repo/crates/$name"/{src,specs,proofs}; do
+      [ ! -d "$name" ] || parts+=("$name")
+    done
+  done
+  [ -n "$(find "${parts[@]}" -newer "$2" -print -quit)" ]
+}
+
+# Proves and builds a crate by a command in its folder, if what the last one or `rt ci` built is old. Each crate that had to be proved is a line on
+# standard error: one that has not changed since is counted and not named.
+built() { # CRATE FILE COMMAND..
+  local crate=$1 file=$2 log=$repo/target/$1.log
+  shift 2
+  is_old "$crate" "$file" || return 0
   mkdir -p "$repo/target"
   (
     set -o pipefail
-    cd "$repo"
-    rt check "$1" < /dev/null 2>&1 | tee "$log" | ALL=$(crates_of "$1") awk '
-      /^rt: [a-z0-9_]+ proved \(/ { done++ }
-      /^rt: [a-z0-9_]+ proved \([0-9]+ s\)/ { print done " of " ENVIRON["ALL"] " crates proved: " $2; fflush() }' >&2
+    cd "$repo/crates/$crate"
+    "$@" < /dev/null 2>&1 | tee "$log" | ORDER=$(needs "$crate") awk '
+      BEGIN { all = split(ENVIRON["ORDER"], order, "\n"); for (k = 1; k <= all; k++) place[order[k]] = k }
+      /^rt: chose --jobs [0-9]+ for / { name = $NF }
+      /^logic=proved / && name != "" { print place[name] " of " all " crates proved: " name; fflush(); name = "" }' >&2
   ) || { tail -n 40 "$log" >&2; return 1; }
+  touch "$file" # it is proved as it is, also where a newer file has the old text
 }
 
-# The kit's loader and C library, looked for once.
-tools=
+# Proves and builds what is missing of a program. rt then runs it too, here on nothing.
+prove() { # PROGRAM
+  built "$1" "$repo/crates/$1/out/$1" rt run
+}
 
-# Starts a built program in the folder that the script is in. It runs by the kit's loader, since it needs the C library of the kit, which can be
-# newer than the system's, and by the kit's emulator where the machine is no x86-64.
+# Starts a built program in the folder that the script is in.
 start() { # PROGRAM [ARGUMENTS]
-  local emulator program=$repo/target/bin/$1
+  local program=$repo/crates/$1/out/$1
   shift
-  [ -n "$tools" ] || tools=$(dirname "$(dirname "$(rt doc)")")/on/$(uname -m)/toolchain
-  emulator=$tools/bin/qemu-x86_64
-  [ -x "$emulator" ] || emulator=
-  ${emulator:+"$emulator"} "$tools/lib/ld-linux-x86-64.so.2" --library-path "$tools/lib" "$program" "$@"
+  "$program" "$@"
+}
+
+# Proves and builds what is missing of the archive of the C interface.
+archive() {
+  built pewterslug "$repo/crates/pewterslug/out/libpewterslug.a" rt lib
 }

@@ -4,16 +4,16 @@
 # kind, message, number and field of a state has its row, with the functions of the header that read it.
 set -eu
 cd "$(dirname "$0")/.."
-mkdir -p target
-rt check listing simulate stuck word_counts check_plan print_plan device_vectors many_vectors > target/reference-page.log 2>&1 || { tail -n 40 target/reference-page.log; exit 1; }
-kit=$(dirname "$(dirname "$(rt doc)")")
-loader=$(find "$kit" -name ld-linux-x86-64.so.2 | head -n 1)
+repo=$PWD
+# shellcheck source=tests/programs.sh
+. tests/programs.sh
+for program in listing simulate stuck word_counts check_plan print_plan device_vectors many_vectors; do prove $program; done
 room=$(mktemp -d)
 trap 'rm -rf "$room"' EXIT
-python3 - docs/REFERENCE.md "$loader" "$room" <<'END'
+python3 - docs/REFERENCE.md "$room" <<'END'
 import glob, os, re, subprocess, sys
 
-page, loader, room = sys.argv[1:]
+page, room = sys.argv[1:]
 text = open(page).read()
 here = os.getcwd()
 wrong = []
@@ -27,7 +27,7 @@ def complain(what):
 def run(program, given, image=b""):
     with open(os.path.join(room, "plan.bin"), "wb") as plan:
         plan.write(image)
-    command = [loader, "--library-path", os.path.dirname(loader), os.path.join(here, "target/bin", program)]
+    command = [os.path.join(here, "crates", program, "out", program)]
     return subprocess.run(command, input=given, stdout=subprocess.PIPE, cwd=room, check=True).stdout.decode()
 
 

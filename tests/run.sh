@@ -38,45 +38,50 @@ compare 'a path' 2 ../listing
 printf '%s\n' 'run: usage: ./run PROGRAM [ARGUMENTS]' "$programs" > "$room/notes"
 compare 'no name' 2
 
-# a repository of two crates, and a kit whose loader prints its folder, the words behind the program, and its standard input
-mkdir -p "$room/repo/tests" "$room/repo/crates/below/src" "$room/repo/crates/above/src" "$room/bin" "$room/kit/docs"
+# a repository of two crates, and a kit whose rt says what is in a file and, where that is well, makes a program that prints its folder, its name, the
+# words behind it, and its standard input
+mkdir -p "$room/repo/tests" "$room/repo/crates/below/src" "$room/repo/crates/above/src" "$room/bin"
 cp run "$room/repo"
 cp tests/programs.sh "$room/repo/tests"
 printf 'above: below\nbelow:\n' > "$room/repo/crates.txt"
 touch "$room/repo/crates/below/src/lib.rt" "$room/repo/crates/above/src/main.rt"
-tools=$room/kit/on/$(uname -m)/toolchain
-mkdir -p "$tools/lib"
-cat > "$tools/lib/ld-linux-x86-64.so.2" <<'END'
+cat > "$room/program" <<'END'
 #!/usr/bin/env bash
-shift 2
-echo "$(basename "$PWD") $(basename "$1")"
-shift
+echo "$(basename "$PWD") $(basename "$0")"
 printf '<%s>\n' "$@"
 cat
 END
 cat > "$room/bin/rt" <<'END'
 #!/usr/bin/env bash
 room=$(cd "$(dirname "$0")/.." && pwd)
-case $1 in
-  doc) echo "$room/kit/docs/START-HERE.md" ;;
-  check) cat "$room/log"; exit "$(cat "$room/status")" ;;
-esac
+[ "$*" = run ] || exit 2
+cat "$room/log" >&2
+[ "$(cat "$room/status")" = 0 ] || exit 1
+mkdir -p out
+cp "$room/program" "out/$(basename "$PWD")"
+"out/$(basename "$PWD")"
 END
-chmod +x "$tools/lib/ld-linux-x86-64.so.2" "$room/bin/rt"
+chmod +x "$room/program" "$room/bin/rt"
 repo=$room/repo
 PATH=$room/bin:$PATH
-printf '%s\n' "$(basename "$room") above" '<one>' '<two  words>' '<>' > "$room/expected"
-cat "$room/script" >> "$room/expected"
+says() { printf '%s\n' "$@" > "$room/log"; }
+prints() { printf '%s\n' "$(basename "$room") above" "$@" | cat - "$room/script" > "$room/expected"; }
+prints '<one>' '<two  words>' '<>'
 echo 0 > "$room/status"
-printf '%s\n' 'rt: below proved (unchanged since it was last proved)' 'rt: above proved (2 s)' 'rt: ok, 2 crates proved' > "$room/log"
-echo '2 of 2 crates proved: above' > "$room/notes"
-compare 'one crate to prove' 0 above one 'two  words' ''
-printf '%s\n' 'rt: below proved (unchanged since it was last proved)' 'rt: above proved (unchanged since it was last proved)' > "$room/log"
+says 'rt: chose --jobs 2 for below' 'logic=proved functions=1' 'rt: chose --jobs 2 for above' 'logic=proved functions=2'
+printf '%s\n' '1 of 2 crates proved: below' '2 of 2 crates proved: above' > "$room/notes"
+compare 'two crates to prove' 0 above one 'two  words' ''
+echo 1 > "$room/status"
 : > "$room/notes"
 compare 'nothing to prove' 0 above one 'two  words' ''
-echo 1 > "$room/status"
+touch -d '1 minute' "$repo/crates/below/src/lib.rt"
 : > "$room/expected"
-printf '%s\n' 'rt: below proved (3 s)' 'rt: above NOT PROVED (exit 1, 2 s)' > "$room/log"
+says 'rt: chose --jobs 2 for below' 'logic=proved functions=1' 'rt: chose --jobs 2 for above' 'logic=not-proved'
 { echo '1 of 2 crates proved: below'; cat "$room/log"; } > "$room/notes"
 compare 'a proof that fails' 1 above
+prints '<>'
+echo 0 > "$room/status"
+says 'rt: chose --jobs 2 for above' 'logic=proved functions=2'
+echo '2 of 2 crates proved: above' > "$room/notes"
+compare 'one crate to prove' 0 above
 echo 'run: programs start where they are called, and what is none is refused'
