@@ -8,6 +8,6 @@ set -eu
 cd "$(dirname "$0")/.."
 if [ -d "crates/${1:-.}/src" ]; then
   mkdir -p target
-  rt check "$1" > target/wrong-bodies.log 2>&1 || { tail -n 40 target/wrong-bodies.log; exit 1; }
+  (cd "crates/$1" && rt check) > target/wrong-bodies.log 2>&1 || { tail -n 40 target/wrong-bodies.log; exit 1; }
 fi
 exec python3 tests/wrong_bodies.py "$@"

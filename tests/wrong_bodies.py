@@ -1,8 +1,8 @@
 """The wrong bodies that are not in the gate: places each in its crate's files, and has the prover refuse it.
 
-    tests/wrong-bodies.sh CRATE [LABEL]     replays those of the crate, or the one with this label; target/ must have the crate's proofs
+    tests/wrong-bodies.sh CRATE [LABEL]     replays those of the crate, or the one with this label; `rt check` must have proved the crate
     tests/wrong-bodies.sh --dry [CRATE]     places those of the crate, or of every crate, and runs nothing
-    tests/wrong-bodies.sh --gate [CRATE]    reads what the prover said of the gate's own edits, in target/must-fail, and runs nothing
+    tests/wrong-bodies.sh --gate [CRATE]    reads what the prover said of the gate's own edits, in target/ci.log, and runs nothing
 
 They are the files tests/wrong-bodies/CRATE/LABEL.edit and the rows of docs/WRONG-BODIES.md without a name; a label may also be one of the gate's.
 Status 1 if one is accepted, is refused by the shape of its proof alone, or cannot be placed.
@@ -17,6 +17,8 @@ import tempfile
 import threading
 
 TABLE = "docs/WRONG-BODIES.md"
+# What the gate said, as ./test keeps it.
+GATE = "target/ci.log"
 SIDE_BY_SIDE = 2
 
 # A token of either language: a literal of bytes, a word, or one other sign.
@@ -231,21 +233,23 @@ def listed(table, crates):
 # ---- replaying
 
 ERROR = re.compile(r"^(\S+?):\d+:\d+: error: (.*)$")
-# What the prover says where the proof does not fit the code's shape: a fact is asked for that the file does not have, or another in its place.
-SHAPE = re.compile(r"that can be named from here|expected type `tie\.Need-|has no (?:field|member)|is not in scope")
+# What the prover says where the proof does not fit the code's shape: its file names what the code no longer has.
+SHAPE = re.compile(r"has no (?:field|member|`)|is not in scope")
 # What follows from an error above it.
 FOLLOWS = re.compile(r"was not admitted|so this cannot be checked")
 # A function whose proof the checker makes by itself, and the facts that it could not close.
-OPEN = re.compile(r"^fn \w+::(\w+): no proof: .*does not close (.*)$")
+OPEN = re.compile(r"^fn \w+::(\S+): no proof: .*did not prove (.*)$")
+# What the gate says of an edit that was refused: nothing in brackets, and the first error.
+REFUSED = re.compile(r"^rt: must-fail (\S+)/(\S+)\.edit: refused, as it must be: (.*)$", re.M)
 
 
-def facts(log, root):
-    """The facts that were refused, each as a file and a name. A file where the proof does not fit the code's shape shows none."""
+def facts(log):
+    """The facts that were refused, each as a file of the crate and a name. A file where the proof does not fit the code's shape shows none."""
     errors, found = {}, []
     for line in log.splitlines():
         m = ERROR.match(line)
         if m and not FOLLOWS.search(m.group(2)):
-            errors.setdefault(os.path.relpath(m.group(1), root), []).append(m.group(2))
+            errors.setdefault(os.path.normpath(m.group(1)), []).append(m.group(2))
         m = OPEN.match(line)
         if m:
             found += [(f"fn {m.group(1)}", name) for name in re.findall(r"`([^`]*)`", m.group(2))]
@@ -275,7 +279,7 @@ def below(crate):
     for line in read("crates.txt").splitlines():
         name, colon, words = line.split("#")[0].partition(":")
         if colon:
-            needs[name.strip()] = words.split()
+            needs[name.split()[0]] = words.split()
     found, todo = set(), [crate]
     while todo:
         name = todo.pop()
@@ -285,17 +289,17 @@ def below(crate):
     return found
 
 
-def copy_for(crate, names):
-    """A tree with the crate and the proved crates below it."""
+def copy_for(names):
+    """A tree with these crates. `rt check` there takes what it proved here of the same text."""
     root = tempfile.mkdtemp()
-    shutil.copy("crates.txt", root)
-    for part in ("rlib", "stamp", "log"):
-        os.makedirs(os.path.join(root, "target", part))
     for name in names:
-        shutil.copytree(os.path.join("crates", name), os.path.join(root, "crates", name))
-        if name != crate:
-            shutil.copytree(f"target/rlib/{name}.rlib", os.path.join(root, f"target/rlib/{name}.rlib"))
-            shutil.copy(f"target/stamp/{name}", os.path.join(root, "target/stamp"))
+        for part in ("src", "specs", "proofs"):
+            if os.path.isdir(f"crates/{name}/{part}"):
+                shutil.copytree(f"crates/{name}/{part}", f"{root}/crates/{name}/{part}")
+    with open(f"{root}/crates.txt", "w", encoding="utf-8") as f:
+        for line in read("crates.txt").splitlines():
+            if line.split("#")[0].partition(":")[0].split()[:1] in [[name] for name in names]:
+                f.write(line + "\n")
     return root
 
 
@@ -306,7 +310,7 @@ def replay(crate, body, root):
         with open(os.path.join(root, path), "w", encoding="utf-8") as f:
             f.write(text)
     try:
-        ran = subprocess.run(["rt", "check", crate], cwd=root, env=dict(os.environ, RT_JOBS="1", RT_CUT="0"),
+        ran = subprocess.run(["rt", "check", "--jobs", "1"], cwd=os.path.join(root, "crates", crate), stdin=subprocess.DEVNULL,
                              stdout=subprocess.PIPE, stderr=subprocess.STDOUT, text=True, errors="replace")
     finally:
         for path, text in kept.items():
@@ -316,16 +320,16 @@ def replay(crate, body, root):
     with open(f"target/wrong-bodies-{crate}-{body.label}.log", "w", encoding="utf-8") as f:
         f.write(log)
     said = f"{crate} {body.label}: "
-    if f"rt: {crate} proved" in log:
+    if ran.returncode == 0:
         return False, said + f"ACCEPTED: {body.says}"
-    if f"rt: {crate} NOT PROVED (exit 1" not in log or "logic=not-proved" not in log:
+    if ran.returncode != 1 or "\nlogic=not-proved" not in log:
         return False, said + f"NOT JUDGED (target/wrong-bodies-{crate}-{body.label}.log): {body.says}"
-    found = facts(log, root)
+    found = facts(log)
     if not found:
         return False, said + f"REFUSED BY SHAPE ONLY (target/wrong-bodies-{crate}-{body.label}.log): {body.says}"
     path, name = as_said(body.refused, found) or found[0]
     other = "" if as_said(body.refused, found) else f" (the table: {body.refused})"
-    return True, said + f"refused at {path.removeprefix(f'crates/{crate}/')} `{name}`{other}"
+    return True, said + f"refused at {path} `{name}`{other}"
 
 
 def play(crate, table, label):
@@ -340,7 +344,7 @@ def play(crate, table, label):
 
     def one(body):
         if not hasattr(mine, "root"):
-            mine.root = copy_for(crate, names)
+            mine.root = copy_for(names)
             roots.append(mine.root)
         return replay(crate, body, mine.root)
 
@@ -361,9 +365,9 @@ def play(crate, table, label):
 def crate_names():
     names = []
     for line in read("crates.txt").splitlines():
-        name = line.split("#")[0].split(":")[0].strip()
+        name = line.split("#")[0].split(":")[0].split()
         if name:
-            names.append(name)
+            names.append(name[0])
     return names
 
 
@@ -381,16 +385,16 @@ def dry(crates, table):
 
 
 def gate(crates):
-    """The gate's own edits, by what the prover wrote of each when the gate last ran."""
-    count, wrong = 0, []
+    """The gate's own edits, by what the prover said of each when the gate last ran."""
+    count, wrong, said = 0, [], read(GATE) if os.path.isfile(GATE) else ""
+    refused = {(crate, name): text for crate, name, text in REFUSED.findall(said)}
     for crate in crates:
         for name in edits_in(in_gate(crate)):
-            log = f"target/must-fail/{crate}/{name}/.log"
             count += 1
-            if not os.path.isfile(log):
-                wrong.append(f"{crate} {name}: no run of the gate has tried it ({log})")
-            elif not facts(read(log), os.path.dirname(log)):
-                wrong.append(f"{crate} {name}: REFUSED BY SHAPE ONLY, or not at all ({log})")
+            if f"rt: must-fail {crate}/{name}.edit: " not in said:
+                wrong.append(f"{crate} {name}: no run of the gate has tried it ({GATE})")
+            elif SHAPE.search(refused.get((crate, name), "is not in scope")):
+                wrong.append(f"{crate} {name}: REFUSED BY SHAPE ONLY, or not at all ({GATE})")
     for line in wrong:
         print(line)
     print(f"wrong-bodies: {count - len(wrong)} of the gate's {count} edits refused for a fact")
