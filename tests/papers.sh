@@ -52,7 +52,7 @@ def spans(text):
 def crates():
     """Each crate of crates.txt."""
     lines = (line.split("#")[0] for line in read("crates.txt").split("\n"))
-    return [line.split(":")[0].strip() for line in lines if ":" in line]
+    return [line.split(":")[0].split()[0] for line in lines if ":" in line]
 
 
 def table_crates(text):
@@ -114,7 +114,7 @@ def proofs_are_there(paper, listed):
             fault(paper, f"the table of kinds names no proofs of a crate: {part.strip()!r}")
         for name in filter(None, names.split(", ")):
             named += 1
-            if not any(os.path.exists(f"crates/{crate}/proofs/{name}{end}") for end in (".antt", "/Proof.antt")):
+            if not any(os.path.exists(f"crates/{crate}/proofs/{name}{end}") for end in (".antt", "/Answers.antt", "/Invariants.antt", "/Proof.antt")):
                 fault(paper, f"the table of kinds has {crate}: {name}, and there is no such proof")
     if not named:
         fault(paper, "the table of kinds is missing, or names no proofs")
