@@ -19,11 +19,11 @@ needs() { # CRATE
 
 # Whether what was built of a crate is not there, or something that it was built from is newer.
 is_old() { # CRATE FILE
-  local name parts=("$repo/crates.txt")
+  local name part parts=("$repo/crates.txt")
   [ -e "$2" ] || return 0
   for name in $(needs "$1"); do
-    for name in "$repo/crates/$name"/{src,specs,proofs}; do
-      [ ! -d "$name" ] || parts+=("$name")
+    for part in "$repo/crates/$name"/{src,specs,proofs}; do
+      [ ! -d "$part" ] || parts+=("$part")
     done
   done
   [ -n "$(find "${parts[@]}" -newer "$2" -print -quit)" ]
