@@ -1,0 +1,11 @@
+use Rattle.supervisor_interface.proofs.Laws.{give_short, give_done, give_refused}
+use Rattle.supervisor_interface.proofs.give.Goals as goal
+
+pub returns-then-buffer-lt-SUPERVISOR_SIZE : goal.returns-then-buffer-lt-SUPERVISOR_SIZE
+returns-then-buffer-lt-SUPERVISOR_SIZE c = search give_short
+
+pub returns-else-buffer-lt-SUPERVISOR_SIZE : goal.returns-else-buffer-lt-SUPERVISOR_SIZE
+returns-else-buffer-lt-SUPERVISOR_SIZE c = search give_done
+
+pub returns-in-Refused : goal.returns-in-Refused
+returns-in-Refused c = search give_refused
