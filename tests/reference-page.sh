@@ -214,11 +214,11 @@ def definition(path, name):
     return re.search(r"^%s .*?(?=\n\n|\Z)" % name, open(path).read(), re.M | re.S).group()
 
 
-for kind, body in re.findall(r"k 0x(\w\w)\) (\d+)", definition("crates/records/specs/Kinds.antt", "bodyLen")):
+for kind, body in re.findall(r"k 0x(\w\w)\) (\d+)", definition("crates/records/specs/Kinds.antt", "body_len")):
     row(2, r"%s \| [^|]+ \| %s \|" % (kind.upper(), body), "kind %s with a body of %s bytes" % (kind.upper(), body))
 for kind, body in re.findall(r"shaped 0x(\w\w) (\d+)", definition("crates/messages/specs/Message.antt", "parse")):
     row(6, r"%s \| [^|]+ \| [^|]+: %d \|" % (kind, int(body) + 1), "message %s with a body of %s bytes" % (kind, body))
-given = "".join(definition("crates/refusals/specs/Table.antt", name) for name in ("ofImage =", "numbersOf"))
+given = "".join(definition("crates/refusals/specs/Table.antt", name) for name in ("of_image =", "numbers_of"))
 for number in sorted(set(int(n) for n in re.findall(r"(\d+) ∷", given))):
     row(8, r"%d \| [^|]+ \| [^|]+ \| [^|]+ \|$" % number, "number %d" % number)
 layouts = "".join(re.findall(r"/\* ---- states, by offset ----.*?\*/", header, re.S))

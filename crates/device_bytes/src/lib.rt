@@ -15,7 +15,7 @@ use device_states::Device;
 use modules::Own;
 use places::Places;
 
-// The bytes of the slots and of a device: `slotsSize` and `deviceSize` of the specs.
+// The bytes of the slots and of a device: `slots_size` and `device_size` of the specs.
 pub const SLOTS_SIZE: usize = 16 * own_bytes::OWN_SIZE;
 
 pub const DEVICE_SIZE: usize = SLOTS_SIZE + 32;

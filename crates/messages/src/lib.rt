@@ -6,7 +6,7 @@ ghost use Rattle.std.proofs.lemmas.List.Edits.{sets};
 ghost use Rattle.messages.specs.Message.{message_bytes, ParsedAs};
 ghost use Rattle.messages.specs.Write.{Wrote};
 
-// The bytes of each message, and of the buffer that a step is lent: `bidSize`, `permitSize`, `releaseSize` and `bufferLength` of the specs.
+// The bytes of each message, and of the buffer that a step is lent: `bid_size`, `permit_size`, `release_size` and `buffer_length` of the specs.
 pub const BID_SIZE: usize = 3;
 
 pub const PERMIT_SIZE: usize = 11;

@@ -10,7 +10,7 @@ ghost use Rattle.own_bytes.specs.Own.{own_size, procedure_bytes, own_bytes, proc
 use modules::{Own, Procedure};
 use water::Water;
 
-// The bytes of an own part: `ownSize` of the specs.
+// The bytes of an own part: `own_size` of the specs.
 pub const OWN_SIZE: usize = 35;
 
 // ---- an own part read

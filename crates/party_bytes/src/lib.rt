@@ -9,7 +9,7 @@ ghost use Rattle.party_bytes.specs.Supervisor.{is_out, holder_byte, holder_of, s
 use modules::Own;
 use permits::{Holder, Module, Supervisor};
 
-// The bytes of each: `moduleSize` and `supervisorSize` of the specs.
+// The bytes of each: `module_size` and `supervisor_size` of the specs.
 pub const MODULE_SIZE: usize = own_bytes::OWN_SIZE + 13;
 
 pub const SUPERVISOR_SIZE: usize = 6;

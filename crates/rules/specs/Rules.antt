@@ -1,5 +1,5 @@
 -- Document 01, "Numbers for what is turned down", 4 to 8: what each number asks of a record r, over the records rs before it, the latest
--- first. Number 5, the ranges, is `inRange` of the crate records. The "bytes after end" of number 4 are `end_at` of `Check.antt`.
+-- first. Number 5, the ranges, is `in_range` of the crate records. The "bytes after end" of number 4 are `end_at` of `Check.antt`.
 use Rattle.std.specs.Prelude.{List, [], ◌∷◌, Bool, true, not, ◌&&◌, ◌||◌, eqb, ltb}
 use Rattle.bits.specs.Bit.{bit, all_below, every_event}
 use Rattle.records.specs.Kinds.{kind_of}
