@@ -1,41 +1,27 @@
 -- Laws of words and numbers.
-use Rattle.std.proofs.Common.{◌≡◌, ℕ, suc, ◌+◌, ◌-◌, ◌*◌, ◌/◌, ◌<◌, ◌≤◌, Bool, true, false, cond, eqb, ltb, List, [], ◌∷◌, length, get_or, take, drop, sym, refl, ap, ◌∙◌, add-zero, add_assoc, div-lt_iff_lt-mul, add-one, arith, length-drop, drop_of_length-le, length-take-le, take_all, drop-cons, ltb-false, ltb-true, le-ltb, lt-ltb, eq-eqb, ne_eqb, le-leb}
-use lib.Seq.{take-length}
+use Rattle.std.proofs.Common.{◌≡◌, ℕ, not, suc, ◌+◌, ◌-◌, ◌*◌, ◌/◌, ◌<◌, ◌≤◌, Bool, true, false, cond, eqb, ltb, List, [], ◌∷◌, length, get_or, take, drop, sym, refl, ap, ◌∙◌, add-zero, add_assoc, div-lt_iff_lt-mul, add-one, arith, length-drop, drop_of_length-le, length-take-le, take_all, drop-cons, ltb-false, ltb-true, le-ltb, lt-ltb, eq-eqb, ne_eqb, le-leb}
 use borrow.Author.Tests.{lt-leb}
-use Rattle.bytes.specs.Bytes.{index_of, index_after, slice}
+use Rattle.std.specs.List.{position, position_or_len}
+use Rattle.std.specs.Prelude.{Option, Some, None, MatchOption}
+use Rattle.std.proofs.lemmas.List.Sums.{prefix_len-le-length}
 use Rattle.lines.specs.Number.{space_in}
-use Rattle.example_lines.specs.Words.{line_end, line_at, space_of, spaces_in, word_from, digit_of, longer, number_from}
+use Rattle.example_lines.specs.Words.{line_end, space_of, spaces_in, word_from, digit_of, longer, number_from}
 
 -- ---- the end of a line
 
-pub end_found : (s : List ℕ) (from : ℕ) {r : ℕ} → r ≡ from + index_of 10 (slice from (length s) s) → r ≡ line_end s from
-unfolding slice
-end_found s from e = simp take-length at e
-
-pub end_past : (s : List ℕ) (from : ℕ) → length s ≤ from → from ≡ line_end s from
-unfolding index_of
-end_past s from h = simp (drop_of_length-le s h, add-zero)
-
-index_within : (b : ℕ) (s : List ℕ) → index_of b s ≤ length s
-unfolding index_of index_after
-index_within b [] = omega arith
-index_within b (x ∷ s) = go (eqb x b) (index_within b s)
+-- what the search for a line feed behind an offset tells of the line's end
+pub end_found : (s : List ℕ) (from : ℕ) {r : Option ℕ} → from ≤ length s → r ≡ position (λ b. eqb b 10) (take (length s - from) (drop from s))
+    → MatchOption r (length s ≡ line_end s from) (λ n. from + n ≡ line_end s from)
+end_found s from h e = rw (e, take_all (length s - from) (drop from s) (simp length-drop (omega arith))) (go (ltb (position_or_len (λ b. eqb b 10) (drop from s)) (length (drop from s))) refl)
   where
-    go : (t : Bool) → index_of b s ≤ length s → index_after t (index_of b s) ≤ suc (length s)
-    go true h = omega arith
-    go false h = omega arith
+    go : (t : Bool) → ltb (position_or_len (λ b. eqb b 10) (drop from s)) (length (drop from s)) ≡ t
+        → MatchOption (cond t (Some (position_or_len (λ b. eqb b 10) (drop from s))) None) (length s ≡ line_end s from) (λ n. from + n ≡ line_end s from)
+    go true g = refl
+    go false g = let f = ltb-false _ _ g in let k = prefix_len-le-length (λ b. not (eqb b 10)) (drop from s) in omega (arith, length-drop from s)
 
 -- a line stands in the text
-module _ (s : List ℕ) (from : ℕ) {r : ℕ} (e : r ≡ line_end s from) where
-  pub end_within : from ≤ length s → r ≤ length s
-  end_within h = let g = index_within 10 (drop from s) in omega (arith, length-drop from s)
-
-  pub line_by : take (r - from) (drop from s) ≡ line_at s from
-  line_by = let n : r - from ≡ index_of 10 (drop from s) = omega arith in rw n
-
-pub line_past : (s : List ℕ) (from : ℕ) → length s ≤ from → [] ≡ line_at s from
-unfolding index_of
-line_past s from h = simp (drop_of_length-le s h)
+pub end_within : (s : List ℕ) (from : ℕ) {r : ℕ} → r ≡ line_end s from → from ≤ length s → r ≤ length s
+end_within s from e h = let g = prefix_len-le-length (λ b. not (eqb b 10)) (drop from s) in omega (arith, length-drop from s)
 
 -- ---- spaces and words
 

@@ -2,15 +2,15 @@
 -- mask and the bits of a float are hexadecimal ones, with capital letters.
 use Rattle.std.specs.Prelude.{ℕ, ◌+◌, ◌-◌, ◌*◌, ◌^◌, cond, ◌&&◌, List, [], ◌∷◌, take, drop, ◌==◌, nat_le, nat_lt, slice_index}
 use Prim.Native.Char.{code}
-use Rattle.bytes.specs.Bytes.{index_of}
+use Rattle.std.specs.List.{position_or_len}
 
 -- where the line ends that begins at an offset of a text: at its line feed, or at the text's end
 abbrev pub line_end : List ℕ → ℕ → ℕ
-line_end s from = from + index_of (code "\n") (drop from s)
+line_end s from = from + position_or_len (λ b. b == (code "\n")) (drop from s)
 
 -- and that line, without its line feed
 abbrev pub line_at : List ℕ → ℕ → List ℕ
-line_at s from = take (index_of (code "\n") (drop from s)) (drop from s)
+line_at s from = take (position_or_len (λ b. b == (code "\n")) (drop from s)) (drop from s)
 
 -- how many spaces a byte is, and a line has
 unfoldable pub space_of : ℕ → ℕ

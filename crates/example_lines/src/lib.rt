@@ -14,7 +14,10 @@ pub fn line_end(text: &[u8], from: usize) -> usize
     ensures { result ≡ line_end text.now from }
 {
     if from < text.len() {
-        bytes::scan::find(text, from, text.len(), b'\n')
+        match text[from..].iter().position(|b| *b == b'\n') {
+            Some(n) => from + n,
+            None => text.len(),
+        }
     } else {
         from
     }
