@@ -1,0 +1,12 @@
+use Rattle.std.proofs.Common.{◌-◌, refl, rules}
+use Rattle.example_lines.proofs.Image.{copy_first, copy_again, copy_done}
+use Rattle.example_lines.proofs.copy_behind.Goals as goal
+
+pub loop-j-init : goal.loop-j-init
+loop-j-init c = (search rules, refl, search copy_first)
+
+pub loop-j-preserved : goal.loop-j-preserved
+loop-j-preserved c = (search rules, search rules, search copy_again)
+
+pub returns : goal.returns
+returns c = search copy_done

@@ -1,0 +1,10 @@
+use Rattle.std.proofs.Common.{◌-◌, length}
+use Rattle.example_lines.specs.Image.{closed, part_of}
+use Rattle.example_lines.proofs.Image.{Going}
+use Rattle.example_lines.proofs.repeat.Given as goal
+
+abbrev pub invariant-loop-k : goal.invariant-loop-k
+invariant-loop-k l = Going l.initial.img l.p.sign (l.p.copies - l.k) (closed (length l.initial.img) (part_of l.p l.initial.img)) l.img l.from l.to
+
+abbrev pub decreases-loop-k : goal.decreases-loop-k
+decreases-loop-k l = l.p.copies - l.k
