@@ -1,6 +1,4 @@
 use mathlib.Core.Path.{refl}
-use Prim.Native.Nat.{◌-◌}
-use Rattle.crc.specs.Crc.{shifts}
 use Rattle.crc.proofs.Folding.{shifts_on, shifts_done}
 use Rattle.crc.proofs.shifted_entry.Goals as goal
 

@@ -1,5 +1,4 @@
 use mathlib.Core.Path.{refl}
-use Prim.Native.Nat.{◌-◌}
 use Rattle.crc.proofs.Folding.{folds, folded}
 use Rattle.crc.proofs.with_bytes.Goals as goal
 

@@ -1,5 +1,4 @@
 use mathlib.Core.Path.{refl}
-use Prim.Native.Nat.{◌-◌}
 use borrow.Author.Rules.{rules}
 use Rattle.lines.proofs.Numbers.{digits_low, digits_high, digits_over, digits_again, digits_done}
 use Rattle.lines.proofs.digits_of.Goals as goal

@@ -1,4 +1,3 @@
-use Prim.Native.Nat.{◌-◌}
 use Rattle.lines.proofs.Spaces.{space_first, space_here, space_again, space_done}
 use Rattle.lines.proofs.space_in.Goals as goal
 

@@ -1,8 +1,8 @@
 use mathlib.Core.Path.{sym, ◌∙◌, subst}
 use lib.Dec.{T}
-use lib.Ieee.{of_bits, fits, binary64}
+use lib.Ieee.{of_bits}
 use denote.Floats.{passes}
-use Rattle.litres.proofs.Laws.{finite_eighths, rem_test, yes_arm, no_arm, not_nan}
+use Rattle.litres.proofs.Laws.{rem_test, yes_arm, no_arm, not_nan}
 use Rattle.litres.proofs.is_eighths.Goals as goal
 
 -- `litres::is_eighths` meets its contract. Assumes nothing.

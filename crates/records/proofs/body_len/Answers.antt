@@ -13,20 +13,16 @@ use Rattle.records.proofs.body_len.Goals as goal
 lens : List ℕ
 lens = 3 ∷ 3 ∷ 3 ∷ 4 ∷ 11 ∷ 4 ∷ 10 ∷ 11 ∷ 2 ∷ 255 ∷ 255 ∷ 255 ∷ 255 ∷ 255 ∷ 255 ∷ 0 ∷ []
 
-
 -- what the function answers
 unfoldable given : ℕ → ℕ
 given k = cond (leb 0x10 k) (cond (ltb k 0x20) (get_or lens (k - 0x10) 0) 255) 255
 
-
 right : ℕ → Bool
 right k = eqb (given k) (body_len k)
-
 
 rule : (k : ℕ) → k < 256 → given k ≡ body_len k
 unfolding lens given right body_len all_below
 rule k h = eqb→eq (given k) (body_len k) (all_at right 256 tt k h)
-
 
 pub returns-then-kind-lt32 : goal.returns-then-kind-lt32
 unfolding lens given

@@ -1,0 +1,4 @@
+use Rattle.parties.proofs.supervisor_start.Goals as goal
+
+pub returns : goal.returns
+returns c = simp c.start-c.ensures
