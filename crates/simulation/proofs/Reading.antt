@@ -9,7 +9,7 @@ use lib.Dec.{lit<, lit≤}
 use lib.Pow.{shl_lt}
 use mir.Syntax.{w16}
 use mir.Val.{Fits}
-use lib.Ieee.{Float, fin, unlike, binary64, up, down, round, mul, of_int, of_bits}
+use lib.Ieee.{nan, inf, Float, fin, unlike, binary64, up, down, round, mul, of_int, of_bits}
 use lib.Ieee.Exact.{HasValue, round_exact}
 use lib.Ieee.Fits.{down_pos}
 use lib.Ieee.Scale.{round_same}
@@ -26,6 +26,10 @@ cross a c b d n e f =
 
 product : (x y : Float) (n : ℕ) → HasValue x false n 1 → HasValue y false 1 8 → mul binary64 x y ≡ eighths n
 unfolding mul eighths
+product nan y n h g = elim h [ ]
+product (inf _) y n h g = elim h [ ]
+product (fin s m e) nan n h g = elim g [ ]
+product (fin s m e) (inf _) n h g = elim g [ ]
 product (fin s m e) (fin t k d) n h g =
     ap₂ (λ (a b : Bool). round binary64 (unlike a b) (m * up e * (k * up d)) (down e * down d)) h.0 g.0
     ∙ round_same binary64 false (m * up e * (k * up d)) (down e * down d) n 8 (mul-pos (down_pos e) (down_pos d)) (lit< tt)

@@ -1,0 +1,10 @@
+use mathlib.Core.Path.{ap, ◌∙◌}
+use Rattle.simulation.specs.Play.{module_stepped}
+use Rattle.simulation.proofs.Playing.{lent, unlent}
+use Rattle.simulation.proofs.module_step.Goals as goal
+
+pub returns-then-has_room : goal.returns-then-has_room
+returns-then-has_room c = c.step_module.ensures ∙ ap (module_stepped _ _ _) (search lent)
+
+pub returns-else-has_room : goal.returns-else-has_room
+returns-else-has_room c = c.step_module-else-has_room.ensures ∙ ap (module_stepped _ _ _) (search unlent)
