@@ -6,8 +6,6 @@ use mathlib.Core.Logic.{◌≢◌}
 use mathlib.Core.List.{List, [], ◌∷◌}
 use mathlib.Core.Bool.{Bool, true, false, cond}
 use lib.ListN.{length, length-append}
-use types.Run.{OneOf, miss}
-use denote.Enum.Declared.{tag_of}
 use Rattle.bits.specs.declared.Maybe.{Maybe}
 use Rattle.bits.specs.declared.Maybe.TheVariants.{Just, Nothing}
 use Rattle.records.specs.declared.Record.{Record}
@@ -20,7 +18,6 @@ use Rattle.messages.specs.Message.{message_bytes}
 use Rattle.messages.specs.declared.Message.{Message}
 use Rattle.permits.specs.declared.Stepped.{Stepped}
 use Rattle.permits.specs.declared.Stepped.TheVariants.{Turns, Bids, Waits, Refused as StepRefused}
-use Rattle.permits.specs.contracts.Stepped as SteppedType
 use Rattle.permits.specs.declared.Served.{Served}
 use Rattle.permits.specs.declared.Served.TheVariants.{Sends, Waits as ServedWaits, Refused as ServeRefused}
 use Rattle.texts.specs.declared.Text.{Text}
@@ -32,7 +29,6 @@ use Rattle.script.specs.SimulationLines.{sent_line, delivered_line, stepped_line
 use Rattle.texts.proofs.Texts.{appended_text}
 use Rattle.simulation.specs.declared.Answer.{Answer}
 use Rattle.simulation.specs.declared.Answer.TheVariants.{Module, Supervisor, Delivery, NoMessage, Response, Tick, Misshapen}
-use Rattle.simulation.specs.contracts.Answer as AnswerType
 use Rattle.simulation.specs.Numbers.{answer_number}
 use Rattle.answers.specs.AnswerLines.{delivery_line, answer_line, PrintedAs, event_of, step_event, fired, command_of, command}
 use Rattle.simulation.proofs.Playing.{message_length}
@@ -125,12 +121,9 @@ line_of a e = record { line = e; refused = λ h. e ∙ ap text_of (refused_line_
 
 -- ---- the event that fired
 
-abbrev others : List ℕ
-others = 1 ∷ 2 ∷ 3 ∷ 4 ∷ 5 ∷ 6 ∷ []
-
-pub fired_elsewhere : (a : Answer) → OneOf (1 ∷ 2 ∷ 3 ∷ 4 ∷ 5 ∷ 6 ∷ []) (tag_of AnswerType.the_type a) → Nothing ≡ fired a
+pub fired_elsewhere : (a : Answer) → ((m : ℕ) (s : Stepped) → a ≡ Module m s → ⊥) → Nothing ≡ fired a
 unfolding fired
-fired_elsewhere (Module m s) q = absurd (miss others 0 tt q)
+fired_elsewhere (Module m s) q = absurd (q m s refl)
 fired_elsewhere (Supervisor v s) q = refl
 fired_elsewhere (Delivery g c) q = refl
 fired_elsewhere NoMessage q = refl
@@ -139,12 +132,12 @@ fired_elsewhere (Tick m c) q = refl
 fired_elsewhere Misshapen q = refl
 
 module _ {a : Answer} {m : ℕ} (s : Stepped) (i : a ≡ Module m s) where
-  pub fired_unturned : OneOf (1 ∷ 2 ∷ 3 ∷ []) (tag_of SteppedType.the_type s) → Nothing ≡ fired a
+  pub fired_unturned : ((t : Turn) (n : ℕ) → s ≡ Turns t n → ⊥) → Nothing ≡ fired a
   unfolding fired step_event
   fired_unturned q = go s q ∙ ap fired (sym i)
     where
-      go : (x : Stepped) → OneOf (1 ∷ 2 ∷ 3 ∷ []) (tag_of SteppedType.the_type x) → Nothing ≡ step_event x
-      go (Turns t n) p = absurd (miss (1 ∷ 2 ∷ 3 ∷ []) 0 tt p)
+      go : (x : Stepped) → ((t : Turn) (n : ℕ) → x ≡ Turns t n → ⊥) → Nothing ≡ step_event x
+      go (Turns t n) p = absurd (p t n refl)
       go (Bids v n) p = refl
       go Waits p = refl
       go (StepRefused n o) p = refl
