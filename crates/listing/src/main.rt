@@ -7,23 +7,28 @@ use checker::Examined;
 use device_states::Device;
 use lines::Partial;
 use places::Places;
+use std::io::Read;
+use std::{fs, io};
 use texts::Text;
 
 // One byte more than a plan may have, so that a longer file is seen to be one.
 const ROOM: usize = 49153;
 
-fn print(t: Text) {
+// The bytes that one read asks for.
+const PART: usize = 65536;
+
+fn print(rt: &impl Print, t: Text) -> io::Result<()> {
     let bytes = t.bytes;
     let n = t.length;
-    io::write_all(1, texts::first(&bytes, n));
+    rt.write_all(texts::first(&bytes, n))
 }
 
 // Plays a line, prints what it got, and gives the device after it.
-fn play_line(image: &[u8], d: Device, line: Partial) -> Device {
+fn play_line(rt: &impl Print, image: &[u8], d: Device, line: Partial) -> io::Result<Device> {
     let got = sheet::play(image, d, script::parsed(line));
     let text = got.line;
-    print(text);
-    got.device
+    print(rt, text)?;
+    Ok(got.device)
 }
 
 // How far the script has come: the device, the line that is still coming, and whether there may be more.
@@ -35,52 +40,61 @@ struct Progress {
 }
 
 // The bytes of a part of the script, one after the other.
-fn play_bytes(image: &[u8], p: Progress, s: &[u8]) -> Progress {
+fn play_bytes(rt: &impl Print, image: &[u8], p: Progress, s: &[u8]) -> io::Result<Progress> {
     let mut d = p.device;
     let mut line = p.line;
     let mut i: usize = 0;
     while i < s.len() {
         if s[i] == b'\n' {
-            d = play_line(image, d, line);
+            d = play_line(rt, image, d, line)?;
             line = lines::begun();
         } else {
             line = lines::with_byte(line, s[i]);
         }
         i += 1;
     }
-    Progress {
+    Ok(Progress {
         device: d,
         line,
         more: true,
-    }
+    })
 }
 
 // The last line may lack its line feed; nothing behind a line feed is no line.
-fn play_last(image: &[u8], p: Progress) -> Device {
+fn play_last(rt: &impl Print, image: &[u8], p: Progress) -> io::Result<Device> {
     let d = p.device;
     let line = p.line;
     if lines::has_byte(line) {
-        play_line(image, d, line)
+        play_line(rt, image, d, line)
     } else {
-        d
+        Ok(d)
     }
 }
 
 // The bytes that one read brings.
-fn read_part(image: &[u8], p: Progress) -> Progress {
-    let mut buf = io::large_buffer();
-    let got = libc::read(0, &mut buf);
-    if got <= 0 {
+fn read_part(
+    rt: &impl Print,
+    stdin: &mut impl Read,
+    image: &[u8],
+    p: Progress,
+) -> io::Result<Progress> {
+    let mut buf = [0u8; PART];
+    let n = stdin.read(&mut buf).unwrap_or(0);
+    if n == 0 {
         let mut last = p;
         last.more = false;
-        return last;
+        return Ok(last);
     }
-    let n = io::count(got, &buf);
-    play_bytes(image, p, &buf[..n])
+    play_bytes(rt, image, p, &buf[..n])
 }
 
 // A proved loop has to end, and nothing says that the input does: so it counts its turns down from a number that no run uses up.
-fn play_script(image: &[u8], device: Device) -> Device {
+fn play_script(
+    rt: &impl Print,
+    stdin: &mut impl Read,
+    image: &[u8],
+    device: Device,
+) -> io::Result<Device> {
     let mut p = Progress {
         device,
         line: lines::begun(),
@@ -88,42 +102,42 @@ fn play_script(image: &[u8], device: Device) -> Device {
     };
     let mut turns = u64::MAX;
     while turns > 0 {
-        p = read_part(image, p);
+        p = read_part(rt, stdin, image, p)?;
         if !p.more {
-            return play_last(image, p);
+            return play_last(rt, image, p);
         }
         turns -= 1;
     }
-    play_last(image, p)
+    play_last(rt, image, p)
 }
 
-fn run_on(image: &[u8], places: Places) {
+fn run_on(rt: &(impl Input + Print), image: &[u8], places: Places) -> io::Result<()> {
     let modules = plan::modules_of(image, places);
     let supervisors = plan::supervisors_of(image, places);
     let events = plan::events_of(image, places);
-    print(script::header_line(modules, supervisors, events));
+    print(rt, script::header_line(modules, supervisors, events))?;
     let s = device::start(image);
     let first = s.device;
-    let d = play_script(image, first);
-    print(script::states_line(d, modules, supervisors));
+    let d = play_script(rt, &mut rt.reader(), image, first)?;
+    print(rt, script::states_line(d, modules, supervisors))
 }
 
-fn run(image: &[u8]) {
+fn run(rt: &(impl Input + Print), image: &[u8]) -> io::Result<()> {
     match checker::examine(image) {
-        Examined::Accepted(places) => run_on(image, places),
-        Examined::Refused(n, at) => print(script::plan_refused_line(n, at)),
+        Examined::Accepted(places) => run_on(rt, image, places),
+        Examined::Refused(n, at) => print(rt, script::plan_refused_line(n, at)),
     }
 }
 
 // A missing `plan.bin` is an empty image.
-fn main() {
+fn main(rt: HostRuntime) -> io::Result<()> {
     let mut image = [0u8; ROOM];
-    let fd = os::open_read(b"plan.bin");
-    if fd < 0 {
-        run(b"");
-        return;
+    match fs::open(&rt, "plan.bin") {
+        Ok(mut file) => {
+            let n = inputs::read_full(&mut file, &mut image);
+            drop(file);
+            run(&rt, &image[..n])
+        }
+        Err(_) => run(&rt, b""),
     }
-    let n = io::read_full(fd, &mut image);
-    libc::close(fd);
-    run(&image[..n]);
 }

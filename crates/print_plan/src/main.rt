@@ -2,6 +2,7 @@
 #![tactic(auto)]
 
 use paper::Printed;
+use std::{fs, io};
 use texts::Text;
 
 // One byte more than a plan may have, so that a longer file is seen to be one.
@@ -10,10 +11,10 @@ const ROOM: usize = 49153;
 // Enough for every plan: 10,049 records take 168 pages of 60 lines of 73 bytes.
 const PAGES: usize = 735840;
 
-fn print(t: Text) {
+fn print(rt: &impl Print, t: Text) -> io::Result<()> {
     let bytes = t.bytes;
     let n = t.length;
-    io::write_all(1, texts::first(&bytes, n));
+    rt.write_all(texts::first(&bytes, n))
 }
 
 // Made in a function of its own, so that the proof of its caller has the array's length and not its bytes.
@@ -21,25 +22,23 @@ fn zeroed_pages() -> [u8; PAGES] {
     [0u8; PAGES]
 }
 
-fn run(image: &[u8]) {
+fn run(rt: &impl Print, image: &[u8]) -> io::Result<()> {
     let mut pages = zeroed_pages();
     match paper::print(image, &mut pages) {
-        Printed::Length(n) => {
-            io::write_all(1, texts::first(&pages, n));
-        }
-        Printed::Refused(n, at) => print(script::plan_refused_line(n, at)),
+        Printed::Length(n) => rt.write_all(texts::first(&pages, n)),
+        Printed::Refused(n, at) => print(rt, script::plan_refused_line(n, at)),
     }
 }
 
 // A missing `plan.bin` is an empty image.
-fn main() {
+fn main(rt: HostRuntime) -> io::Result<()> {
     let mut image = [0u8; ROOM];
-    let fd = os::open_read(b"plan.bin");
-    if fd < 0 {
-        run(b"");
-        return;
+    match fs::open(&rt, "plan.bin") {
+        Ok(mut file) => {
+            let n = inputs::read_full(&mut file, &mut image);
+            drop(file);
+            run(&rt, &image[..n])
+        }
+        Err(_) => run(&rt, b""),
     }
-    let n = io::read_full(fd, &mut image);
-    libc::close(fd);
-    run(&image[..n]);
 }

@@ -4,6 +4,8 @@
 use checker::Examined;
 use counting::Counting;
 use length_input::{Input, WordLength};
+use std::io::Read;
+use std::{fs, io};
 use texts::Text;
 
 // One byte more than a plan may have, so that a longer file is seen to be one.
@@ -12,10 +14,13 @@ const ROOM: usize = 49153;
 // Enough for every answer: 4,097 lines of 20 digits and a line feed.
 const ANSWER: usize = 86037;
 
-fn print(t: Text) {
+// The bytes that one read asks for.
+const PART: usize = 65536;
+
+fn print(rt: &impl Print, t: Text) -> io::Result<()> {
     let bytes = t.bytes;
     let n = t.length;
-    io::write_all(1, texts::first(&bytes, n));
+    rt.write_all(texts::first(&bytes, n))
 }
 
 // What has come of the input, and whether there may be more.
@@ -26,13 +31,12 @@ struct Progress {
 }
 
 // The bytes that one read brings.
-fn read_part(input: Input) -> Progress {
-    let mut buf = io::large_buffer();
-    let got = libc::read(0, &mut buf);
-    if got <= 0 {
+fn read_part(stdin: &mut impl Read, input: Input) -> Progress {
+    let mut buf = [0u8; PART];
+    let n = stdin.read(&mut buf).unwrap_or(0);
+    if n == 0 {
         return Progress { input, more: false };
     }
-    let n = io::count(got, &buf);
     Progress {
         input: length_input::with_bytes(input, &buf[..n]),
         more: true,
@@ -40,11 +44,11 @@ fn read_part(input: Input) -> Progress {
 }
 
 // A proved loop has to end, and nothing says that the input does: so it counts its turns down from a number that no run uses up.
-fn read_length() -> WordLength {
+fn read_length(stdin: &mut impl Read) -> WordLength {
     let mut input = length_input::begun();
     let mut turns = u64::MAX;
     while turns > 0 {
-        let p = read_part(input);
+        let p = read_part(stdin, input);
         input = p.input;
         if !p.more {
             return length_input::length_of(input);
@@ -54,39 +58,37 @@ fn read_length() -> WordLength {
     length_input::length_of(input)
 }
 
-fn count(image: &[u8], length: u64) {
+fn count(rt: &impl Print, image: &[u8], length: u64) -> io::Result<()> {
     let mut answer = [0u8; ANSWER];
     match counting::count_words(image, length, &mut answer) {
-        Counting::Printed(n) => {
-            io::write_all(1, texts::first(&answer, n));
-        }
-        Counting::Refused(n, _) => print(script::refused_line(n)),
+        Counting::Printed(n) => rt.write_all(texts::first(&answer, n)),
+        Counting::Refused(n, _) => print(rt, script::refused_line(n)),
     }
 }
 
-fn run_on(image: &[u8]) {
-    match read_length() {
-        WordLength::Value(n) => count(image, n),
-        WordLength::Misshapen => print(script::refused_line(10)),
+fn run_on(rt: &(impl io::Input + Print), image: &[u8]) -> io::Result<()> {
+    match read_length(&mut rt.reader()) {
+        WordLength::Value(n) => count(rt, image, n),
+        WordLength::Misshapen => print(rt, script::refused_line(10)),
     }
 }
 
-fn run(image: &[u8]) {
+fn run(rt: &(impl io::Input + Print), image: &[u8]) -> io::Result<()> {
     match checker::examine(image) {
-        Examined::Accepted(_) => run_on(image),
-        Examined::Refused(n, at) => print(script::plan_refused_line(n, at)),
+        Examined::Accepted(_) => run_on(rt, image),
+        Examined::Refused(n, at) => print(rt, script::plan_refused_line(n, at)),
     }
 }
 
 // A missing `plan.bin` is an empty image.
-fn main() {
+fn main(rt: HostRuntime) -> io::Result<()> {
     let mut image = [0u8; ROOM];
-    let fd = os::open_read(b"plan.bin");
-    if fd < 0 {
-        run(b"");
-        return;
+    match fs::open(&rt, "plan.bin") {
+        Ok(mut file) => {
+            let n = inputs::read_full(&mut file, &mut image);
+            drop(file);
+            run(&rt, &image[..n])
+        }
+        Err(_) => run(&rt, b""),
     }
-    let n = io::read_full(fd, &mut image);
-    libc::close(fd);
-    run(&image[..n]);
 }
