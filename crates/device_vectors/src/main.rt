@@ -6,56 +6,66 @@
 use device::{DeviceCalled, Turning};
 use device_states::Device;
 use modules::{Called, Own, Turn};
+use std::io;
 use texts::Text;
 use water::Flow;
 
-fn say(s: &[u8]) {
-    io::write_all(1, s);
+fn say(rt: &impl Print, s: &[u8]) -> io::Result<()> {
+    rt.write_all(s)
 }
 
-fn print(t: Text) {
+fn print(rt: &impl Print, t: Text) -> io::Result<()> {
     let bytes = t.bytes;
     let n = t.length;
-    say(texts::first(&bytes, n));
+    say(rt, texts::first(&bytes, n))
 }
 
-fn print_refused(number: u8, offset: usize) {
+fn print_refused(rt: &impl Print, number: u8, offset: usize) -> io::Result<()> {
     let t = texts::push_all(texts::push_field(texts::word(b"refused"), number), b" at");
-    print(texts::push(texts::push_spaced(t, offset), b'\n'));
+    print(rt, texts::push(texts::push_spaced(t, offset), b'\n'))
 }
 
-fn print_called(answer: Called) {
+fn print_called(rt: &impl Print, answer: Called) -> io::Result<()> {
     match answer {
-        Called::Done => say(b"done\n"),
-        Called::Refused(number, offset) => print_refused(number, offset),
+        Called::Done => say(rt, b"done\n"),
+        Called::Refused(number, offset) => print_refused(rt, number, offset),
     }
 }
 
-fn print_event(event: u8) {
-    print(texts::push(texts::push_field(texts::word(b"event"), event), b'\n'));
+fn print_event(rt: &impl Print, event: u8) -> io::Result<()> {
+    print(
+        rt,
+        texts::push(texts::push_field(texts::word(b"event"), event), b'\n'),
+    )
 }
 
-fn print_turn(turn: Turn) {
+fn print_turn(rt: &impl Print, turn: Turn) -> io::Result<()> {
     match turn {
-        Turn::Event(e) => print_event(e),
-        Turn::Nothing => say(b"none\n"),
+        Turn::Event(e) => print_event(rt, e),
+        Turn::Nothing => say(rt, b"none\n"),
     }
 }
 
-fn print_turning(answer: Turning) {
+fn print_turning(rt: &impl Print, answer: Turning) -> io::Result<()> {
     match answer {
-        Turning::Done(turn) => print_turn(turn),
-        Turning::Refused(number, offset) => print_refused(number, offset),
+        Turning::Done(turn) => print_turn(rt, turn),
+        Turning::Refused(number, offset) => print_refused(rt, number, offset),
     }
 }
 
-fn print_own(own: Own) {
-    print(texts::push(example_states::push_own(texts::empty(), own), b'\n'));
+fn print_own(rt: &impl Print, own: Own) -> io::Result<()> {
+    print(
+        rt,
+        texts::push(example_states::push_own(texts::empty(), own), b'\n'),
+    )
 }
 
-fn print_states(d: Device) {
+fn print_states(rt: &impl Print, d: Device) -> io::Result<()> {
     let states = d.supervisors;
-    print(texts::push(texts::push_numbers(texts::word(b"states"), &states), b'\n'));
+    print(
+        rt,
+        texts::push(texts::push_numbers(texts::word(b"states"), &states), b'\n'),
+    )
 }
 
 fn run_set(mut d: Device, s: &[u8]) -> Device {
@@ -75,44 +85,51 @@ fn run_setv(mut d: Device, s: &[u8]) -> Device {
     d
 }
 
-fn run_own(d: Device, s: &[u8]) -> Device {
+fn run_own(rt: &impl Print, d: Device, s: &[u8]) -> io::Result<Device> {
     let m = example_lines::number_in(s, 1) as usize;
     if m < 16 {
-        print_own(d.modules[m]);
+        print_own(rt, d.modules[m])?;
     }
-    d
+    Ok(d)
 }
 
 // The lines without an image: `own`, `states`, `set` and `setv`.
-fn run_state(d: Device, s: &[u8]) -> Device {
+fn run_state(rt: &impl Print, d: Device, s: &[u8]) -> io::Result<Device> {
     if words::byte_at(s, 0) == b'o' {
-        run_own(d, s)
+        run_own(rt, d, s)
     } else if words::byte_at(s, 1) == b't' {
-        print_states(d);
-        d
+        print_states(rt, d)?;
+        Ok(d)
     } else if words::byte_at(s, 3) == b'v' {
-        run_setv(d, s)
+        Ok(run_setv(d, s))
     } else {
-        run_set(d, s)
+        Ok(run_set(d, s))
     }
 }
 
 // Prints the answer, and gives the state after it.
-fn called(c: DeviceCalled) -> Device {
+fn called(rt: &impl Print, c: DeviceCalled) -> io::Result<Device> {
     let answer = c.answer;
-    print_called(answer);
-    c.device
+    print_called(rt, answer)?;
+    Ok(c.device)
 }
 
-fn run_turn(image: &[u8], d: Device, s: &[u8]) -> Device {
+fn run_turn(rt: &impl Print, image: &[u8], d: Device, s: &[u8]) -> io::Result<Device> {
     let t = device::turn(image, d, example_lines::byte_in(s, 1));
     let answer = t.answer;
-    print_turning(answer);
-    t.device
+    print_turning(rt, answer)?;
+    Ok(t.device)
 }
 
 // So many ticks, of which the last is printed.
-fn run_ticks(image: &[u8], d: Device, m: u8, f: Flow, times: u64) -> Device {
+fn run_ticks(
+    rt: &impl Print,
+    image: &[u8],
+    d: Device,
+    m: u8,
+    f: Flow,
+    times: u64,
+) -> io::Result<Device> {
     let mut c = device::tick(image, d, m, f);
     let mut k: u64 = 1;
     while k < times {
@@ -120,18 +137,22 @@ fn run_ticks(image: &[u8], d: Device, m: u8, f: Flow, times: u64) -> Device {
         c = device::tick(image, d, m, f);
         k += 1;
     }
-    called(c)
+    called(rt, c)
 }
 
 // A line of `turn`, `tick`, `ticks` or `respond`.
-fn run_call(image: &[u8], d: Device, s: &[u8]) -> Device {
+fn run_call(rt: &impl Print, image: &[u8], d: Device, s: &[u8]) -> io::Result<Device> {
     let m = example_lines::byte_in(s, 1);
     if words::byte_at(s, 0) == b'r' {
-        called(device::respond(image, d, m, example_lines::byte_in(s, 2)))
+        called(
+            rt,
+            device::respond(image, d, m, example_lines::byte_in(s, 2)),
+        )
     } else if words::byte_at(s, 1) == b'u' {
-        run_turn(image, d, s)
+        run_turn(rt, image, d, s)
     } else if words::byte_at(s, 4) == b's' {
         run_ticks(
+            rt,
             image,
             d,
             m,
@@ -139,7 +160,7 @@ fn run_call(image: &[u8], d: Device, s: &[u8]) -> Device {
             example_lines::number_in(s, 2),
         )
     } else {
-        called(device::tick(image, d, m, example_states::flow_in(s, 2)))
+        called(rt, device::tick(image, d, m, example_states::flow_in(s, 2)))
     }
 }
 
@@ -150,45 +171,45 @@ struct Held {
     n: usize,
 }
 
-fn run_line(img: &mut [u8], r: Held, s: &[u8]) -> Held {
+fn run_line(rt: &impl Print, img: &mut [u8], r: Held, s: &[u8]) -> io::Result<Held> {
     let d = r.device;
     let n = r.n;
     match words::byte_at(s, 0) {
         b'#' => {
-            say(s);
-            say(b"\n");
-            r
+            say(rt, s)?;
+            say(rt, b"\n")?;
+            Ok(r)
         }
         b'p' => {
             let n = example_lines::image_in(&mut *img, s, 1);
-            Held {
-                device: called(device::start(&img[..n])),
+            Ok(Held {
+                device: called(rt, device::start(&img[..n]))?,
                 n,
-            }
+            })
         }
-        b'i' => Held {
+        b'i' => Ok(Held {
             device: d,
             n: example_lines::image_in(img, s, 1),
-        },
+        }),
         b't' | b'r' => {
             if n <= img.len() {
-                Held {
-                    device: run_call(&img[..n], d, s),
+                Ok(Held {
+                    device: run_call(rt, &img[..n], d, s)?,
                     n,
-                }
+                })
             } else {
-                r
+                Ok(r)
             }
         }
-        _ => Held {
-            device: run_state(d, s),
+        _ => Ok(Held {
+            device: run_state(rt, d, s)?,
             n,
-        },
+        }),
     }
 }
 
 // Runs each line. An image has room for eight bytes above the limit.
-fn run(text: &[u8]) {
+fn run(rt: &impl Print, text: &[u8]) -> io::Result<()> {
     let mut room = [0u8; 49160];
     let img: &mut [u8] = &mut room;
     let none = device::start(b"");
@@ -197,17 +218,19 @@ fn run(text: &[u8]) {
     let mut at: usize = 0;
     while at < text.len() {
         let end = example_lines::line_end(text, at);
-        r = run_line(&mut *img, r, example_lines::line_at(text, at));
+        r = run_line(rt, &mut *img, r, example_lines::line_at(text, at))?;
         if text.len() <= end {
-            return;
+            return Ok(());
         }
         at = end + 1;
     }
+    Ok(())
 }
 
 // Input beyond 262,144 bytes is left out.
-fn main() {
+fn main(rt: HostRuntime) -> io::Result<()> {
     let mut text = [0u8; 262144];
-    let n = io::read_full(0, &mut text);
-    run(&text[..n]);
+    let mut input = rt.stdin();
+    let n = inputs::read_full(&mut input, &mut text);
+    run(&rt, &text[..n])
 }

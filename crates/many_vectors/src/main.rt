@@ -6,16 +6,17 @@
 use messages::{Message, Parsed};
 use modules::{Called, Turn};
 use permits::{Holder, Module, ModuleCalled, Served, Stepped, Supervisor, SupervisorCalled};
+use std::io;
 use texts::Text;
 
-fn say(s: &[u8]) {
-    io::write_all(1, s);
+fn say(rt: &impl Print, s: &[u8]) -> io::Result<()> {
+    rt.write_all(s)
 }
 
-fn print(t: Text) {
+fn print(rt: &impl Print, t: Text) -> io::Result<()> {
     let bytes = t.bytes;
     let n = t.length;
-    say(texts::first(&bytes, n));
+    say(rt, texts::first(&bytes, n))
 }
 
 // ---- what is printed
@@ -25,10 +26,10 @@ fn refused(number: u8, offset: usize) -> Text {
     texts::push_spaced(texts::push_all(t, b" at"), offset)
 }
 
-fn print_called(answer: Called) {
+fn print_called(rt: &impl Print, answer: Called) -> io::Result<()> {
     match answer {
-        Called::Done => say(b"done\n"),
-        Called::Refused(number, offset) => print(texts::push(refused(number, offset), b'\n')),
+        Called::Done => say(rt, b"done\n"),
+        Called::Refused(number, offset) => print(rt, texts::push(refused(number, offset), b'\n')),
     }
 }
 
@@ -62,17 +63,20 @@ fn served_text(answer: Served) -> Text {
 }
 
 // The buffer behind an answer.
-fn print_buffer(s: &[u8]) {
-    print(texts::push(texts::push_buffer(texts::word(b" "), s), b'\n'));
+fn print_buffer(rt: &impl Print, s: &[u8]) -> io::Result<()> {
+    print(
+        rt,
+        texts::push(texts::push_buffer(texts::word(b" "), s), b'\n'),
+    )
 }
 
-fn print_module(x: Module) {
+fn print_module(rt: &impl Print, x: Module) -> io::Result<()> {
     let own = x.own;
     let t = texts::push_digits(texts::word(b"held "), x.held as u64, 8);
     let t = texts::push_digits(texts::push_all(t, b" received "), x.received, 16);
     let t = texts::push_field(texts::push_all(t, b" bid"), fields::flag_of(x.bid));
     let t = example_states::push_own(texts::push(t, b' '), own);
-    print(texts::push(t, b'\n'));
+    print(rt, texts::push(t, b'\n'))
 }
 
 fn push_holder(t: Text, holder: Holder) -> Text {
@@ -82,13 +86,13 @@ fn push_holder(t: Text, holder: Holder) -> Text {
     }
 }
 
-fn print_supervisor(y: Supervisor) {
+fn print_supervisor(rt: &impl Print, y: Supervisor) -> io::Result<()> {
     let holder = y.holder;
     let t = texts::push_field(texts::word(b"state"), y.state);
     let t = texts::push_digits(texts::push_all(t, b" noted "), y.noted as u64, 4);
     let t = push_holder(texts::push_all(t, b" holder"), holder);
     let t = texts::push_field(texts::push_all(t, b" last"), y.last);
-    print(texts::push(t, b'\n'));
+    print(rt, texts::push(t, b'\n'))
 }
 
 fn message_text(g: Message) -> Text {
@@ -113,10 +117,10 @@ fn message_text(g: Message) -> Text {
     }
 }
 
-fn print_parsed(p: Parsed) {
+fn print_parsed(rt: &impl Print, p: Parsed) -> io::Result<()> {
     match p {
-        Parsed::Whole(g) => print(texts::push(message_text(g), b'\n')),
-        Parsed::Misshapen => say(b"misshapen\n"),
+        Parsed::Whole(g) => print(rt, texts::push(message_text(g), b'\n')),
+        Parsed::Misshapen => say(rt, b"misshapen\n"),
     }
 }
 
@@ -179,99 +183,129 @@ fn with_note(mut y: Supervisor, s: &[u8]) -> Supervisor {
 // ---- the calls
 
 // Prints the answer, and gives the state after it.
-fn module_called(c: ModuleCalled) -> Module {
+fn module_called(rt: &impl Print, c: ModuleCalled) -> io::Result<Module> {
     let answer = c.answer;
-    print_called(answer);
-    c.state
+    print_called(rt, answer)?;
+    Ok(c.state)
 }
 
-fn supervisor_called(c: SupervisorCalled) -> Supervisor {
+fn supervisor_called(rt: &impl Print, c: SupervisorCalled) -> io::Result<Supervisor> {
     let answer = c.answer;
-    print_called(answer);
-    c.state
+    print_called(rt, answer)?;
+    Ok(c.state)
 }
 
-fn module_step(image: &[u8], m: u8, x: Module, buf: &mut [u8]) -> Module {
+fn module_step(
+    rt: &impl Print,
+    image: &[u8],
+    m: u8,
+    x: Module,
+    buf: &mut [u8],
+) -> io::Result<Module> {
     let t = module_steps::step(image, m, x, &mut *buf);
     let answer = t.answer;
-    print(stepped_text(answer));
-    print_buffer(buf);
-    t.state
+    print(rt, stepped_text(answer))?;
+    print_buffer(rt, buf)?;
+    Ok(t.state)
 }
 
-fn supervisor_step(image: &[u8], v: u8, y: Supervisor, buf: &mut [u8]) -> Supervisor {
+fn supervisor_step(
+    rt: &impl Print,
+    image: &[u8],
+    v: u8,
+    y: Supervisor,
+    buf: &mut [u8],
+) -> io::Result<Supervisor> {
     let t = supervisor_steps::step(image, v, y, &mut *buf);
     let answer = t.answer;
-    print(served_text(answer));
-    print_buffer(buf);
-    t.state
+    print(rt, served_text(answer))?;
+    print_buffer(rt, buf)?;
+    Ok(t.state)
 }
 
 // A buffer has at most 160 bytes.
-fn run_mstep(image: &[u8], x: Module, s: &[u8]) -> Module {
+fn run_mstep(rt: &impl Print, image: &[u8], x: Module, s: &[u8]) -> io::Result<Module> {
     let mut room = [0xaau8; 160];
     let buf: &mut [u8] = &mut room;
     let m = example_lines::byte_in(s, 1);
     let n = example_lines::number_in(s, 2) as usize;
     if n <= buf.len() {
-        module_step(image, m, x, &mut buf[..n])
+        module_step(rt, image, m, x, &mut buf[..n])
     } else {
-        x
+        Ok(x)
     }
 }
 
-fn run_sstep(image: &[u8], y: Supervisor, s: &[u8]) -> Supervisor {
+fn run_sstep(rt: &impl Print, image: &[u8], y: Supervisor, s: &[u8]) -> io::Result<Supervisor> {
     let mut room = [0xaau8; 160];
     let buf: &mut [u8] = &mut room;
     let v = example_lines::byte_in(s, 1);
     let n = example_lines::number_in(s, 2) as usize;
     if n <= buf.len() {
-        supervisor_step(image, v, y, &mut buf[..n])
+        supervisor_step(rt, image, v, y, &mut buf[..n])
     } else {
-        y
+        Ok(y)
     }
 }
 
 // A line of `mset`, `mstep` or `mstate`.
-fn run_mstate(image: &[u8], x: Module, s: &[u8]) -> Module {
+fn run_mstate(rt: &impl Print, image: &[u8], x: Module, s: &[u8]) -> io::Result<Module> {
     if words::byte_at(s, 2) == b'e' {
-        with_part(x, s)
+        Ok(with_part(x, s))
     } else if words::byte_at(s, 3) == b'e' {
-        run_mstep(image, x, s)
+        run_mstep(rt, image, x, s)
     } else {
-        print_module(x);
-        x
+        print_module(rt, x)?;
+        Ok(x)
     }
 }
 
-fn run_module(image: &[u8], bytes: &[u8], x: Module, s: &[u8]) -> Module {
+fn run_module(
+    rt: &impl Print,
+    image: &[u8],
+    bytes: &[u8],
+    x: Module,
+    s: &[u8],
+) -> io::Result<Module> {
     let m = example_lines::byte_in(s, 1);
     match words::byte_at(s, 1) {
-        b'o' => module_called(module_calls::start(image, m)),
-        b'd' => module_called(module_deliveries::deliver(image, m, x, bytes)),
-        b'r' => module_called(module_calls::respond(image, m, x, example_lines::byte_in(s, 2))),
-        b't' => module_called(module_calls::tick(image, m, x, example_states::flow_in(s, 2))),
+        b'o' => module_called(rt, module_calls::start(image, m)),
+        b'd' => module_called(rt, module_deliveries::deliver(image, m, x, bytes)),
+        b'r' => module_called(
+            rt,
+            module_calls::respond(image, m, x, example_lines::byte_in(s, 2)),
+        ),
+        b't' => module_called(
+            rt,
+            module_calls::tick(image, m, x, example_states::flow_in(s, 2)),
+        ),
         b'e' => {
-            print_parsed(messages::read(bytes));
-            x
+            print_parsed(rt, messages::read(bytes))?;
+            Ok(x)
         }
-        _ => run_mstate(image, x, s),
+        _ => run_mstate(rt, image, x, s),
     }
 }
 
-fn run_supervisor(image: &[u8], bytes: &[u8], y: Supervisor, s: &[u8]) -> Supervisor {
+fn run_supervisor(
+    rt: &impl Print,
+    image: &[u8],
+    bytes: &[u8],
+    y: Supervisor,
+    s: &[u8],
+) -> io::Result<Supervisor> {
     let v = example_lines::byte_in(s, 1);
     if words::byte_at(s, 1) == b'u' {
-        supervisor_called(supervisor_calls::start(image, v))
+        supervisor_called(rt, supervisor_calls::start(image, v))
     } else if words::byte_at(s, 1) == b'd' {
-        supervisor_called(supervisor_calls::deliver(image, v, y, bytes))
+        supervisor_called(rt, supervisor_calls::deliver(image, v, y, bytes))
     } else if words::byte_at(s, 2) == b'e' {
-        with_note(y, s)
+        Ok(with_note(y, s))
     } else if words::byte_at(s, 3) == b'e' {
-        run_sstep(image, y, s)
+        run_sstep(rt, image, y, s)
     } else {
-        print_supervisor(y);
-        y
+        print_supervisor(rt, y)?;
+        Ok(y)
     }
 }
 
@@ -296,22 +330,22 @@ fn fresh() -> Held {
     }
 }
 
-fn run_call(image: &[u8], bytes: &[u8], r: Held, s: &[u8]) -> Held {
+fn run_call(rt: &impl Print, image: &[u8], bytes: &[u8], r: Held, s: &[u8]) -> io::Result<Held> {
     let module = r.module;
     let supervisor = r.supervisor;
     let n = r.n;
     if words::byte_at(s, 0) == b'm' {
-        Held {
-            module: run_module(image, bytes, module, s),
+        Ok(Held {
+            module: run_module(rt, image, bytes, module, s)?,
             supervisor,
             n,
-        }
+        })
     } else {
-        Held {
+        Ok(Held {
             module,
-            supervisor: run_supervisor(image, bytes, supervisor, s),
+            supervisor: run_supervisor(rt, image, bytes, supervisor, s)?,
             n,
-        }
+        })
     }
 }
 
@@ -320,62 +354,64 @@ fn message_place(s: &[u8]) -> usize {
     if words::byte_at(s, 1) == b'e' { 1 } else { 2 }
 }
 
-fn run_with(image: &[u8], room: &mut [u8], r: Held, s: &[u8]) -> Held {
+fn run_with(rt: &impl Print, image: &[u8], room: &mut [u8], r: Held, s: &[u8]) -> io::Result<Held> {
     let n = example_lines::image_in(&mut *room, s, message_place(s));
-    run_call(image, &room[..n], r, s)
+    run_call(rt, image, &room[..n], r, s)
 }
 
 // A message has at most 16 bytes.
-fn run_bytes(image: &[u8], r: Held, s: &[u8]) -> Held {
+fn run_bytes(rt: &impl Print, image: &[u8], r: Held, s: &[u8]) -> io::Result<Held> {
     let mut bytes = [0u8; 16];
     let room: &mut [u8] = &mut bytes;
-    run_with(image, &mut *room, r, s)
+    run_with(rt, image, &mut *room, r, s)
 }
 
-fn run_line(img: &mut [u8], r: Held, s: &[u8]) -> Held {
+fn run_line(rt: &impl Print, img: &mut [u8], r: Held, s: &[u8]) -> io::Result<Held> {
     let module = r.module;
     let supervisor = r.supervisor;
     let n = r.n;
     match words::byte_at(s, 0) {
         b'#' => {
-            say(s);
-            say(b"\n");
-            r
+            say(rt, s)?;
+            say(rt, b"\n")?;
+            Ok(r)
         }
-        b'p' => Held {
+        b'p' => Ok(Held {
             module,
             supervisor,
             n: example_lines::image_in(img, s, 1),
-        },
+        }),
         _ => {
             if n <= img.len() {
-                run_bytes(&img[..n], r, s)
+                run_bytes(rt, &img[..n], r, s)
             } else {
-                r
+                Ok(r)
             }
         }
     }
 }
 
 // Runs each line. An image has room for eight bytes above the limit.
-fn run(text: &[u8]) {
+fn run(rt: &impl Print, text: &[u8]) -> io::Result<()> {
     let mut room = [0u8; 49160];
     let img: &mut [u8] = &mut room;
     let mut r = fresh();
     let mut at: usize = 0;
     while at < text.len() {
         let end = example_lines::line_end(text, at);
-        r = run_line(&mut *img, r, example_lines::line_at(text, at));
+        r = run_line(rt, &mut *img, r, example_lines::line_at(text, at))?;
         if text.len() <= end {
-            return;
+            return Ok(());
         }
         at = end + 1;
     }
+    Ok(())
 }
 
 // Input beyond 262,144 bytes is left out.
-fn main() {
+fn main(rt: HostRuntime) -> io::Result<()> {
     let mut text = [0u8; 262144];
-    let n = io::read_full(0, &mut text);
-    run(&text[..n]);
+    let mut input = rt.stdin();
+    let n = inputs::read_full(&mut input, &mut text);
+    run(&rt, &text[..n])
 }

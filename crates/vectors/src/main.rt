@@ -7,31 +7,35 @@ use reader::Read;
 use records::Record;
 use rewrite::Rewritten;
 use rules::Verdict;
+use std::io;
 use texts::Text;
 use writer::Written;
 
-fn say(s: &[u8]) {
-    io::write_all(1, s);
+fn say(rt: &impl Print, s: &[u8]) -> io::Result<()> {
+    rt.write_all(s)
 }
 
-fn print(t: Text) {
+fn print(rt: &impl Print, t: Text) -> io::Result<()> {
     let bytes = t.bytes;
     let n = t.length;
-    say(texts::first(&bytes, n));
+    say(rt, texts::first(&bytes, n))
 }
 
 // The buffer behind an answer.
-fn print_buffer(s: &[u8]) {
-    print(texts::push(texts::push_buffer(texts::word(b" "), s), b'\n'));
+fn print_buffer(rt: &impl Print, s: &[u8]) -> io::Result<()> {
+    print(
+        rt,
+        texts::push(texts::push_buffer(texts::word(b" "), s), b'\n'),
+    )
 }
 
-fn print_verdict(v: Verdict) {
+fn print_verdict(rt: &impl Print, v: Verdict) -> io::Result<()> {
     match v {
-        Verdict::Accepted => say(b"accepted\n"),
+        Verdict::Accepted => say(rt, b"accepted\n"),
         Verdict::Refused(number, offset) => {
             let t = texts::push_number(texts::empty(), words::wide(number));
             let t = texts::push_spaced(texts::push_all(t, b" at"), offset);
-            print(texts::push(t, b'\n'));
+            print(rt, texts::push(t, b'\n'))
         }
     }
 }
@@ -100,32 +104,35 @@ fn push_record(t: Text, r: Record) -> Text {
     }
 }
 
-fn print_read(r: Read) {
+fn print_read(rt: &impl Print, r: Read) -> io::Result<()> {
     match r {
         Read::Whole(record, next) => {
             let t = texts::push_hexes(texts::word(b"record "), &[records::kind_of(record)]);
             let t = texts::push_all(push_record(t, record), b" next");
-            print(texts::push(texts::push_spaced(t, next), b'\n'));
+            print(rt, texts::push(texts::push_spaced(t, next), b'\n'))
         }
-        Read::Unknown => say(b"unknown\n"),
-        Read::Cut => say(b"cut\n"),
-        Read::Nothing => say(b"nothing\n"),
+        Read::Unknown => say(rt, b"unknown\n"),
+        Read::Cut => say(rt, b"cut\n"),
+        Read::Nothing => say(rt, b"nothing\n"),
     }
 }
 
-fn print_written(w: Written) {
+fn print_written(rt: &impl Print, w: Written) -> io::Result<()> {
     match w {
-        Written::Length(n) => print(texts::push_spaced(texts::word(b"length"), n)),
-        Written::Refused(number, _) => print(texts::push_field(texts::word(b"refused"), number)),
+        Written::Length(n) => print(rt, texts::push_spaced(texts::word(b"length"), n)),
+        Written::Refused(number, _) => print(
+            rt,
+            texts::push_field(texts::word(b"refused"), number),
+        ),
     }
 }
 
-fn print_rewritten(r: Rewritten) {
+fn print_rewritten(rt: &impl Print, r: Rewritten) -> io::Result<()> {
     match r {
-        Rewritten::Length(n) => print(texts::push_spaced(texts::word(b"length"), n)),
+        Rewritten::Length(n) => print(rt, texts::push_spaced(texts::word(b"length"), n)),
         Rewritten::Refused(number, offset) => {
             let t = texts::push_field(texts::word(b"refused"), number);
-            print(texts::push_spaced(texts::push_all(t, b" at"), offset));
+            print(rt, texts::push_spaced(texts::push_all(t, b" at"), offset))
         }
     }
 }
@@ -194,15 +201,15 @@ fn record_in(s: &[u8], kind: u8) -> Record {
     }
 }
 
-fn run_check(img: &mut [u8], s: &[u8]) {
+fn run_check(rt: &impl Print, img: &mut [u8], s: &[u8]) -> io::Result<()> {
     let n = example_lines::image_in(&mut *img, s, 1);
-    print_verdict(checker::check(&img[..n]));
+    print_verdict(rt, checker::check(&img[..n]))
 }
 
-fn run_read(img: &mut [u8], s: &[u8]) {
+fn run_read(rt: &impl Print, img: &mut [u8], s: &[u8]) -> io::Result<()> {
     let n = example_lines::image_in(&mut *img, s, 1);
     let at = example_lines::number_in(s, 2) as usize;
-    print_read(reader::read_at(&img[..n], at));
+    print_read(rt, reader::read_at(&img[..n], at))
 }
 
 // The length of the buffer, behind the line's last space.
@@ -210,75 +217,81 @@ fn length_in(s: &[u8]) -> usize {
     example_lines::number_in(s, example_lines::spaces_in(s)) as usize
 }
 
-fn write_into(buf: &mut [u8], r: Record) {
-    print_written(writer::write(r, &mut *buf));
-    print_buffer(buf);
+fn write_into(rt: &impl Print, buf: &mut [u8], r: Record) -> io::Result<()> {
+    print_written(rt, writer::write(r, &mut *buf))?;
+    print_buffer(rt, buf)
 }
 
 // A buffer has at most 128 bytes, and held AA throughout.
-fn run_write(s: &[u8]) {
+fn run_write(rt: &impl Print, s: &[u8]) -> io::Result<()> {
     let kind = (example_lines::bits_in(s, 1) % 256) as u8;
     let r = record_in(s, kind);
     let n = length_in(s);
     let mut room = [0xaau8; 128];
     let buf: &mut [u8] = &mut room;
     if n <= buf.len() {
-        write_into(&mut buf[..n], r);
+        write_into(rt, &mut buf[..n], r)
+    } else {
+        Ok(())
     }
 }
 
-fn copy_into(image: &[u8], buf: &mut [u8]) {
-    print_rewritten(rewrite::rewrite(image, &mut *buf));
-    print_buffer(buf);
+fn copy_into(rt: &impl Print, image: &[u8], buf: &mut [u8]) -> io::Result<()> {
+    print_rewritten(rt, rewrite::rewrite(image, &mut *buf))?;
+    print_buffer(rt, buf)
 }
 
-fn run_copy(img: &mut [u8], s: &[u8]) {
+fn run_copy(rt: &impl Print, img: &mut [u8], s: &[u8]) -> io::Result<()> {
     let n = example_lines::image_in(&mut *img, s, 1);
     let m = length_in(s);
     let mut room = [0xaau8; 128];
     let buf: &mut [u8] = &mut room;
     if m <= buf.len() {
-        copy_into(&img[..n], &mut buf[..m]);
+        copy_into(rt, &img[..n], &mut buf[..m])
+    } else {
+        Ok(())
     }
 }
 
-fn run_line(img: &mut [u8], s: &[u8]) {
+fn run_line(rt: &impl Print, img: &mut [u8], s: &[u8]) -> io::Result<()> {
     match words::byte_at(s, 0) {
         b'#' => {
-            say(s);
-            say(b"\n");
+            say(rt, s)?;
+            say(rt, b"\n")
         }
         b'c' => {
             if words::byte_at(s, 1) == b'h' {
-                run_check(img, s)
+                run_check(rt, img, s)
             } else {
-                run_copy(img, s)
+                run_copy(rt, img, s)
             }
         }
-        b'r' => run_read(img, s),
-        b'w' => run_write(s),
-        _ => say(b"?\n"),
+        b'r' => run_read(rt, img, s),
+        b'w' => run_write(rt, s),
+        _ => say(rt, b"?\n"),
     }
 }
 
 // Runs each line. An image has room for eight bytes above the limit.
-fn run(text: &[u8]) {
+fn run(rt: &impl Print, text: &[u8]) -> io::Result<()> {
     let mut room = [0u8; 49160];
     let img: &mut [u8] = &mut room;
     let mut at: usize = 0;
     while at < text.len() {
         let end = example_lines::line_end(text, at);
-        run_line(&mut *img, example_lines::line_at(text, at));
+        run_line(rt, &mut *img, example_lines::line_at(text, at))?;
         if text.len() <= end {
-            return;
+            return Ok(());
         }
         at = end + 1;
     }
+    Ok(())
 }
 
 // Input beyond 262,144 bytes is left out.
-fn main() {
+fn main(rt: HostRuntime) -> io::Result<()> {
     let mut text = [0u8; 262144];
-    let n = io::read_full(0, &mut text);
-    run(&text[..n]);
+    let mut input = rt.stdin();
+    let n = inputs::read_full(&mut input, &mut text);
+    run(&rt, &text[..n])
 }
