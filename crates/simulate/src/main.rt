@@ -10,11 +10,16 @@ use lines::Partial;
 use parties::Parties;
 use places::Places;
 use simulation::Answer;
+use std::io::Read;
+use std::{fs, io};
 use texts::Text;
 use wire::{MessageAt, Wire};
 
 // One byte more than a plan may have, so that a longer file is seen to be one.
 const ROOM: usize = 49153;
+
+// The bytes that one read asks for.
+const PART: usize = 65536;
 
 // The places of the plan's records, the parties, and the rows of events fired and of commands that are still to be printed.
 #[derive(Clone, Copy)]
@@ -25,62 +30,68 @@ struct State {
     commands: Row,
 }
 
-fn print(t: Text) {
+fn print(rt: &impl Print, t: Text) -> io::Result<()> {
     let bytes = t.bytes;
     let n = t.length;
-    io::write_all(1, texts::first(&bytes, n));
+    rt.write_all(texts::first(&bytes, n))
 }
 
-fn print_row(word: &[u8], r: Row) {
-    io::write_all(1, word);
+fn print_row(rt: &impl Print, word: &[u8], r: Row) -> io::Result<()> {
+    rt.write_all(word)?;
     let mut i: usize = 0;
     while i < 1024 {
         if i < r.count {
-            print(texts::push_field(texts::empty(), r.numbers[i]));
+            print(rt, texts::push_field(texts::empty(), r.numbers[i]))?;
         }
         i += 1;
     }
-    io::write_all(1, b"\n");
+    rt.write_all(b"\n")
 }
 
 // The row with one event more, if there is one; a full row is printed first.
-fn gathered(word: &[u8], r: Row, event: Maybe) -> Row {
+fn gathered(rt: &impl Print, word: &[u8], r: Row, event: Maybe) -> io::Result<Row> {
     let Maybe::Just(e) = event else {
-        return r;
+        return Ok(r);
     };
     if answers::is_full(r) {
-        print_row(word, r);
-        answers::with_number(answers::no_row(), e)
+        print_row(rt, word, r)?;
+        Ok(answers::with_number(answers::no_row(), e))
     } else {
-        answers::with_number(r, e)
+        Ok(answers::with_number(r, e))
     }
 }
 
 // The messages from a place on.
-fn print_sent(w: Wire, from: usize) {
+fn print_sent(rt: &impl Print, w: Wire, from: usize) -> io::Result<()> {
     let mut k = from;
     while k < w.count {
         let MessageAt::It(g) = wire::message_at(w, k) else {
-            return;
+            return Ok(());
         };
-        print(answers::sent_line(g));
+        print(rt, answers::sent_line(g))?;
         k += 1;
     }
+    Ok(())
 }
 
 // The rows with the event that fired and the command, if there are any.
-fn recorded(image: &[u8], t: State, a: Answer) -> State {
+fn recorded(rt: &impl Print, image: &[u8], t: State, a: Answer) -> io::Result<State> {
     let fired = t.fired;
     let commands = t.commands;
     let places = t.places;
     let mut next = t;
-    next.fired = gathered(b"record", fired, answers::fired(a));
-    next.commands = gathered(b"commands", commands, answers::command(image, places, a));
-    next
+    next.fired = gathered(rt, b"record", fired, answers::fired(a))?;
+    next.commands = gathered(
+        rt,
+        b"commands",
+        commands,
+        answers::command(image, places, a),
+    )?;
+    Ok(next)
 }
 
 // Plays a line, and prints what it got and the messages sent, which stand behind those that were under way.
-fn play_line(image: &[u8], t: State, line: Partial) -> State {
+fn play_line(rt: &impl Print, image: &[u8], t: State, line: Partial) -> io::Result<State> {
     let before = t.parties;
     let sent = before.wire;
     let from = sent.count;
@@ -88,11 +99,11 @@ fn play_line(image: &[u8], t: State, line: Partial) -> State {
     let a = got.answer;
     let parties = got.play;
     let w = parties.wire;
-    print(answers::answer_line(a));
-    print_sent(w, from);
+    print(rt, answers::answer_line(a))?;
+    print_sent(rt, w, from)?;
     let mut next = t;
     next.parties = parties;
-    recorded(image, next, a)
+    recorded(rt, image, next, a)
 }
 
 // ---- the script
@@ -106,52 +117,61 @@ struct Progress {
 }
 
 // The bytes of a part of the script, one after the other.
-fn play_bytes(image: &[u8], p: Progress, s: &[u8]) -> Progress {
+fn play_bytes(rt: &impl Print, image: &[u8], p: Progress, s: &[u8]) -> io::Result<Progress> {
     let mut t = p.state;
     let mut line = p.line;
     let mut i: usize = 0;
     while i < s.len() {
         if s[i] == b'\n' {
-            t = play_line(image, t, line);
+            t = play_line(rt, image, t, line)?;
             line = lines::begun();
         } else {
             line = lines::with_byte(line, s[i]);
         }
         i += 1;
     }
-    Progress {
+    Ok(Progress {
         state: t,
         line,
         more: true,
-    }
+    })
 }
 
 // The last line may lack its line feed; nothing behind a line feed is no line.
-fn play_last(image: &[u8], p: Progress) -> State {
+fn play_last(rt: &impl Print, image: &[u8], p: Progress) -> io::Result<State> {
     let t = p.state;
     let line = p.line;
     if lines::has_byte(line) {
-        play_line(image, t, line)
+        play_line(rt, image, t, line)
     } else {
-        t
+        Ok(t)
     }
 }
 
 // The bytes that one read brings.
-fn read_part(image: &[u8], p: Progress) -> Progress {
-    let mut buf = io::large_buffer();
-    let got = libc::read(0, &mut buf);
-    if got <= 0 {
+fn read_part(
+    rt: &impl Print,
+    stdin: &mut impl Read,
+    image: &[u8],
+    p: Progress,
+) -> io::Result<Progress> {
+    let mut buf = [0u8; PART];
+    let n = stdin.read(&mut buf).unwrap_or(0);
+    if n == 0 {
         let mut last = p;
         last.more = false;
-        return last;
+        return Ok(last);
     }
-    let n = io::count(got, &buf);
-    play_bytes(image, p, &buf[..n])
+    play_bytes(rt, image, p, &buf[..n])
 }
 
 // A proved loop has to end, and nothing says that the input does: so it counts its turns down from a number that no run uses up.
-fn play_script(image: &[u8], state: State) -> State {
+fn play_script(
+    rt: &impl Print,
+    stdin: &mut impl Read,
+    image: &[u8],
+    state: State,
+) -> io::Result<State> {
     let mut p = Progress {
         state,
         line: lines::begun(),
@@ -159,34 +179,37 @@ fn play_script(image: &[u8], state: State) -> State {
     };
     let mut turns = u64::MAX;
     while turns > 0 {
-        p = read_part(image, p);
+        p = read_part(rt, stdin, image, p)?;
         if !p.more {
-            return play_last(image, p);
+            return play_last(rt, image, p);
         }
         turns -= 1;
     }
-    play_last(image, p)
+    play_last(rt, image, p)
 }
 
 // ---- the start and the end
 
 // The rows of the end: events fired, commands, the parties' states and the one device's.
-fn print_end(t: State, modules: u8, supervisors: u8) {
+fn print_end(rt: &impl Print, t: State, modules: u8, supervisors: u8) -> io::Result<()> {
     let parties = t.parties;
     let device = parties.device;
     let fired = t.fired;
     let commands = t.commands;
-    print_row(b"record", fired);
-    print_row(b"commands", commands);
-    print(script::states_line(parties::seen(parties), modules, supervisors));
-    print(script::device_line(device, modules, supervisors));
+    print_row(rt, b"record", fired)?;
+    print_row(rt, b"commands", commands)?;
+    print(
+        rt,
+        script::states_line(parties::seen(parties), modules, supervisors),
+    )?;
+    print(rt, script::device_line(device, modules, supervisors))
 }
 
-fn run_on(image: &[u8], places: Places) {
+fn run_on(rt: &(impl Input + Print), image: &[u8], places: Places) -> io::Result<()> {
     let modules = plan::modules_of(image, places);
     let supervisors = plan::supervisors_of(image, places);
     let events = plan::events_of(image, places);
-    print(script::header_line(modules, supervisors, events));
+    print(rt, script::header_line(modules, supervisors, events))?;
     let parties = parties::start(image);
     let fired = answers::no_row();
     let commands = answers::no_row();
@@ -196,25 +219,26 @@ fn run_on(image: &[u8], places: Places) {
         fired,
         commands,
     };
-    print_end(play_script(image, t), modules, supervisors);
+    let last = play_script(rt, &mut rt.reader(), image, t)?;
+    print_end(rt, last, modules, supervisors)
 }
 
-fn run(image: &[u8]) {
+fn run(rt: &(impl Input + Print), image: &[u8]) -> io::Result<()> {
     match checker::examine(image) {
-        Examined::Accepted(places) => run_on(image, places),
-        Examined::Refused(n, at) => print(script::plan_refused_line(n, at)),
+        Examined::Accepted(places) => run_on(rt, image, places),
+        Examined::Refused(n, at) => print(rt, script::plan_refused_line(n, at)),
     }
 }
 
 // A missing `plan.bin` is an empty image.
-fn main() {
+fn main(rt: HostRuntime) -> io::Result<()> {
     let mut image = [0u8; ROOM];
-    let fd = os::open_read(b"plan.bin");
-    if fd < 0 {
-        run(b"");
-        return;
+    match fs::open(&rt, "plan.bin") {
+        Ok(mut file) => {
+            let n = inputs::read_full(&mut file, &mut image);
+            drop(file);
+            run(&rt, &image[..n])
+        }
+        Err(_) => run(&rt, b""),
     }
-    let n = io::read_full(fd, &mut image);
-    libc::close(fd);
-    run(&image[..n]);
 }
