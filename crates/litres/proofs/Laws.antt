@@ -17,7 +17,7 @@ use lib.Ieee.Bits.{is_true, is_false, of_bits-to_bits, to_bits-lt, of_bits-fits,
 use denote.Floats.{passes}
 use lib.Ieee.Fits.{neg-fits}
 use Rattle.bits.proofs.Laws.{same_test}
-use Rattle.litres.specs.Eighths.{eighths, is_eighths, count, litres_ok, target_ok}
+use Rattle.litres.specs.Eighths.{eighths, finite_eighths, is_eighths, count, litres_ok, target_ok}
 
 -- ---- the value of `eighths n`
 
@@ -69,7 +69,7 @@ and_or true false = refl
 and_or false b = refl
 
 -- a float is 0 where its fraction is
-zero_iff : (p q a c : ℕ) → 0 < q → 0 < c → p * c ≡ a * q → eqb p 0 ≡ eqb a 0
+pub zero_iff : (p q a c : ℕ) → 0 < q → 0 < c → p * c ≡ a * q → eqb p 0 ≡ eqb a 0
 zero_iff p q a c Q C h =
     same_test (eqb p 0) (eqb a 0)
     (λ t. eq→eqb (eq_of_mul-eq-mul_right q Q a 0 (sym h ∙ ap (λ (x : ℕ). x * c) (eqb→eq p 0 t) ∙ zero-mul c ∙ sym (zero-mul q))))
@@ -129,12 +129,7 @@ rem_exact s m (negsuc (suc (suc k))) h l =
     round_exact binary64 s r (P * 8) q j (mul-pos (pow_pos (suc (suc (suc k)))) (lit< tt)) small (lt_of_lt_of_le (shl_lt 53 j small) (pow_mono j_le))
     (ap (λ (x : ℕ). x * 2 ^ 1074) is ∙ mul_right_comm q 8 (2 ^ 1074) ∙ ap (λ (x : ℕ). q * x * 8) (sym scale) ∙ ap (λ (x : ℕ). x * 8) (sym (mul_assoc q (2 ^ j) P)) ∙ mul_assoc (q * 2 ^ j) P 8)
 
--- ---- what the code tests: `x % 0.125 == 0.0` and then the sign's bit
-
-abbrev pub finite_eighths : Float → Bool
-finite_eighths nan = false
-finite_eighths (inf s) = false
-finite_eighths (fin s m e) = eqb (m * up e * 8 % down e) 0
+-- ---- that the remainder by 1/8 is 0 says that it is a number of whole eighths of either sign
 
 rem_exact_of : (s : Bool) (m : ℕ) (e : ℤ) → T (fits binary64 (fin s m e)) → HasValue (round binary64 s (m * up e * 8 % down e) (down e * 8)) s (m * up e * 8 % down e) (down e * 8)
 unfolding fits

@@ -9,6 +9,12 @@ unfoldable pub eighths : ℕ → Float
 unfolding round
 eighths n = round binary64 false n 8
 
+-- x is n / 8 or minus n / 8 for a whole number n
+abbrev pub finite_eighths : Float → Bool
+finite_eighths nan = false
+finite_eighths (inf s) = false
+finite_eighths (fin s m e) = eqb (m * up e * 8 % down e) 0
+
 -- x is n / 8 for a whole number n, with the sign clear: no NaN, no infinity, no minus zero. `fin s m e` is the finite f64 m * 2 ^ e, negative where s
 -- is true; 2 ^ e is the fraction up e / down e.
 unfoldable pub is_eighths : Float → Bool

@@ -10,7 +10,8 @@ use lib.Ieee.Fits.{and_l, and_r, eq→eqb}
 use borrow.Author.Tests.{ltb-false, le-ltb, eqb-true, eqb-false, eq-eqb, ne_eqb}
 use denote.Floats.{passes}
 use Rattle.litres.specs.Eighths.{eighths, is_eighths, count, target_ok}
-use Rattle.litres.proofs.Laws.{finite_eighths, yes_arm, not_nan, lt_counts, add_counts, target_is_eighths, target_not_nan, eighths_is_eighths, count_eighths}
+use Rattle.litres.specs.Eighths.{finite_eighths}
+use Rattle.litres.proofs.Laws.{yes_arm, not_nan, lt_counts, add_counts, target_is_eighths, target_not_nan, eighths_is_eighths, count_eighths}
 use Rattle.water.specs.Water.{flow_ok, added, sum, reading_eighths, Summed, Compared, is_zero, reached, running}
 use Rattle.water.specs.declared.Water.{Water}
 use Rattle.water.specs.declared.Flow.{Flow}
