@@ -1,5 +1,5 @@
 // A line of output as a value: specs/Text.antt says what a text is, and the other files of specs/ what is put behind one. A program prints a text
-// by one call, `io::write_all(1, texts::first(&bytes, n))`.
+// by one call, `rt.write_all(texts::first(&bytes, n))`.
 #![tactic(auto)]
 
 ghost use Rattle.std.specs.Prelude.{◌≡◌, [], take};
