@@ -9,7 +9,7 @@
  *
  * docs/REFERENCE.md has the rules by which plans are judged and run, docs/EMBEDDING.md what a device owes the engine and gets from it.
  *
- * Link with -lm: of the C library the archive takes fmod, memcpy, memmove and memset. C99 or later, or C++.
+ * Of the C library the archive takes memcpy, memmove and memset. Linking with -lm does no harm. C99 or later, or C++.
  */
 #ifndef PEWTERSLUG_H
 #define PEWTERSLUG_H

@@ -1,7 +1,7 @@
 #!/usr/bin/env bash
 # The C interface from C and from C++: builds the static library, compiles tests/interface.c against include/pewterslug.h, runs it and compares
 # what it prints with tests/interface.expected. As C it runs under the address and undefined-behaviour sanitizers, so that what the header
-# reads stays in the bytes that it is given; as C++ only where there is a C++ compiler. The archive asks fmod of the C library (-lm). The names
+# reads stays in the bytes that it is given; as C++ only where there is a C++ compiler. The archive asks nothing of the mathematics library; -lm does no harm. The names
 # of the numbers must be those of docs/EMBEDDING.md.
 set -eu
 cd "$(dirname "$0")/.."
