@@ -39,7 +39,6 @@ uint32_t pewterslug_version(void);
 #define PEWTERSLUG_RECORD_BYTES 12   /* the longest record */
 #define PEWTERSLUG_MESSAGE_BYTES 11  /* the longest message */
 #define PEWTERSLUG_RELEASE_BYTES 4
-#define PEWTERSLUG_FRAME_BYTES 15    /* the longest frame of a message: the message and 4 bytes */
 #define PEWTERSLUG_STEP_BYTES 128    /* the longest answer of a step: 32 releases of 4 bytes */
 #define PEWTERSLUG_STUCK_BYTES 4143  /* the longest answer of find_stuck: a word of 4,095 events and 48 states */
 #define PEWTERSLUG_COUNT_BYTES 86037 /* enough for every text of count_words: 4,097 lines of 20 digits and a line feed */
@@ -53,12 +52,6 @@ uint32_t pewterslug_version(void);
 #define PEWTERSLUG_EVENT_LIMIT 64
 #define PEWTERSLUG_QUEUE_LIMIT 8
 #define PEWTERSLUG_OUTPUT_LIMIT 32
-
-/* Modbus RTU frames: the longest on the wire, of whatever function; the function of those that carry a message; their addresses. */
-#define PEWTERSLUG_FRAME_LIMIT 256
-#define PEWTERSLUG_FRAME_FUNCTION 65
-#define PEWTERSLUG_FIRST_ADDRESS 1
-#define PEWTERSLUG_LAST_ADDRESS 247
 
 /* ---- plan records ----
  *
@@ -135,7 +128,7 @@ enum pewterslug_message {
  *
  * The whole answer of an accepted call need not be 0: only its number is. So `if (answer)` is wrong; it is pewterslug_number(answer) != 0. */
 enum pewterslug_done {
-    PEWTERSLUG_DONE = 0,  /* taken; the value is 0, of a read record or message its kind, of a read frame its address */
+    PEWTERSLUG_DONE = 0,  /* taken; the value is 0, of a read record or message its kind */
     PEWTERSLUG_EVENT = 1, /* a turn: an event fired, the value is the event */
     /* 2 was a stray response, until request 2.5; it is not given again */
     PEWTERSLUG_NONE = 3,  /* a turn: none */
@@ -171,9 +164,7 @@ enum pewterslug_refusal {
     PEWTERSLUG_REFUSAL_FLOW_READING = 14,
     PEWTERSLUG_REFUSAL_BUFFER_TOO_SHORT = 15,
     PEWTERSLUG_REFUSAL_TOO_MANY_STATES = 16,
-    PEWTERSLUG_REFUSAL_TOO_MANY_WORDS = 17,
-    PEWTERSLUG_REFUSAL_NO_FRAME = 18,
-    PEWTERSLUG_REFUSAL_WRONG_CRC = 19
+    PEWTERSLUG_REFUSAL_TOO_MANY_WORDS = 17
 };
 
 /* The condition of a number, for a log or a display. */
@@ -198,8 +189,6 @@ static inline const char *pewterslug_refusal_text(uint8_t number)
     case PEWTERSLUG_REFUSAL_BUFFER_TOO_SHORT: return "output buffer shorter than the answer";
     case PEWTERSLUG_REFUSAL_TOO_MANY_STATES: return "more than 4,096 reachable joint states";
     case PEWTERSLUG_REFUSAL_TOO_MANY_WORDS: return "length above 40, or more words than 64 bits count";
-    case PEWTERSLUG_REFUSAL_NO_FRAME: return "frame under 5 or over 256 bytes, address outside 1 to 247, or another function";
-    case PEWTERSLUG_REFUSAL_WRONG_CRC: return "wrong CRC";
     default: return "unknown number";
     }
 }
@@ -478,21 +467,6 @@ uint64_t pewterslug_read_message(const uint8_t *message, size_t message_length);
  * lacks is not looked at. A kind that is none is 10. */
 uint64_t pewterslug_write_message(uint8_t kind, uint8_t first, uint8_t second, uint8_t event, uint64_t mask, uint8_t *buffer,
                                   size_t buffer_length);
-
-/* ---- frames ----
- *
- * A message on a wire that carries Modbus, in an RTU frame of its own: the address, 1 to 247; the function, 65; the message; and the CRC-16 of
- * all of these, low byte first. Steps write bare messages and deliveries take them; the two calls below stand between them and the wire. They
- * undo each other: a written frame is read as its address and message, and what was read is written as the frame that it was. */
-
-/* Writes the frame of one message to an address. An address outside 1 to 247 is 18, then a misshapen message 10, then a short buffer 15;
- * PEWTERSLUG_FRAME_BYTES are always enough. */
-uint64_t pewterslug_write_frame(uint8_t address, const uint8_t *message, size_t message_length, uint8_t *buffer, size_t buffer_length);
-
-/* Reads a frame: the value is its address and the length that of its message, which is written into the buffer. A frame under 5 or over 256
- * bytes, an address outside 1 to 247 or another function is 18, then a wrong CRC 19, then a misshapen message 10, then a short buffer 15;
- * PEWTERSLUG_MESSAGE_BYTES are always enough. No plan is looked at: what the message names is the delivery's to judge. */
-uint64_t pewterslug_read_frame(const uint8_t *frame, size_t frame_length, uint8_t *buffer, size_t buffer_length);
 
 #ifdef __cplusplus
 }
