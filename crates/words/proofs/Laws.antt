@@ -1,13 +1,15 @@
 -- Laws of bytes put into a list, and of the number that four or eight bytes are.
 use mathlib.Core.Path.{◌≡◌, refl, sym, ap, ◌∙◌}
-use mathlib.Core.List.{List, ◌∷◌, ◌++◌, map}
+use mathlib.Core.List.{List, ◌∷◌, ◌++◌, map, append_assoc}
 use mathlib.Core.Bool.{true, false}
 use Prim.Native.Nat.{ℕ, suc, ◌+◌, ◌-◌, ◌*◌, ◌/◌, ◌%◌, ◌^◌, ◌≤◌, ◌<◌}
-use native.Mathlib.Nat.{add_assoc, div-div-eq-div-mul, div-add-mod'}
+use native.Mathlib.Nat.{add-zero, add_assoc, div-div-eq-div-mul, div-add-mod'}
 use native.Mathlib.Omega.{arith}
-use lib.ListN.{length, get_or, set, drop, length-map, get_or-eq_default}
-use lib.Seq.{sets, sets-eq, get_or-drop, drop-cons, drop-length}
+use lib.ListN.{length, get_or, set, drop, length-map}
+use lib.Seq.{sets, sets-eq, get_or-drop, drop-cons, drop-length, drop-drop}
 use borrow.Author.Tests.{le-leb, lt-leb}
+use borrow.Rule.Slice.PartMut.{put_mid}
+use Rattle.std.specs.Int.{w32, w64, from_be_bytes}
 use Rattle.words.specs.Word.{fits_at, put_at, quad_at, quad_bytes, word_at, word_bytes, append_byte}
 
 -- ---- bytes put
@@ -28,6 +30,11 @@ module _ (bytes : List ℕ) (at : ℕ) (b : List ℕ) where
   pub put_not : length b < at + length bytes → put_at bytes at b ≡ b
   unfolding put_at
   put_not h = simp (fits_not h)
+
+  -- as `copy_from_slice` puts them
+  pub put_copied : {n k : ℕ} {l : List ℕ} → n ≡ length bytes → k ≡ n → at + length bytes ≤ length b → l ≡ bytes → put_mid at k b l ≡ put_at bytes at b
+  unfolding put_at
+  put_copied {n} {k} {l} e i h w = simp (fits h, w, i, e, drop-drop, append_assoc)
 
 -- room for n bytes at an offset, as the code tests it
 module _ (bytes l : List ℕ) (o : ℕ) {n : ℕ} (e : length bytes ≡ n) where
@@ -56,32 +63,19 @@ module _ (o : ℕ) (q l : List ℕ) where
 
 -- ---- numbers of four and of eight bytes
 
--- past the end
-quad_zero : (s : List ℕ) (o : ℕ) → length s ≤ o → quad_at s o ≡ 0
-unfolding quad_at
-quad_zero s o h =
-    let e0 : get_or s o 0 ≡ 0 = get_or-eq_default s 0 h in
-    let e1 : get_or s (o + 1) 0 ≡ 0 = get_or-eq_default s 0 (omega arith) in
-    let e2 : get_or s (o + 2) 0 ≡ 0 = get_or-eq_default s 0 (omega arith) in
-    let e3 : get_or s (o + 3) 0 ≡ 0 = get_or-eq_default s 0 (omega arith) in
-    simp (e0, e1, e2, e3)
+-- by their bytes
+module _ (bytes s : List ℕ) (o : ℕ) {r : ℕ} where
+  pub quad_from : r ≡ from_be_bytes w32 bytes → ((i : ℕ) → i < 4 → get_or bytes i 0 ≡ get_or s (o + i) 0) → r ≡ quad_at s o
+  unfolding quad_at
+  quad_from e h =
+      let e0 : get_or bytes 0 0 ≡ get_or s o 0 = h 0 (omega arith) ∙ ap (λ (k : ℕ). get_or s k 0) (add-zero o) in
+      omega (arith, e, e0, h 1 (omega arith), h 2 (omega arith), h 3 (omega arith))
 
-pub quad_none : (s : List ℕ) (o : ℕ) → length s ≤ o → (0 ≡ quad_at s o) × (0 < 4294967296)
-quad_none s o h = (sym (quad_zero s o h), omega arith)
-
--- by its two halves
-pub word_halves : (s : List ℕ) (o : ℕ) {a b r : ℕ} → a ≡ quad_at s o → b ≡ quad_at s (o + 4) → r ≡ a * 0x100000000 + b → r ≡ word_at s o
-unfolding word_at quad_at
-word_halves s o {a} {b} {r} e h w =
-    let n1 : o + 4 + 1 ≡ o + 5 = omega arith in
-    let n2 : o + 4 + 2 ≡ o + 6 = omega arith in
-    let n3 : o + 4 + 3 ≡ o + 7 = omega arith in
-    let k : b ≡ append_byte (append_byte (append_byte (get_or s (o + 4) 0) (get_or s (o + 5) 0)) (get_or s (o + 6) 0)) (get_or s (o + 7) 0) =
-    h ∙ simp (n1, n2, n3) in
-    omega (arith, e, k, w)
-
-pub word_none : (s : List ℕ) (o : ℕ) → length s ≤ o → 0 ≡ word_at s o
-word_none s o h = word_halves s o (sym (quad_zero s o h)) (sym (quad_zero s (o + 4) (omega arith))) refl
+  pub word_from : r ≡ from_be_bytes w64 bytes → ((i : ℕ) → i < 8 → get_or bytes i 0 ≡ get_or s (o + i) 0) → r ≡ word_at s o
+  unfolding word_at
+  word_from e h =
+      let e0 : get_or bytes 0 0 ≡ get_or s o 0 = h 0 (omega arith) ∙ ap (λ (k : ℕ). get_or s k 0) (add-zero o) in
+      omega (arith, e, e0, h 1 (omega arith), h 2 (omega arith), h 3 (omega arith), h 4 (omega arith), h 5 (omega arith), h 6 (omega arith), h 7 (omega arith))
 
 -- in a list without its first b bytes
 pub word_drop : (b : ℕ) (s : List ℕ) (o : ℕ) → word_at (drop b s) o ≡ word_at s (b + o)

@@ -1,20 +1,10 @@
-use borrow.Author.Rules.{rules}
-use mathlib.Core.Path.{refl}
-use native.Mathlib.Omega.{arith}
-use Rattle.words.proofs.Zeros.{zeros_on, zeros_done}
+use Rattle.std.proofs.Common.{rules, ◌≡◌, nat_eq, bit_or, ap, ◌∙◌}
+use Rattle.std.specs.List.{fold}
+use Rattle.std.proofs.iter.runs.Made.{chains}
+use Rattle.words.proofs.Zeros.{zeros_joined}
 use Rattle.words.proofs.are_zeros.Goals as goal
-
-pub loop-i-init : goal.loop-i-init
-loop-i-init c = (refl, omega arith)
-
-pub loop-i-preserved : goal.loop-i-preserved
-loop-i-preserved c =
-    let at = c.args in
-    let loop = c.loop-i in
-    (zeros_on at.s.now loop.i loop.all (search rules) refl loop.invariant.0, omega arith)
 
 pub returns : goal.returns
 returns c =
-    let at = c.args in
-    let loop = c.loop-i in
-    zeros_done at.s.now loop.i loop.all (omega arith) loop.invariant.0
+    let e : c.fold.result ≡ fold bit_or 0 c.args.s.now = search (rules, chains) in
+    ap (λ r. nat_eq r 0) e ∙ zeros_joined c.args.s.now

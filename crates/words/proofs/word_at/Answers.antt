@@ -1,8 +1,5 @@
-use Rattle.words.proofs.Laws.{word_none, word_halves}
+use Rattle.words.proofs.Laws.{word_from}
 use Rattle.words.proofs.word_at.Goals as goal
 
-pub returns-then-s-o : goal.returns-then-s-o
-returns-then-s-o c = search word_none
-
-pub returns-else-s-o-ge8 : goal.returns-else-s-o-ge8
-returns-else-s-o-ge8 c = search word_halves
+pub returns : goal.returns
+returns c = word_from c.bytes_at.result c.args.s.now c.args.o c.from_be_bytes.ensures c.bytes_at.ensures
