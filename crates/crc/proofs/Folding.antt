@@ -1,21 +1,15 @@
--- A fold over the bytes from an offset on, and shifts one after another.
-use mathlib.Core.Path.{◌≡◌, sym, ap, ap₂, ◌∙◌}
-use mathlib.Core.List.{List}
+-- A fold over bytes, and shifts one after another.
+use mathlib.Core.Path.{◌≡◌, refl, sym, ap, ◌∙◌}
+use mathlib.Core.List.{List, [], ◌∷◌}
 use Prim.Native.Nat.{ℕ, suc, ◌+◌, ◌-◌, ◌≤◌, ◌<◌}
-use native.Mathlib.Numerals.{add-one}
 use native.Mathlib.Omega.{arith}
-use lib.ListN.{length, drop, get_or, drop_of_length-le}
-use lib.Seq.{drop-cons}
+use Rattle.std.specs.List.{fold}
 use Rattle.crc.specs.Crc.{shifted, shifts, entry_of, crc_byte, crc_from}
 
-module _ (s : List ℕ) (c₀ c i : ℕ) (f : crc_from c (drop i s) ≡ crc_from c₀ s) where
-  pub folds : {d : ℕ} → i < length s → d ≡ crc_byte c (get_or s i 0) → crc_from d (drop (i + 1) s) ≡ crc_from c₀ s
-  unfolding crc_from
-  folds h e = ap₂ crc_from e (ap (λ (j : ℕ). drop j s) (add-one i)) ∙ sym (ap (crc_from c) (drop-cons s i 0 h)) ∙ f
-
-  pub folded : length s ≤ i → c ≡ crc_from c₀ s
-  unfolding crc_from
-  folded h = sym (ap (crc_from c) (drop_of_length-le s h)) ∙ f
+pub folds : (c : ℕ) (s : List ℕ) → fold crc_byte c s ≡ crc_from c s
+unfolding crc_from
+folds c [] = refl
+folds c (b ∷ s) = folds (crc_byte c b) s
 
 -- of eight shifts of b, i are made
 module _ (b c i : ℕ) (f : shifts (8 - i) c ≡ entry_of b) where

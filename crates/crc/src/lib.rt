@@ -40,11 +40,9 @@ fn shift(c: u16) -> u16
 pub fn shifted_entry(b: u8) -> u16
     ensures { result ≡ entry_of b }
 {
-    let mut c = b as u16;
-    let mut i: u8 = 0;
-    while i < 8 {
+    let mut c = u16::from(b);
+    for _ in 0..8u8 {
         c = shift(c);
-        i += 1;
     }
     c
 }
@@ -53,30 +51,22 @@ pub fn shifted_entry(b: u8) -> u16
 pub fn entry(b: u8) -> u16
     ensures { result ≡ entry_of b }
 {
-    let i = b as usize;
-    TABLE[i]
+    TABLE[usize::from(b)]
 }
 
 // The CRC c with one byte more.
 pub fn with_byte(c: u16, b: u8) -> u16
     ensures { result ≡ crc_byte c b }
 {
-    let x = c ^ (b as u16);
-    let low = (x % 256) as u8;
-    (x >> 8) ^ entry(low)
+    let x = c ^ u16::from(b);
+    (x >> 8) ^ entry((x % 256) as u8)
 }
 
 // The CRC c with bytes more.
 pub fn with_bytes(c: u16, s: &[u8]) -> u16
     ensures { result ≡ crc_from c s.now }
 {
-    let mut next = c;
-    let mut i: usize = 0;
-    while i < s.len() {
-        next = with_byte(next, s[i]);
-        i += 1;
-    }
-    next
+    s.iter().fold(c, |next: u16, b| with_byte(next, *b))
 }
 
 pub fn of(s: &[u8]) -> u16
