@@ -31,23 +31,19 @@ module _ (limit : ℕ) where
   over [] n h = simp (lt-leb n limit h)
   over (b ∷ bs) n h = further n b bs (over bs (n * 10 + (b - 48)) (omega arith))
 
-  -- the loop over digits: the next byte is below or above the digits, or one of them
+  -- the loop over digits: the next byte is no digit, or one
   module _ (s : List ℕ) (i n : ℕ) {x : Number} (h : i < length s) (f : up_to limit (number_from n (drop i s)) ≡ x) where
     next : up_to limit (number_from n (get_or s i 0 ∷ drop (i + 1) s)) ≡ x
     next = rw add-one (sym (ap (λ (l : List ℕ). up_to limit (number_from n l)) (drop-cons s i 0 h)) ∙ f)
 
-    pub digits_low : get_or s i 0 < 48 → Misshapen ≡ x
+    pub digits_other : digit (get_or s i 0) ≡ false → Misshapen ≡ x
     unfolding number_from up_to
-    digits_low g = simp (lt-leb 48 (get_or s i 0) g) at next
+    digits_other g = simp g at next
 
-    pub digits_high : 57 < get_or s i 0 → Misshapen ≡ x
-    unfolding number_from up_to
-    digits_high g = let k : 48 ≤ get_or s i 0 = omega arith in simp (le-leb 48 (get_or s i 0) k, lt-leb (get_or s i 0) 57 g) at next
-
-    module _ (g : 48 ≤ get_or s i 0) (k : get_or s i 0 ≤ 57) (d : ℕ) (e : d ≡ get_or s i 0 - 48) where
+    module _ (g : digit (get_or s i 0) ≡ true) (d : ℕ) (e : d ≡ get_or s i 0 - 48) where
       pub digits_again : up_to limit (number_from (n * 10 + d) (drop (i + 1) s)) ≡ x
       unfolding number_from
-      digits_again = rw e (simp (le-leb 48 (get_or s i 0) g, le-leb (get_or s i 0) 57 k) at next)
+      digits_again = rw e (simp g at next)
 
       pub digits_over : limit < n * 10 + d → Misshapen ≡ x
       digits_over o = sym (over (drop (i + 1) s) (n * 10 + d) o) ∙ digits_again

@@ -1,39 +1,36 @@
 -- Laws of the first space.
 use mathlib.Core.Path.{◌≡◌, refl, sym, ap, ◌∙◌}
-use mathlib.Core.List.{List, ◌∷◌}
-use mathlib.Core.Bool.{Bool, true, false}
-use Prim.Native.Nat.{ℕ, suc, ◌+◌, ◌≤◌, ◌<◌}
-use native.Mathlib.Nat.{zero-add, add-zero, add-suc, suc-add}
-use native.Mathlib.Numerals.{add-one}
+use mathlib.Core.List.{List, [], ◌∷◌}
+use mathlib.Core.Bool.{Bool, true, false, cond, not}
+use Prim.Native.Nat.{ℕ, ◌+◌, ◌≤◌, ◌<◌}
 use native.Mathlib.Omega.{arith}
-use lib.ListN.{length, get_or, take, drop, drop_of_length-le, length-take, length-drop}
-use lib.Seq.{drop-cons}
-use lib.Dec.{leb}
-use borrow.Author.Tests.{eq-eqb, ne_eqb, leb-true, leb-false}
+use lib.ListN.{length, take, drop, length-take, length-drop}
+use lib.Dec.{eqb, leb, ltb}
+use borrow.Author.Tests.{leb-true, leb-false, ltb-false}
+use Rattle.std.specs.Prelude.{Option, Some, None}
+use Rattle.std.specs.Option.{unwrap_or}
+use Rattle.std.specs.List.{position, position_or_len}
+use Rattle.std.proofs.lemmas.List.Recursion.{is_position_or_len}
+use Rattle.std.proofs.lemmas.List.Sums.{prefix_len-le-length}
 use Rattle.bits.specs.declared.Maybe.TheVariants.{Nothing}
 use Rattle.lines.specs.Number.{number_of, space_in}
 use Rattle.lines.proofs.Numbers.{byte_long}
 
--- the loop that looks for a space
-pub space_first : (s : List ℕ) → 0 + space_in (drop 0 s) ≡ space_in s
-space_first s = zero-add (space_in s)
+-- the first space, as `position` finds it
+pub space_found : (s : List ℕ) {r : Option ℕ} → r ≡ position (λ b. eqb b 32) s → unwrap_or r (length s) ≡ space_in s
+unfolding space_in
+space_found s {r} e = ap (λ (q : Option ℕ). unwrap_or q (length s)) e ∙ go (ltb (position_or_len (λ b. eqb b 32) s) (length s)) refl ∙ sym (is_position_or_len space_in (λ b. eqb b 32) first next s)
+  where
+    first : space_in [] ≡ 0
+    first = refl
 
-module _ (s : List ℕ) (i : ℕ) {x : ℕ} (f : i + space_in (drop i s) ≡ x) where
-  pub space_done : length s ≤ i → i ≡ x
-  unfolding space_in
-  space_done h = simp (drop_of_length-le s h, add-zero) at f
+    next : (b : ℕ) (bs : List ℕ) → space_in (b ∷ bs) ≡ cond (eqb b 32) 0 (1 + space_in bs)
+    next b bs = ap (cond (eqb b 32) 0) (omega arith)
 
-  module _ (h : i < length s) where
-    look : i + space_in (get_or s i 0 ∷ drop (suc i) s) ≡ x
-    look = sym (ap (λ (l : List ℕ). i + space_in l) (drop-cons s i 0 h)) ∙ f
-
-    pub space_here : get_or s i 0 ≡ 32 → i ≡ x
-    unfolding space_in
-    space_here e = simp (eq-eqb _ _ e, add-zero) at look
-
-    pub space_again : (get_or s i 0 ≡ 32 → ⊥) → i + 1 + space_in (drop (i + 1) s) ≡ x
-    unfolding space_in
-    space_again e = rw (add-one, suc-add) (rw add-suc at (simp (ne_eqb _ _ e) at look))
+    go : (t : Bool) → ltb (position_or_len (λ b. eqb b 32) s) (length s) ≡ t
+        → unwrap_or (cond t (Some (position_or_len (λ b. eqb b 32) s)) None) (length s) ≡ position_or_len (λ b. eqb b 32) s
+    go true g = refl
+    go false g = let f = ltb-false _ _ g in let k = prefix_len-le-length (λ b. not (eqb b 32)) s in omega arith
 
 -- of more than k + 4 bytes more than k stand behind the first space, or what stands before it is too long for a number
 pub around : (bs : List ℕ) (k : ℕ) {P : Type 0} → k + 4 < length bs → (number_of (take (space_in bs) bs) ≡ Nothing → P) → (k < length (drop (space_in bs + 1) bs) → P) → P

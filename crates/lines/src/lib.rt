@@ -58,22 +58,16 @@ pub fn has_byte(p: Partial) -> bool
 fn digits_of(s: &[u8], limit: u16) -> Number
     ensures { result ≡ up_to limit (number_from 0 s.now) }
 {
-    let most = limit as usize;
+    let most = usize::from(limit);
     let mut n: usize = 0;
-    let mut i: usize = 0;
-    while i < s.len() {
-        let b = s[i];
-        if b < b'0' {
+    for b in s {
+        if !b.is_ascii_digit() {
             return Number::Misshapen;
         }
-        if b'9' < b {
-            return Number::Misshapen;
-        }
-        n = n * 10 + words::wide(b - b'0');
+        n = n * 10 + usize::from(*b - b'0');
         if most < n {
             return Number::Misshapen;
         }
-        i += 1;
     }
     Number::Value(n as u16)
 }
@@ -109,14 +103,7 @@ pub fn number_of(s: &[u8]) -> Maybe
 pub fn space_in(s: &[u8]) -> usize
     ensures { result ≡ space_in s.now }
 {
-    let mut i: usize = 0;
-    while i < s.len() {
-        if s[i] == b' ' {
-            return i;
-        }
-        i += 1;
-    }
-    i
+    s.iter().position(|b| *b == b' ').unwrap_or(s.len())
 }
 
 // The last hexadecimal digit of a number.

@@ -1,22 +1,23 @@
-use mathlib.Core.Path.{refl}
-use borrow.Author.Rules.{rules}
-use Rattle.lines.proofs.Numbers.{digits_low, digits_high, digits_over, digits_again, digits_done}
+use Rattle.std.proofs.Common.{sym, ◌∙◌, arith}
+use Rattle.lines.proofs.Numbers.{digits_other, digits_over, digits_again, digits_done}
 use Rattle.lines.proofs.digits_of.Goals as goal
 
-pub loop-i-init : goal.loop-i-init
-loop-i-init c = (search rules, refl)
-
-pub returns-then-b-lt48 : goal.returns-then-b-lt48
-returns-then-b-lt48 c = search digits_low
-
-pub returns-then-b-gt57 : goal.returns-then-b-gt57
-returns-then-b-gt57 c = search digits_high
+pub returns-then-not-is_ascii_digit : goal.returns-then-not-is_ascii_digit
+returns-then-not-is_ascii_digit c =
+    let l = c.loop-b in
+    digits_other c.args.limit c.args.s.now l.b-index l.n c.loop-b-test.true l.invariant.1 (sym c.is_ascii_digit.ensures.value ∙ c.if-not-is_ascii_digit.true)
 
 pub returns-then-most-n : goal.returns-then-most-n
-returns-then-most-n c = search digits_over
+returns-then-most-n c =
+    let l = c.loop-b in
+    digits_over c.args.limit c.args.s.now l.b-index l.n c.loop-b-test.true l.invariant.1 (sym c.is_ascii_digit.ensures.value ∙ c.if-not-is_ascii_digit.false) c.from.result c.from.ensures (omega arith)
 
-pub loop-i-preserved : goal.loop-i-preserved
-loop-i-preserved c = (search rules, search digits_again)
+pub loop-b-preserved : goal.loop-b-preserved
+loop-b-preserved c =
+    let l = c.loop-b in
+    (omega arith, digits_again c.args.limit c.args.s.now l.b-index l.n c.loop-b-test.true l.invariant.1 (sym c.is_ascii_digit.ensures.value ∙ c.if-not-is_ascii_digit.false) c.from.result c.from.ensures)
 
 pub returns : goal.returns
-returns c = search digits_done
+returns c =
+    let l = c.loop-b in
+    digits_done c.args.limit c.args.s.now l.b-index l.n c.loop-b-test.false l.invariant.0 l.invariant.1

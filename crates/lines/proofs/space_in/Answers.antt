@@ -1,14 +1,10 @@
-use Rattle.lines.proofs.Spaces.{space_first, space_here, space_again, space_done}
+use Rattle.std.proofs.Common.{rules, tests, eqb, ◌∙◌}
+use Rattle.std.proofs.lemmas.Iterator.{YieldsList-from_slice}
+use Rattle.std.proofs.lemmas.Iterator.Search.{position_from_yields_List}
+use Rattle.lines.proofs.Spaces.{space_found}
 use Rattle.lines.proofs.space_in.Goals as goal
 
-pub loop-i-init : goal.loop-i-init
-loop-i-init c = search space_first
-
-pub returns-then-s-i-eq32 : goal.returns-then-s-i-eq32
-returns-then-s-i-eq32 c = search space_here
-
-pub loop-i-preserved : goal.loop-i-preserved
-loop-i-preserved c = search space_again
-
 pub returns : goal.returns
-returns c = search space_done
+returns c =
+    let e = position_from_yields_List (λ b. eqb b 32) _ _ c.position.result c.position.ensures.ran (YieldsList-from_slice _ c.iter.ensures.rest) (λ x b q k. search (rules, tests)) in
+    c.unwrap_or.ensures ∙ space_found c.args.s.now e
