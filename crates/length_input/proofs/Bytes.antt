@@ -1,9 +1,10 @@
 -- One byte more, as the code takes it.
-use Prim.Native.Nat.{ℕ, ◌+◌, ◌*◌, ◌-◌, ◌^◌, ◌≤◌, ◌<◌}
-use mathlib.Core.Path.{◌≡◌, sym, ap, ◌∙◌}
-use mathlib.Core.Bool.{true, false}
+use Prim.Native.Nat.{ℕ, min, ◌+◌, ◌*◌, ◌-◌, ◌^◌, ◌≤◌, ◌<◌}
+use mathlib.Core.Path.{◌≡◌, refl, ap, ◌∙◌}
+use mathlib.Core.Bool.{Bool, true, false, cond}
 use native.Mathlib.Omega.{arith}
-use borrow.Author.Tests.{lt-ltb, le-ltb, le-leb, lt-leb, eq-eqb, ne_eqb}
+use lib.Dec.{ltb}
+use borrow.Author.Tests.{lt-ltb, le-ltb, ltb-true, ltb-false, le-leb, lt-leb, eq-eqb, ne_eqb}
 use Rattle.lines.specs.Number.{digit}
 use Rattle.length_input.specs.declared.Input.{Input}
 use Rattle.length_input.specs.declared.Input.TheVariants.{Empty, Digits, Ended, Misshapen}
@@ -21,14 +22,13 @@ pub capped_high : (x : ℕ) → 2 ^ 64 ≤ x → capped x ≡ 184467440737095516
 unfolding capped
 capped_high x h = simp (le-ltb x (2 ^ 64) h)
 
-pub digit_over : (n d : ℕ) → 1844674407370955161 < n → 18446744073709551615 ≡ capped (n * 10 + d)
-digit_over n d h = sym (capped_high (n * 10 + d) (omega arith))
-
-pub digit_full : (n d : ℕ) → n ≤ 1844674407370955161 → 18446744073709551615 - n * 10 < d → 18446744073709551615 ≡ capped (n * 10 + d)
-digit_full n d h k = sym (capped_high (n * 10 + d) (omega arith))
-
-pub digit_fits : (n d : ℕ) → n ≤ 1844674407370955161 → d ≤ 18446744073709551615 - n * 10 → n * 10 + d ≡ capped (n * 10 + d)
-digit_fits n d h k = sym (capped_low (n * 10 + d) (omega arith))
+pub capped_is : (x : ℕ) → min x 18446744073709551615 ≡ capped x
+unfolding capped
+capped_is x = go (ltb x (2 ^ 64)) refl
+  where
+    go : (t : Bool) → ltb x (2 ^ 64) ≡ t → min x 18446744073709551615 ≡ cond t x 18446744073709551615
+    go true e = let h = ltb-true x (2 ^ 64) e in omega arith
+    go false e = let h = ltb-false x (2 ^ 64) e in omega arith
 
 -- ---- digits
 
@@ -47,15 +47,9 @@ module _ (b : ℕ) where
   unfolding first_byte
   first_none e = simp e
 
-  pub first_low : b < 48 → Misshapen ≡ first_byte b
-  first_low h = first_none (digit_low h)
-
-  pub first_high : 57 < b → Misshapen ≡ first_byte b
-  first_high h = first_none (digit_high h)
-
-  pub first_digit : {d : ℕ} → 48 ≤ b → b ≤ 57 → d ≡ b - 48 → Digits d ≡ first_byte b
+  pub first_digit : {d : ℕ} → digit b ≡ true → d ≡ b - 48 → Digits d ≡ first_byte b
   unfolding first_byte
-  first_digit h k e = simp (is_digit h k) (ap Digits e)
+  first_digit h e = simp h (ap Digits e)
 
   -- and a later one
   module _ (n : ℕ) where
@@ -73,15 +67,9 @@ module _ (b : ℕ) where
         unfolding next_byte
         next_none e = simp (ne_eqb b 10 f, ne_eqb n 0 z, e)
 
-        pub next_low : b < 48 → Misshapen ≡ next_byte n b
-        next_low h = next_none (digit_low h)
-
-        pub next_high : 57 < b → Misshapen ≡ next_byte n b
-        next_high h = next_none (digit_high h)
-
-        pub next_digit : {d m : ℕ} → 48 ≤ b → b ≤ 57 → d ≡ b - 48 → m ≡ capped (n * 10 + d) → Digits m ≡ next_byte n b
+        pub next_digit : {d m : ℕ} → digit b ≡ true → d ≡ b - 48 → m ≡ capped (n * 10 + d) → Digits m ≡ next_byte n b
         unfolding next_byte
-        next_digit h k e g = simp (ne_eqb b 10 f, ne_eqb n 0 z, is_digit h k) (ap Digits (g ∙ ap (λ (y : ℕ). capped (n * 10 + y)) e))
+        next_digit h e g = simp (ne_eqb b 10 f, ne_eqb n 0 z, h) (ap Digits (g ∙ ap (λ (y : ℕ). capped (n * 10 + y)) e))
 
 -- ---- the length
 

@@ -3,10 +3,8 @@ use Prim.Native.Nat.{ℕ, ◌+◌, ◌*◌, ◌-◌, ◌^◌, ◌≤◌, ◌<◌
 use mathlib.Core.Path.{◌≡◌, refl, sym, ap, ◌∙◌}
 use mathlib.Core.Bool.{Bool, true, false, cond}
 use mathlib.Core.List.{List, [], ◌∷◌}
-use native.Mathlib.Numerals.{add-one}
 use native.Mathlib.Omega.{arith}
-use lib.ListN.{length, get_or, drop, drop_of_length-le}
-use lib.Seq.{drop-cons}
+use Rattle.std.specs.List.{fold}
 use lib.Dec.{eqb, leb, ltb}
 use borrow.Author.Tests.{ltb-true, ltb-false, leb-true, leb-false, eqb-true, eqb-false, eq-eqb, ne_eqb}
 use Rattle.lines.specs.Number.{digit, begins, number_from}
@@ -23,15 +21,11 @@ unfolding with_bytes
 in_pieces i [] cs = refl
 in_pieces i (b ∷ bs) cs = in_pieces (with_byte i b) bs cs
 
--- a loop over a piece
-module _ (s : List ℕ) (k : ℕ) (i : Input) {x : Input} (e : with_bytes i (drop k s) ≡ x) where
-  pub piece_on : {j : Input} → k < length s → j ≡ with_byte i (get_or s k 0) → with_bytes j (drop (k + 1) s) ≡ x
-  unfolding with_bytes
-  piece_on h f = rw (f, add-one) (sym (ap (with_bytes i) (drop-cons s k 0 h)) ∙ e)
-
-  pub piece_done : length s ≤ k → i ≡ x
-  unfolding with_bytes
-  piece_done h = sym (ap (with_bytes i) (drop_of_length-le s h)) ∙ e
+-- a fold over a piece
+pub piece : (i : Input) (s : List ℕ) → fold with_byte i s ≡ with_bytes i s
+unfolding with_bytes
+piece i [] = refl
+piece i (b ∷ s) = piece (with_byte i b) s
 
 -- a byte is a digit, or not
 by_digit : (b : ℕ) {P : Type 0} → (48 ≤ b → b ≤ 57 → P) → (digit b ≡ false → P) → P
@@ -112,7 +106,7 @@ behind_other v b bs ih h n = by_digit b one none
   where
     one : 48 ≤ b → b ≤ 57 → reads (next_byte (capped v) b) bs ≡ length_by (number_from v (b ∷ line_in bs))
     one p q =
-        ap (λ (i : Input). reads i bs) (sym (next_digit b (capped v) n (capped_some v h) p q refl refl) ∙ ap Digits (capped_on v (b - 48)))
+        ap (λ (i : Input). reads i bs) (sym (next_digit b (capped v) n (capped_some v h) (is_digit b p q) refl refl) ∙ ap Digits (capped_on v (b - 48)))
         ∙ ih (v * 10 + (b - 48)) (omega arith) ∙ sym (by_one v b (line_in bs) p q)
 
     none : digit b ≡ false → reads (next_byte (capped v) b) bs ≡ length_by (number_from v (b ∷ line_in bs))
@@ -178,7 +172,7 @@ first b bs = by_digit b one (λ e. ap (λ (i : Input). reads i bs) (sym (first_n
   where
     one : 48 ≤ b → b ≤ 57 → reads (first_byte b) bs ≡ length_begun (line_in (b ∷ bs))
     one h k =
-        ap (λ (i : Input). reads i bs) (sym (first_digit b h k refl))
+        ap (λ (i : Input). reads i bs) (sym (first_digit b (is_digit b h k) refl))
         ∙ by_equal b 48 (λ e. ap (λ (x : ℕ). reads (Digits (x - 48)) bs) e ∙ alone bs ∙ sym (ap (λ (x : ℕ). length_begun (x ∷ line_in bs)) e)) (digit_first b bs h k)
         ∙ sym (ap length_begun (kept b bs (λ e. omega arith)))
 

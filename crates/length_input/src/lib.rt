@@ -2,7 +2,7 @@
 // input is, specs/Input.antt what is kept of it on the way.
 #![tactic(auto)]
 
-ghost use Rattle.std.specs.Prelude.{◌≡◌, ◌+◌, ◌*◌, ◌<◌};
+ghost use Rattle.std.specs.Prelude.{◌≡◌, ◌+◌, ◌*◌};
 ghost use Rattle.length_input.specs.Length.{capped};
 ghost use Rattle.length_input.specs.Input.{begun, first_byte, next_byte, with_byte, with_bytes, LengthAs};
 
@@ -30,36 +30,21 @@ pub fn begun() -> Input
     Input::Empty
 }
 
-fn long(b: u8) -> u64
-    ensures { (result ≡ b) × (result < 256) }
-{
-    b as u64
-}
-
 // A number with one digit more.
 fn with_digit(n: u64, d: u64) -> u64
     ensures { result ≡ capped (n * 10 + d) }
 {
-    if u64::MAX / 10 < n {
-        return u64::MAX;
-    }
-    if u64::MAX - n * 10 < d {
-        u64::MAX
-    } else {
-        n * 10 + d
-    }
+    n.saturating_mul(10).saturating_add(d)
 }
 
 fn first_byte(b: u8) -> Input
     ensures { result ≡ first_byte b }
 {
-    if b < b'0' {
-        return Input::Misshapen;
+    if b.is_ascii_digit() {
+        Input::Digits(u64::from(b - b'0'))
+    } else {
+        Input::Misshapen
     }
-    if b'9' < b {
-        return Input::Misshapen;
-    }
-    Input::Digits(long(b - b'0'))
 }
 
 // A byte behind the digits of n.
@@ -72,13 +57,11 @@ fn next_byte(n: u64, b: u8) -> Input
     if n == 0 {
         return Input::Misshapen;
     }
-    if b < b'0' {
-        return Input::Misshapen;
+    if b.is_ascii_digit() {
+        Input::Digits(with_digit(n, u64::from(b - b'0')))
+    } else {
+        Input::Misshapen
     }
-    if b'9' < b {
-        return Input::Misshapen;
-    }
-    Input::Digits(with_digit(n, long(b - b'0')))
 }
 
 // The input with one byte more.
@@ -98,10 +81,8 @@ pub fn with_bytes(i: Input, s: &[u8]) -> Input
     ensures { result ≡ with_bytes i s.now }
 {
     let mut longer = i;
-    let mut k: usize = 0;
-    while k < s.len() {
-        longer = with_byte(longer, s[k]);
-        k += 1;
+    for b in s {
+        longer = with_byte(longer, *b);
     }
     longer
 }

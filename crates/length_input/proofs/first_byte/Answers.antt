@@ -1,12 +1,9 @@
-use borrow.Author.Rules.{rules}
-use Rattle.length_input.proofs.Bytes.{first_low, first_high, first_digit}
+use Rattle.std.proofs.Common.{sym, ◌∙◌}
+use Rattle.length_input.proofs.Bytes.{first_digit, first_none}
 use Rattle.length_input.proofs.first_byte.Goals as goal
 
-pub returns-then-b-lt48 : goal.returns-then-b-lt48
-returns-then-b-lt48 c = search (first_low, rules)
+pub returns-then-is_ascii_digit : goal.returns-then-is_ascii_digit
+returns-then-is_ascii_digit c = first_digit c.args.b (sym c.is_ascii_digit.ensures.value ∙ c.if-is_ascii_digit.true) c.from.ensures
 
-pub returns-then-b-gt57 : goal.returns-then-b-gt57
-returns-then-b-gt57 c = search (first_high, rules)
-
-pub returns : goal.returns
-returns c = search (first_digit, rules)
+pub returns-else-is_ascii_digit : goal.returns-else-is_ascii_digit
+returns-else-is_ascii_digit c = first_none c.args.b (sym c.is_ascii_digit.ensures.value ∙ c.if-is_ascii_digit.false)

@@ -1,14 +1,8 @@
-use mathlib.Core.Path.{refl}
-use Prim.Native.Nat.{◌-◌}
-use borrow.Author.Rules.{rules}
-use Rattle.length_input.proofs.Taking.{piece_on, piece_done}
+use Rattle.std.proofs.Common.{◌∙◌, ap, take_all}
+use Rattle.std.specs.List.{fold}
+use Rattle.length_input.specs.Input.{with_byte}
+use Rattle.length_input.proofs.Taking.{piece}
 use Rattle.length_input.proofs.with_bytes.Goals as goal
 
-pub loop-k-init : goal.loop-k-init
-loop-k-init c = refl
-
-pub loop-k-preserved : goal.loop-k-preserved
-loop-k-preserved c = search (piece_on, rules)
-
 pub returns : goal.returns
-returns c = search (piece_done, rules)
+returns c = c.loop-b.invariant ∙ ap (fold with_byte c.args.i) (take_all _ c.args.s.now c.loop-b-test.false) ∙ piece c.args.i c.args.s.now
