@@ -12,6 +12,7 @@ use lib.Dec.{ltb}
 use mir.Syntax.{w8, w64}
 use mir.Val.{Fits}
 use borrow.Author.Tests.{lt-ltb, le-ltb}
+use Rattle.std.specs.List.{fold}
 use Rattle.lines.specs.Hex.{hex_digit}
 use Rattle.texts.specs.declared.Text.{Text}
 use Rattle.texts.specs.Ascii.{digits, decimal}
@@ -24,14 +25,18 @@ unfolding appended
 appended_append t [] bs = refl
 appended_append t (a ∷ xs) bs = appended_append (pushed t a) xs bs
 
--- a loop over the rest of a slice
-pub push_again : (s : List ℕ) (i : ℕ) (t : Text) {r x : Text} → i < length s → r ≡ pushed t (get_or s i 0) → appended t (drop i s) ≡ x → appended r (drop (i + 1) s) ≡ x
+-- bytes pushed one after the other
+pub pushed_all : (t : Text) (s : List ℕ) → fold pushed t s ≡ appended t s
 unfolding appended
-push_again s i t h e f = rw (e, add-one) (sym (ap (appended t) (drop-cons s i 0 h)) ∙ f)
+pushed_all t [] = refl
+pushed_all t (b ∷ s) = pushed_all (pushed t b) s
 
-pub push_done : (s : List ℕ) {i : ℕ} {t x : Text} → length s ≤ i → appended t (drop i s) ≡ x → t ≡ x
-unfolding appended
-push_done s {i} {t} h f = sym (ap (appended t) (drop_of_length-le s h)) ∙ f
+-- and what each member of a list appends
+module _ (f : ℕ → List ℕ) (all : List ℕ → List ℕ) where
+  pub appended_each : all [] ≡ [] → ((b : ℕ) (s : List ℕ) → all (b ∷ s) ≡ f b ++ all s) → (t : Text) (s : List ℕ) → fold (λ u b. appended u (f b)) t s ≡ appended t (all s)
+  unfolding appended
+  appended_each h g t [] = sym (ap (appended t) h)
+  appended_each h g t (b ∷ s) = appended_each h g (appended t (f b)) s ∙ sym (ap (appended t) (g b s) ∙ appended_append t (f b) (all s))
 
 -- a number below 10
 pub decimal_small : (n : ℕ) → n < 10 → decimal n ≡ (48 + n) ∷ []
@@ -100,6 +105,10 @@ spaced_all_short (x ∷ xs) f =
     let o = spaced_short x (f 0 (omega arith)) in
     simp length-append (omega arith)
 
+pub listed : (t : Text) (xs : List ℕ) → fold (λ u n. appended u (spaced n)) t xs ≡ appended t (spaced_all xs)
+unfolding spaced_all
+listed = appended_each spaced spaced_all refl (λ n xs. refl)
+
 -- the loops over numbers: the text t holds the first i of the numbers behind the text t₀
 pub record Listed (t₀ : Text) (xs : List ℕ) (t : Text) (i : ℕ) : Type 0 where
   pub within : i ≤ length xs
@@ -119,9 +128,6 @@ module _ {t₀ : Text} (xs : List ℕ) (t : Text) (i : ℕ) (l : Listed t₀ xs 
             ap (λ (u : Text). appended u (spaced_all (drop (i + 1) xs))) g
             ∙ sym (ap (λ (ys : List ℕ). appended t (spaced_all ys)) d ∙ appended_append t (spaced n) _) ∙ l.rest;
       }
-
-  pub slice_again : {r : Text} → i < length xs → r ≡ appended t (spaced (get_or xs i 0)) → Listed t₀ xs r (i + 1)
-  slice_again h g = listed_again (get_or xs i 0) h g refl
 
   pub listed_done : length xs ≤ i → t ≡ appended t₀ (spaced_all xs)
   unfolding appended spaced_all
@@ -184,15 +190,14 @@ module _ {t : Text} {bs : List ℕ} {k : ℕ} (s : So t bs k) {r : Text} where
   unfolding appended
   so_push b h e = so_all (b ∷ []) 1 (le_refl 1) h e
 
--- the loop over bytes
-pub hexes_again : (s : List ℕ) (i : ℕ) (t : Text) {a b : ℕ} {u r x : Text} → i < length s → a ≡ hex_digit (get_or s i 0 / 16 % 16) → u ≡ pushed t a → b ≡ hex_digit (get_or s i 0 % 16)
-    → r ≡ pushed u b → appended t (hexes (drop i s)) ≡ x → appended r (hexes (drop (i + 1) s)) ≡ x
-unfolding appended hexes hex_digits
-hexes_again s i t h p q o e f = rw (e, q, p, o, add-one) (sym (ap (λ (l : List ℕ). appended t (hexes l)) (drop-cons s i 0 h)) ∙ f)
+-- bytes by two digits each
+pub two_digits : (t : Text) (n : ℕ) {a b : ℕ} {u r : Text} → a ≡ hex_digit (n / 16 % 16) → u ≡ pushed t a → b ≡ hex_digit (n % 16) → r ≡ pushed u b → r ≡ appended t (hex_digits 2 n)
+unfolding appended hex_digits
+two_digits t n p q o e = rw (e, q, p, o)
 
-pub hexes_done : (s : List ℕ) {i : ℕ} {t x : Text} → length s ≤ i → appended t (hexes (drop i s)) ≡ x → t ≡ x
-unfolding appended hexes hex_digits
-hexes_done s {i} {t} h f = sym (ap (λ (l : List ℕ). appended t (hexes l)) (drop_of_length-le s h)) ∙ f
+pub hexed : (t : Text) (s : List ℕ) → fold (λ u b. appended u (hex_digits 2 b)) t s ≡ appended t (hexes s)
+unfolding hexes
+hexed = appended_each (hex_digits 2) hexes refl (λ b s. refl)
 
 -- one hexadecimal digit more
 pub digits_none : (t : Text) (x : ℕ) {k : ℕ} → k ≡ 0 → t ≡ appended t (hex_digits k x)

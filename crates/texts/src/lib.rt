@@ -52,10 +52,8 @@ pub fn push_all(t: Text, s: &[u8]) -> Text
     ensures { result ≡ appended t s.now }
 {
     let mut next = t;
-    let mut i: usize = 0;
-    while i < s.len() {
-        next = push(next, s[i]);
-        i += 1;
+    for b in s {
+        next = push(next, *b);
     }
     next
 }
@@ -90,7 +88,7 @@ pub fn push_spaced(t: Text, n: usize) -> Text
 pub fn push_field(t: Text, n: u8) -> Text
     ensures { result ≡ appended t (spaced n) }
 {
-    push_spaced(t, words::wide(n))
+    push_spaced(t, usize::from(n))
 }
 
 // The text with the numbers of a slice behind it, each with its space.
@@ -98,10 +96,8 @@ pub fn push_numbers(t: Text, s: &[u8]) -> Text
     ensures { result ≡ appended t (spaced_all s.now) }
 {
     let mut next = t;
-    let mut i: usize = 0;
-    while i < s.len() {
-        next = push_field(next, s[i]);
-        i += 1;
+    for n in s {
+        next = push_field(next, *n);
     }
     next
 }
@@ -123,11 +119,8 @@ pub fn push_hexes(t: Text, s: &[u8]) -> Text
     ensures { result ≡ appended t (hexes s.now) }
 {
     let mut next = t;
-    let mut i: usize = 0;
-    while i < s.len() {
-        let b = s[i];
-        next = push(push(next, lines::hex_digit(b / 16)), lines::hex_digit(b));
-        i += 1;
+    for b in s {
+        next = push(push(next, lines::hex_digit(*b / 16)), lines::hex_digit(*b));
     }
     next
 }

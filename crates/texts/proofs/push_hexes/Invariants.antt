@@ -1,12 +1,8 @@
-use mathlib.Core.Path.{◌≡◌}
-use Prim.Native.Nat.{◌-◌}
-use lib.ListN.{length, drop}
+use Rattle.std.proofs.Common.{◌≡◌, take}
+use Rattle.std.specs.List.{fold}
+use Rattle.texts.specs.Digits.{hex_digits}
 use Rattle.texts.specs.Text.{appended}
-use Rattle.texts.specs.Digits.{hexes}
 use Rattle.texts.proofs.push_hexes.Given as goal
 
-abbrev pub invariant-loop-i : goal.invariant-loop-i
-invariant-loop-i l = appended l.next (hexes (drop l.i l.s)) ≡ appended l.initial.next (hexes l.s)
-
-abbrev pub decreases-loop-i : goal.decreases-loop-i
-decreases-loop-i l = length l.s - l.i
+abbrev pub invariant-loop-b : goal.invariant-loop-b
+invariant-loop-b l = l.next ≡ fold (λ u b. appended u (hex_digits 2 b)) l.initial.next (take l.b-index l.s)

@@ -1,10 +1,8 @@
-use Prim.Native.Nat.{◌-◌}
-use lib.ListN.{length}
-use Rattle.texts.proofs.Texts.{Listed}
+use Rattle.std.proofs.Common.{◌≡◌, take}
+use Rattle.std.specs.List.{fold}
+use Rattle.texts.specs.Numbers.{spaced}
+use Rattle.texts.specs.Text.{appended}
 use Rattle.texts.proofs.push_numbers.Given as goal
 
-abbrev pub invariant-loop-i : goal.invariant-loop-i
-invariant-loop-i l = Listed l.initial.next l.s l.next l.i
-
-abbrev pub decreases-loop-i : goal.decreases-loop-i
-decreases-loop-i l = length l.s - l.i
+abbrev pub invariant-loop-n : goal.invariant-loop-n
+invariant-loop-n l = l.next ≡ fold (λ u n. appended u (spaced n)) l.initial.next (take l.n-index l.s)
