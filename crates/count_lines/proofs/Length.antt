@@ -5,7 +5,7 @@ use mathlib.Core.List.{List, [], ◌∷◌, ◌++◌}
 use mathlib.Core.Bool.{Bool, true, false, cond}
 use native.Mathlib.Nat.{le_refl, zero-add}
 use native.Mathlib.Omega.{arith}
-use lib.ListN.{length, get_or, drop, length-append, drop_of_length-le, get_or-eq_default}
+use lib.ListN.{length, get_or, drop, length-append, drop_of_length-le}
 use lib.Seq.{drop-cons}
 use lib.Dec.{ltb}
 use mir.Syntax.{w64}
@@ -89,10 +89,6 @@ module _ (counts numbers : List ℕ) where
 
   pub order_at : (j : ℕ) {x : ℕ} → j < length numbers → x ≡ get_or counts (get_or numbers j 0) 0 → x ≡ get_or (by_numbers counts numbers) j 0
   order_at j h e = e ∙ ap (λ (i : ℕ). get_or counts (get_or numbers i 0) 0) (sym (zero-add j)) ∙ sym (from_at (λ i. get_or counts (get_or numbers i 0) 0) 0 (length numbers) j 0 h)
-
--- one that is missing
-pub missing : (l : List ℕ) {i j : ℕ} → i ≡ j → length l ≤ i → 0 ≡ get_or l j 0
-missing l e h = sym (ap (λ (k : ℕ). get_or l k 0) (sym e) ∙ get_or-eq_default l 0 h)
 
 -- ---- the loop over the counts: what is left of the room
 

@@ -21,29 +21,23 @@ enum Measured {
     TooLong,
 }
 
-fn wide16(x: u16) -> usize
-    ensures { result ≡ x }
-{
-    x as usize
-}
-
 // The count that the number at an index says; one that is missing is 0.
 fn count_at(counts: &[u64], numbers: &[u16], j: usize) -> u64
     requires { j < length numbers.now }
     ensures { result ≡ get_or counts.now (get_or numbers.now j 0) 0 }
 {
-    let i = wide16(numbers[j]);
-    if i < counts.len() { counts[i] } else { 0 }
+    counts.get(usize::from(numbers[j])).copied().unwrap_or(0)
 }
 
-// How many bytes a number's line has: its last digit and the line feed, and the digits before.
+// How many bytes a number's line has: its last digit and the line feed, and the digits before. The digits themselves end this loop and that of
+// `put_line`, so a range would only say their number a second time.
 fn line_length(x: u64) -> usize
     ensures { result ≡ length (number_line x) }
 {
     let mut rest = x;
     let mut n: usize = 2;
     while 10 <= rest {
-        rest = rest / 10;
+        rest /= 10;
         n += 1;
     }
     n
@@ -58,14 +52,12 @@ fn measure(counts: &[u64], numbers: &[u16], sum: u64, room: usize) -> Measured
         return Measured::TooLong;
     }
     let mut left = room - last;
-    let mut j: usize = 0;
-    while j < numbers.len() {
+    for j in 0..numbers.len() {
         let n = line_length(count_at(counts, numbers, j));
         if left < n {
             return Measured::TooLong;
         }
         left -= n;
-        j += 1;
     }
     Measured::Is(room - left)
 }
@@ -81,7 +73,7 @@ fn put_line(buffer: &mut [u8], end: usize, x: u64) -> usize
     while 10 <= rest {
         at -= 1;
         buffer[at] = b'0' + (rest % 10) as u8;
-        rest = rest / 10;
+        rest /= 10;
     }
     at -= 1;
     buffer[at] = b'0' + rest as u8;
@@ -94,9 +86,7 @@ fn put_text(counts: &[u64], numbers: &[u16], sum: u64, n: usize, buffer: &mut [u
     ensures { buffer.new ≡ written (lines_with_sum (by_numbers counts.now numbers.now) sum) buffer.old }
 {
     let mut at = put_line(&mut *buffer, n, sum);
-    let mut j = numbers.len();
-    while 0 < j {
-        j -= 1;
+    for j in (0..numbers.len()).rev() {
         at = put_line(&mut *buffer, at, count_at(counts, numbers, j));
     }
 }
