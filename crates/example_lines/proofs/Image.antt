@@ -1,8 +1,7 @@
 -- Laws of images: copies, and the loops that put them.
 use Rattle.std.proofs.Common.{◌≡◌, ℕ, zero, suc, ◌+◌, ◌-◌, ◌*◌, ◌%◌, ◌^◌, ◌<◌, ◌≤◌, Bool, true, false, cond, ◌||◌, eqb, leb, List, [], ◌∷◌, ◌++◌, length, get_or, take, drop, set, sym, refl, ap, ◌∙◌, subst, append_assoc, le_refl, add-one, arith, length-append, length-drop, length-set, take-append-drop, drop_of_length-le, length-take, length-take-le, get_or-drop, drop-cons, get_or-take, drop-drop, take_at, drop_at, le-ltb, lt-ltb, eq-eqb, ne_eqb, le-leb}
 use native.Mathlib.Nat.{sub-zero}
-use lib.ListN.{get_or-append}
-use lib.Seq.{paste, paste-zero, paste-suc, drop-paste, take-nil, set_out, set_split, set-append_left, drop-set-add, take-set-le}
+use lib.Seq.{paste, drop-paste, take-nil, set_out, set_split, set-append_left, drop-set-add, take-set-le}
 use borrow.Author.Tests.{lt-leb}
 use Rattle.lines.specs.Number.{space_in}
 use Rattle.example_lines.specs.Words.{word_from, digit_of, longer}
@@ -22,30 +21,6 @@ drop_more : (n r : ℕ) (a b : List ℕ) → n ≤ r → drop n a ≡ drop n b �
 drop_more n r a b h e =
     let k : n + (r - n) ≡ r = omega arith in
     sym (drop-drop (r - n) n a ∙ ap (λ (m : ℕ). drop m a) k) ∙ ap (drop (r - n)) e ∙ drop-drop (r - n) n b ∙ ap (λ (m : ℕ). drop m b) k
-
--- ---- a copy
-
-pub copy_first : (d : List ℕ) (from to : ℕ) → d ≡ paste d to (drop from d) 0
-copy_first d from to = paste-zero d to (drop from d)
-
-module _ (d : List ℕ) (from to j n : ℕ) (g : List ℕ) (is : g ≡ paste d to (drop from d) j) (count : n ≡ to - from) (inside : from ≤ to)
-    (room : to + (to - from) ≤ length d) where
-  pub copy_again : j < n → set g (to + j) (get_or g (from + j) 0) ≡ paste d to (drop from d) (j + 1)
-  copy_again h =
-      let l : length (take to d) ≡ to = length-take-le to d (omega arith) in
-      let o : from + j < length (take to d) = omega arith in
-      let q : from + j < to = omega arith in
-      let p : from + j < length (take to d ++ take j (drop from d)) = simp length-append (omega arith) in
-      let w : get_or (paste d to (drop from d) j) (from + j) 0 ≡ get_or (take to d) (from + j) 0
-      = get_or-append (take to d ++ take j (drop from d)) (drop (to + j) d) 0 (from + j) p ∙ get_or-append (take to d) (take j (drop from d)) 0 (from + j) o in
-      let v : get_or g (from + j) 0 ≡ get_or (drop from d) j 0
-      = ap (λ (w : List ℕ). get_or w (from + j) 0) is ∙ w ∙ get_or-take to d (from + j) 0 q ∙ sym (get_or-drop from d j 0) in
-      let m : to + j < length d = omega arith in
-      let k : j < length (drop from d) = simp length-drop (omega arith) in
-      rw (v, is, add-one) (paste-suc d to (drop from d) j 0 m k)
-
-  pub copy_done : n ≤ j → j ≤ n → g ≡ paste d to (drop from d) (to - from)
-  copy_done h k = let e : j ≡ to - from = omega arith in is ∙ ap (paste d to (drop from d)) e
 
 -- ---- the copy as its sign has it
 

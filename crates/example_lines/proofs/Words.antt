@@ -4,6 +4,7 @@ use borrow.Author.Tests.{lt-leb}
 use Rattle.std.specs.List.{position, position_or_len}
 use Rattle.std.specs.Prelude.{Option, Some, None, MatchOption}
 use Rattle.std.proofs.lemmas.List.Sums.{prefix_len-le-length}
+use lib.Seq.{drop-length}
 use Rattle.lines.specs.Number.{space_in}
 use Rattle.example_lines.specs.Words.{line_end, space_of, spaces_in, word_from, digit_of, longer, number_from}
 
@@ -43,9 +44,9 @@ module _ (s : List ℕ) (i n : ℕ) {x : ℕ} (f : n + spaces_in (drop i s) ≡ 
   spaces_again h e = rw (e, add-one, add_assoc) (rw (drop-cons s i 0 h) at f)
 
 module _ (s : List ℕ) (i k : ℕ) {x : List ℕ} (f : word_from k (drop i s) ≡ x) where
-  pub word_done : length s ≤ i → drop i s ≡ x
+  pub word_done : length s ≤ i → drop (length s) s ≡ x
   unfolding word_from
-  word_done h = rw (drop_of_length-le s h) (rw (drop_of_length-le s h) at f)
+  word_done h = rw (drop-length s) (rw (drop_of_length-le s h) at f)
 
   module _ (h : i < length s) where
     pub word_here : k ≡ 0 → drop i s ≡ x

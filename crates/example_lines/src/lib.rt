@@ -2,7 +2,6 @@
 #![tactic(auto)]
 
 ghost use Rattle.std.specs.Prelude.{◌≡◌, ◌+◌, ◌-◌, ◌*◌, ◌%◌, ◌<◌, ◌≤◌, [], ◌∷◌, ◌++◌, length, take, drop};
-ghost use Rattle.std.proofs.Math.Seq.{paste};
 ghost use Rattle.example_lines.specs.Words as Words;
 ghost use Rattle.example_lines.specs.Words.{line_end, line_at, space_of, spaces_in, word_from, letter_in, digit_of, number_from, number_in, bits_in};
 ghost use Rattle.example_lines.specs.Image.{grown, copy_of, closed, with_digit, with_byte, image_from, image_in, piece, part_of, Put, Stands, Kept};
@@ -46,10 +45,8 @@ pub fn spaces_in(s: &[u8]) -> usize
     ensures { result ≡ spaces_in s.now }
 {
     let mut n: usize = 0;
-    let mut i: usize = 0;
-    while i < s.len() {
-        n += space_of(s[i]);
-        i += 1;
+    for b in s {
+        n += space_of(*b);
     }
     n
 }
@@ -59,15 +56,13 @@ fn word_at(s: &[u8], k: usize) -> usize
     ensures { (result ≤ length s.now) × (drop result s.now ≡ word_from k s.now) }
 {
     let mut left = k;
-    let mut i: usize = 0;
-    while i < s.len() {
+    for (i, b) in s.iter().enumerate() {
         if left == 0 {
             return i;
         }
-        left -= space_of(s[i]);
-        i += 1;
+        left -= space_of(*b);
     }
-    i
+    s.len()
 }
 
 // Byte j of the word that stands behind k spaces, or 0 past the line's end.
@@ -111,14 +106,12 @@ fn number_of(s: &[u8], base: u64) -> u64
     ensures { result ≡ number_from base 0 s.now }
 {
     let mut n: u64 = 0;
-    let mut i: usize = 0;
-    while i < s.len() {
-        let d = digit_of(s[i]);
+    for b in s {
+        let d = digit_of(*b);
         if base <= d as u64 {
             return n;
         }
         n = longer(base, n, d);
-        i += 1;
     }
     n
 }
@@ -158,19 +151,6 @@ struct Piece {
     high: u8,
 }
 
-// The bytes from `from` to `to` once more, behind them.
-fn copy_behind(img: &mut [u8], from: usize, to: usize)
-    requires { (from ≤ to) × (to + (to - from) ≤ length img.old) }
-    ensures { img.new ≡ paste img.old to (drop from img.old) (to - from) }
-{
-    let n = to - from;
-    let mut j: usize = 0;
-    while j < n {
-        img[to + j] = img[from + j];
-        j += 1;
-    }
-}
-
 // The copy from `at` to `end`, as its sign has it.
 fn raise(img: &mut [u8], at: usize, end: usize, sign: u8)
     requires { (at ≤ end) × (end ≤ length img.old) }
@@ -192,7 +172,7 @@ fn again(img: &mut [u8], from: usize, to: usize, sign: u8) -> usize
         return to;
     }
     let end = to + (to - from);
-    copy_behind(&mut *img, from, to);
+    img.copy_within(from..to, to);
     raise(&mut *img, to, end, sign);
     end
 }
@@ -204,12 +184,10 @@ fn repeat(img: &mut [u8], p: Piece) -> usize
 {
     let mut from = p.start;
     let mut to = p.n;
-    let mut k: u64 = 1;
-    while k < p.copies {
+    for _ in 1..p.copies {
         let next = again(&mut *img, from, to, p.sign);
         from = to;
         to = next;
-        k += 1;
     }
     to
 }
@@ -283,10 +261,8 @@ fn image_of(img: &mut [u8], word: &[u8]) -> usize
         copies: 0,
         high: 16,
     };
-    let mut i: usize = 0;
-    while i < word.len() {
-        p = with_byte(&mut *img, p, word[i]);
-        i += 1;
+    for b in word {
+        p = with_byte(&mut *img, p, *b);
     }
     repeat(&mut *img, p)
 }

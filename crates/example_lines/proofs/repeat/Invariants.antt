@@ -3,8 +3,5 @@ use Rattle.example_lines.specs.Image.{closed, part_of}
 use Rattle.example_lines.proofs.Image.{Going}
 use Rattle.example_lines.proofs.repeat.Given as goal
 
-abbrev pub invariant-loop-k : goal.invariant-loop-k
-invariant-loop-k l = Going l.initial.img l.p.sign (l.p.copies - l.k) (closed (length l.initial.img) (part_of l.p l.initial.img)) l.img l.from l.to
-
-abbrev pub decreases-loop-k : goal.decreases-loop-k
-decreases-loop-k l = l.p.copies - l.k
+abbrev pub invariant-loop : goal.invariant-loop
+invariant-loop l = Going l.initial.img l.p.sign (l.p.copies - l.counter) (closed (length l.initial.img) (part_of l.p l.initial.img)) l.img l.from l.to

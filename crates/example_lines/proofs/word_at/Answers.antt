@@ -1,4 +1,4 @@
-use Rattle.std.proofs.Common.{◌-◌, refl, rules}
+use Rattle.std.proofs.Common.{refl, rules}
 use Rattle.example_lines.proofs.Words.{word_here, word_again, word_done}
 use Rattle.example_lines.proofs.word_at.Goals as goal
 
