@@ -73,7 +73,7 @@ pub fn letter_in(s: &[u8], k: usize, j: usize) -> u8
     words::byte_at(&s[at..], j)
 }
 
-// The value of a hexadecimal digit, or 16.
+// The value of a hexadecimal digit, or 16. By hand, since `char::to_digit` takes small letters too, which the lines do not have.
 fn digit_of(b: u8) -> u8
     ensures { result ≡ digit_of b }
 {
