@@ -205,8 +205,9 @@ fn precedes_at(image: &[u8], run: Run, key: RecordKey, i: usize) -> bool
 // Of the records of a run, in the order of keys, the number of the first that does not precede a key.
 fn halve(image: &[u8], run: Run, key: RecordKey) -> usize
     requires { Inside image.now run key.kind × (keyed key.kind ≡ true) }
-    ensures { result ≡ halved (before image.now run key) run.count 0 run.count }
+    ensures { (result ≡ halved (before image.now run key) run.count 0 run.count) × (result ≤ run.count) }
 {
+    // The records stand as bytes of a size that only their kind tells, so that there is no slice of keys for partition_point to halve.
     let mut lo: usize = 0;
     let mut hi = run.count;
     while lo < hi {
@@ -222,18 +223,15 @@ fn halve(image: &[u8], run: Run, key: RecordKey) -> usize
 
 // The same from a record on, one after the other.
 fn go_on(image: &[u8], run: Run, key: RecordKey, from: usize) -> usize
-    requires { Inside image.now run key.kind × (keyed key.kind ≡ true) }
+    requires { Inside image.now run key.kind × (keyed key.kind ≡ true) × (from ≤ run.count) }
     ensures { result ≡ onward (before image.now run key) (run.count - from) from }
 {
-    let mut i = from;
-    while i < run.count {
-        if precedes_at(image, run, key, i) {
-            i += 1;
-        } else {
+    for i in from..run.count {
+        if !precedes_at(image, run, key, i) {
             return i;
         }
     }
-    i
+    run.count
 }
 
 // The place of the record with a key of several numbers among those of its kind.
@@ -417,8 +415,7 @@ pub fn moves_of(image: &[u8], p: Places, owner: u8, from: u8) -> u64
     let mut floor = records::rank(least);
     let most = floor + 255;
     let mut mask: u64 = 0;
-    let mut i = halve(image, run, least);
-    while i < run.count {
+    for i in halve(image, run, least)..run.count {
         let at = body_at(image, run, 0x13, i);
         let key = key_in(image, 0x13, at);
         let rank = records::rank(key);
@@ -428,9 +425,6 @@ pub fn moves_of(image: &[u8], p: Places, owner: u8, from: u8) -> u64
         if floor <= rank {
             mask = bits::put(mask, key.third, true);
             floor = rank + 1;
-            i += 1;
-        } else {
-            i += 1;
         }
     }
     mask

@@ -6,6 +6,3 @@ use Rattle.places.proofs.go_on.Given as goal
 
 abbrev pub invariant-loop-i : goal.invariant-loop-i
 invariant-loop-i l = onward (before l.image l.run l.key) (l.run.count - l.i) l.i ≡ onward (before l.image l.run l.key) (l.run.count - l.from) l.from
-
-abbrev pub decreases-loop-i : goal.decreases-loop-i
-decreases-loop-i l = l.run.count - l.i

@@ -7,7 +7,7 @@ pub halve-first-requires : goal.halve-first-requires
 halve-first-requires c = (search inside_by, search rules)
 
 pub go_on-requires : goal.go_on-requires
-go_on-requires c = (search inside_by, search rules)
+go_on-requires c = (search inside_by, search rules, search rules)
 
 pub returns : goal.returns
 returns c = search keyed_by

@@ -1,11 +1,11 @@
 use native.Mathlib.Omega.{arith}
 use mathlib.Core.Path.{refl}
-use Prim.Native.Nat.{◌-◌}
 use borrow.Author.Rules.{rules}
 use Rattle.places.specs.Runs.{is_move, keyed}
 use Rattle.places.proofs.Counting.{inside_by}
 use Rattle.places.proofs.Keys.{key_room, move_room}
 use Rattle.places.proofs.Scanning.{moves_begin, moves_stop, moves_hit, moves_miss, moves_end}
+use Rattle.places.proofs.moves_of.Goals.{then-floor-rank, else-floor-rank}
 use Rattle.places.proofs.moves_of.Goals as goal
 
 pub keyed_run-run-requires : goal.keyed_run-run-requires
@@ -30,19 +30,20 @@ pub returns-then-most-rank : goal.returns-then-most-rank
 returns-then-most-rank c =
     moves_stop _ _ _ _ c.loop-i.invariant c.loop-i-test.true c.body_at-at.ensures c.key_in-key.ensures
     (omega arith) (omega (arith, c.key_in-key.type_inv)) (omega (arith, c.key_in-key.type_inv)) (omega arith) (omega arith) c.rank-rank.ensures _ c.keyed_run-run.ensures
-    c.halve-i.ensures c.rank-floor.ensures c.if-most-rank.true
-
-pub loop-i-preserved-then-floor-rank : goal.loop-i-preserved-then-floor-rank
-loop-i-preserved-then-floor-rank c =
-    moves_hit _ _ _ _ c.loop-i.invariant c.loop-i-test.true c.body_at-at.ensures c.key_in-key.ensures
-    (omega arith) (omega (arith, c.key_in-key.type_inv)) (omega (arith, c.key_in-key.type_inv)) (omega arith) (omega arith) c.rank-rank.ensures c.rank-floor.ensures
-    c.if-most-rank.false c.if-floor-rank.true c.put-mask.ensures
+    c.halve-i.ensures.0 c.rank-floor.ensures c.if-most-rank.true
 
 pub loop-i-preserved : goal.loop-i-preserved
 loop-i-preserved c =
-    moves_miss _ _ _ _ c.loop-i.invariant c.loop-i-test.true c.body_at-at.ensures c.key_in-key.ensures
-    (omega arith) (omega (arith, c.key_in-key.type_inv)) (omega (arith, c.key_in-key.type_inv)) (omega arith) (omega arith) c.rank-rank.ensures c.if-floor-rank.false
+    elim c.if-floor-rank.branch [
+      | then-floor-rank w ↦
+          rw (w.floor-is, w.mask-is) (moves_hit _ _ _ _ c.loop-i.invariant c.loop-i-test.true c.body_at-at.ensures c.key_in-key.ensures
+          (omega arith) (omega (arith, c.key_in-key.type_inv)) (omega (arith, c.key_in-key.type_inv)) (omega arith) (omega arith) c.rank-rank.ensures c.rank-floor.ensures
+          c.if-most-rank.false w.if-floor-rank.true w.put-mask.ensures)
+      | else-floor-rank w ↦
+          rw (w.floor-is, w.mask-is) (moves_miss _ _ _ _ c.loop-i.invariant c.loop-i-test.true c.body_at-at.ensures c.key_in-key.ensures
+          (omega arith) (omega (arith, c.key_in-key.type_inv)) (omega (arith, c.key_in-key.type_inv)) (omega arith) (omega arith) c.rank-rank.ensures w.if-floor-rank.false)
+    ]
 
 pub returns : goal.returns
 returns c =
-    moves_end _ _ _ _ _ c.loop-i.invariant c.keyed_run-run.ensures c.halve-i.ensures c.loop-i-test.false
+    moves_end _ _ _ _ _ c.loop-i.invariant c.keyed_run-run.ensures c.halve-i.ensures.0 c.loop-i-test.false
