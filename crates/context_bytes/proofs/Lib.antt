@@ -6,3 +6,4 @@ pub mod Lists
 pub mod Contexts
 pub mod Regions
 pub mod InPlace
+pub mod Made

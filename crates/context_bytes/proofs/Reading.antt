@@ -4,13 +4,12 @@ use mathlib.Core.List.{List, [], ◌∷◌, ◌++◌, append-nil}
 use Prim.Native.Nat.{ℕ, zero, suc, ◌+◌, ◌*◌, ◌≤◌, ◌<◌}
 use native.Mathlib.Nat.{zero-add}
 use native.Mathlib.Omega.{arith}
-use lib.ListN.{length, get_or, set, take, drop, replicate, length-take, length-drop, length-replicate}
+use lib.ListN.{length, get_or, take, drop, replicate, length-take, length-drop, length-replicate}
 use lib.Seq.{drop-cons, drop-length, get_or-take}
 use lib.Dec.{lit<, lit≤}
 use Rattle.words.specs.Word.{put_at, word_at}
 use Rattle.words.proofs.Laws.{fits, word_drop}
 use Rattle.words.specs.Lists.{list_from}
-use Rattle.words.proofs.Lists.{filled, fill_on, fill_done}
 use Rattle.fields.specs.Fields.{bytes_from}
 use Rattle.context.specs.declared.Context.{Context}
 use Rattle.context_bytes.specs.Encoding.{key_at, counts_at, events_at, modules_at, words_from, alphabets, supervisors_at, context_at}
@@ -37,12 +36,8 @@ module _ (s : List ℕ) where
       let next : suc i * 8 ≡ i * 8 + 8 = omega arith in
       ap (λ (l : List ℕ). word_at s (i * 8) ∷ l) (from_words (suc i) n ∙ ap (λ (k : ℕ). words_from s k n) next)
 
-  module _ (n i : ℕ) {l : List ℕ} where
-    pub words_on : {x : ℕ} → l ≡ filled word_of 0 n i → x ≡ word_at s (i * 8) → i < n → set l i x ≡ filled word_of 0 n (i + 1)
-    words_on = fill_on word_of 0 n i
-
-    pub words_done : l ≡ filled word_of 0 n i → n ≤ i → i ≤ n → l ≡ words_from s 0 n
-    words_done e h k = fill_done word_of 0 n i e h k ∙ from_words 0 n
+  pub words_made : (n : ℕ) {l : List ℕ} → l ≡ list_from word_of 0 n → l ≡ words_from s 0 n
+  words_made n e = e ∙ from_words 0 n
 
 -- those of a part of the bytes
 part_word : (s : List ℕ) (o m i : ℕ) → i + 8 ≤ m → word_at (take m (drop o s)) i ≡ word_at s (o + i)
@@ -72,22 +67,10 @@ part_put s o n h e =
     e ∙ put_padded (take n (drop o s)) n (omega arith) ∙ ap (λ (k : ℕ). take n (drop o s) ++ drop k (replicate n 0)) (size ∙ sym zeros)
     ∙ ap (λ (r : List ℕ). take n (drop o s) ++ r) (drop-length (replicate n 0)) ∙ append-nil (take n (drop o s)) ∙ part_of s o n h
 
-module _ (s : List ℕ) (h : 495 ≤ length s) where
-  pub events_read : {known controllable : ℕ} {owner steps : List ℕ} → known ≡ word_at s 31 → controllable ≡ word_at s 39
-      → owner ≡ put_at (take 64 (drop 47 s)) 0 (replicate 64 0) → steps ≡ put_at (take 64 (drop 111 s)) 0 (replicate 64 0)
-      → record { known = known; controllable = controllable; owner = owner; steps = steps } ≡ events_at s
-  unfolding events_at
-  events_read k c o t = simp (k, c, part_put s 47 64 (omega arith) o, part_put s 111 64 (omega arith) t)
-
-  pub modules_read : {known : ℕ} {states : List ℕ} → known ≡ word_at s 175 → states ≡ put_at (take 16 (drop 183 s)) 0 (replicate 16 0)
-      → record { known = known; states = states } ≡ modules_at s
-  unfolding modules_at
-  modules_read k t = simp (k, part_put s 183 16 (omega arith) t)
-
-  pub supervisors_read : {known : ℕ} {states alphabet : List ℕ} → known ≡ word_at s 199 → states ≡ put_at (take 32 (drop 207 s)) 0 (replicate 32 0)
-      → alphabet ≡ alphabets (take 256 (drop 239 s)) → record { known = known; states = states; alphabet = alphabet } ≡ supervisors_at s
-  unfolding supervisors_at
-  supervisors_read k t a = simp (k, part_put s 207 32 (omega arith) t, a ∙ part_words s 239 256 0 32 (lit≤ tt))
+pub supervisors_read : (s : List ℕ) {known : ℕ} {states alphabet : List ℕ} → known ≡ word_at s 199 → states ≡ bytes_from s 207 32
+    → alphabet ≡ alphabets (take 256 (drop 239 s)) → record { known = known; states = states; alphabet = alphabet } ≡ supervisors_at s
+unfolding supervisors_at
+supervisors_read s k t a = simp (k, t, a ∙ part_words s 239 256 0 32 (lit≤ tt))
 
 -- ---- bytes past the end count as 0
 

@@ -5,6 +5,7 @@
 ghost use Rattle.std.specs.Prelude.{◌≡◌, ◌+◌, ◌≤◌, length};
 ghost use Rattle.std.proofs.lemmas.List.Edits.{sets};
 ghost use Rattle.words.specs.Word.{put_at};
+ghost use Rattle.fields.specs.Fields.{bytes_from};
 ghost use Rattle.context_bytes.specs.Encoding.{events_at, modules_at, alphabets, supervisors_at, context_at};
 ghost use Rattle.context_bytes.specs.Encoding.{events_bytes, modules_bytes, words_bytes, supervisors_bytes, context_bytes};
 
@@ -20,13 +21,17 @@ const SIZE: usize = 495;
 pub fn alphabets_of(s: &[u8]) -> [u64; 32]
     ensures { result ≡ alphabets s.now }
 {
-    let mut next = [0u64; 32];
-    let mut i: usize = 0;
-    while i < 32 {
-        next[i] = words::word_at(s, i * 8);
-        i += 1;
-    }
-    next
+    std::array::from_fn(|i| words::word_at(s, i * 8))
+}
+
+// So many bytes from an offset on.
+fn bytes_in<const N: usize>(s: &[u8], o: usize) -> [u8; N]
+    requires { o + N ≤ length s.now }
+    ensures { result ≡ bytes_from s.now o N }
+{
+    let mut bytes = [0u8; N];
+    bytes.copy_from_slice(&s[o..o + N]);
+    bytes
 }
 
 fn events_in(s: &[u8]) -> Events
@@ -35,10 +40,8 @@ fn events_in(s: &[u8]) -> Events
 {
     let known = words::word_at(s, 31);
     let controllable = words::word_at(s, 39);
-    let mut owner = [0u8; 64];
-    let mut steps = [0u8; 64];
-    words::put_bytes(&mut owner, 0, &s[47..111]);
-    words::put_bytes(&mut steps, 0, &s[111..175]);
+    let owner = bytes_in(s, 47);
+    let steps = bytes_in(s, 111);
     Events {
         known,
         controllable,
@@ -52,8 +55,7 @@ fn modules_in(s: &[u8]) -> Modules
     ensures { result ≡ modules_at s.now }
 {
     let known = words::word_at(s, 175);
-    let mut states = [0u8; 16];
-    words::put_bytes(&mut states, 0, &s[183..199]);
+    let states = bytes_in(s, 183);
     Modules { known, states }
 }
 
@@ -62,8 +64,7 @@ fn supervisors_in(s: &[u8]) -> Supervisors
     ensures { result ≡ supervisors_at s.now }
 {
     let known = words::word_at(s, 199);
-    let mut states = [0u8; 32];
-    words::put_bytes(&mut states, 0, &s[207..239]);
+    let states = bytes_in(s, 207);
     let alphabet = alphabets_of(&s[239..495]);
     Supervisors {
         known,
@@ -128,10 +129,8 @@ fn put_words(s: &mut [u8], o: usize, a: [u64; 32])
     requires { o + 256 ≤ length s.old }
     ensures { (s.new ≡ sets s.old o (words_bytes a)) × (length (words_bytes a) ≡ 256) }
 {
-    let mut i: usize = 0;
-    while i < 32 {
-        words::put_word(&mut *s, o + i * 8, a[i]);
-        i += 1;
+    for (i, x) in a.iter().enumerate() {
+        words::put_word(&mut *s, o + i * 8, *x);
     }
 }
 

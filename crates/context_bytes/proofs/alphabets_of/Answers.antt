@@ -1,16 +1,8 @@
-use borrow.Author.Rules.{rules}
-use mathlib.Core.Path.{refl}
-use Prim.Native.Nat.{◌-◌}
-use Rattle.words.specs.Lists.{list_from}
-use Rattle.context_bytes.proofs.Reading.{words_on, words_done}
+use Rattle.std.proofs.Common.{rules}
+use Rattle.context_bytes.proofs.Made.{made}
+use Rattle.context_bytes.proofs.Reading.{word_of, words_made}
 use Rattle.context_bytes.proofs.alphabets_of.Goals as goal
 
-pub loop-i-init : goal.loop-i-init
-unfolding list_from
-loop-i-init c = (search rules, refl)
-
-pub loop-i-preserved : goal.loop-i-preserved
-loop-i-preserved c = (search rules, search words_on)
-
 pub returns : goal.returns
-returns c = search words_done
+returns c =
+    words_made c.args.s.now 32 (made _ (word_of c.args.s.now) _ (λ i y q k. search rules) _ 32 c.from_fn.ensures.items)

@@ -1,5 +1,6 @@
-use Rattle.context_bytes.proofs.Reading.{events_read}
+use Rattle.context_bytes.specs.Encoding.{events_at}
 use Rattle.context_bytes.proofs.events_in.Goals as goal
 
 pub returns : goal.returns
-returns c = search events_read
+unfolding events_at
+returns c = cc

@@ -1,5 +1,6 @@
-use Rattle.context_bytes.proofs.Reading.{modules_read}
+use Rattle.context_bytes.specs.Encoding.{modules_at}
 use Rattle.context_bytes.proofs.modules_in.Goals as goal
 
 pub returns : goal.returns
-returns c = search modules_read
+unfolding modules_at
+returns c = cc

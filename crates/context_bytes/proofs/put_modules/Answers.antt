@@ -1,6 +1,5 @@
-use Rattle.words.proofs.Laws.{mapped}
 use Rattle.context_bytes.proofs.Writing.{modules_put, length_modules}
 use Rattle.context_bytes.proofs.put_modules.Goals as goal
 
 pub returns : goal.returns
-returns c = (search (modules_put, mapped), search (length_modules, mapped))
+returns c = (search modules_put, search length_modules)
