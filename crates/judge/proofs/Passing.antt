@@ -1,25 +1,21 @@
 -- How far the check goes without an answer, by one record more.
 use mathlib.Core.Path.{◌≡◌, refl, sym, ap, ◌∙◌}
 use mathlib.Core.List.{List}
-use mathlib.Core.Bool.{cond, not, ◌&&◌}
 use Prim.Native.Nat.{ℕ}
-use lib.Dec.{eqb}
-use borrow.Author.Tests.{ne_eqb, eq-eqb}
+use borrow.Author.Tests.{ne_eqb}
 use Rattle.records.specs.Kinds.{kind_of}
 use Rattle.records.specs.declared.Record.{Record}
 use Rattle.reader.specs.Read.{read_at}
-use Rattle.reader.specs.Walk.{Walk, more, stop, walk_from}
+use Rattle.reader.specs.Walk.{more, stop, walk_from}
 use Rattle.reader.specs.declared.Read.{Read}
-use Rattle.reader.specs.declared.Read.TheVariants.{Whole}
+use Rattle.reader.specs.declared.Read.TheVariants.{Whole, Unknown, Cut, Nothing}
 use Rattle.reader.proofs.Reading.{next, walks_by}
 use Rattle.context.specs.Context.{with_record}
 use Rattle.context.specs.declared.Context.{Context}
 use Rattle.judge.specs.Judge.{judge_by}
-use Rattle.judge.specs.declared.Past.{Past}
 use Rattle.judge.specs.Past.{past_by, past_from}
 
 module _ (s : List ℕ) (c₀ c : Context) (from i : ℕ) (h : past_from s i c ≡ past_from s from c₀) where
-  -- where no record is whole
   stays : (k : ℕ) {x y : Read} → x ≡ read_at s i → x ≡ y → next s i y ≡ stop k i → record { context = c; next = i } ≡ past_from s from c₀
   unfolding past_from past_by
   stays k e g w = sym (ap (past_by c) (walks_by s i e g ∙ w)) ∙ h
@@ -29,6 +25,13 @@ module _ (s : List ℕ) (c₀ c : Context) (from i : ℕ) (h : past_from s i c �
 
   pub unknown_by : {x y : Read} → x ≡ read_at s i → x ≡ y → next s i y ≡ stop 2 i → record { context = c; next = i } ≡ past_from s from c₀
   unknown_by = stays 2
+
+  -- where no record is whole
+  pub unread_by : (x : Read) → x ≡ read_at s i → ((r : Record) (n : ℕ) → x ≡ Whole r n → ⊥) → record { context = c; next = i } ≡ past_from s from c₀
+  unread_by Nothing e t = cut_by e refl refl
+  unread_by Cut e t = cut_by e refl refl
+  unread_by Unknown e t = unknown_by e refl refl
+  unread_by (Whole r n) e t = absurd (t r n refl)
 
   module _ {x : Read} {r : Record} {n no : ℕ} (e : x ≡ read_at s i) (g : x ≡ Whole r n) (j : no ≡ judge_by c r) where
     here : past_from s i c ≡ past_by c (more i r (walk_from s n))

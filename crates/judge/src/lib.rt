@@ -284,42 +284,15 @@ pub fn pass(image: &[u8], from: usize, before: Context) -> Past
 {
     let mut c = before;
     let mut i = from;
-    loop {
-        match reader::read_at(image, i) {
-            Read::Nothing => {
-                return Past {
-                    context: c,
-                    next: i,
-                };
-            }
-            Read::Cut => {
-                return Past {
-                    context: c,
-                    next: i,
-                };
-            }
-            Read::Unknown => {
-                return Past {
-                    context: c,
-                    next: i,
-                };
-            }
-            Read::Whole(r, next) => {
-                if judge(c, r) != 0 {
-                    return Past {
-                        context: c,
-                        next: i,
-                    };
-                }
-                if records::kind_of(r) == 0x1f {
-                    return Past {
-                        context: c,
-                        next: i,
-                    };
-                }
-                c = context::with_record(c, r);
-                i = next;
-            }
+    while let Read::Whole(r, next) = reader::read_at(image, i) {
+        if judge(c, r) != 0 || records::kind_of(r) == 0x1f {
+            break;
         }
+        c = context::with_record(c, r);
+        i = next;
+    }
+    Past {
+        context: c,
+        next: i,
     }
 }

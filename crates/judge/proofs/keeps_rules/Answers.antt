@@ -1,6 +1,5 @@
 use Rattle.judge.proofs.Arms.{rules_arm}
 use Rattle.judge.specs.Judge.{rules_by}
-use borrow.Author.Rules.{rules}
 use Rattle.judge.proofs.keeps_rules.Goals as goal
 
 pub returns-in-Head : goal.returns-in-Head
