@@ -1,18 +1,14 @@
 -- What is kept after a whole record, from what the code is told.
-use mathlib.Core.List.{List, [], ◌∷◌, ◌++◌, map, append_assoc}
-use lib.ListN.{length, get_or, take, drop, set, replicate, length-append, length-replicate, length-take, length-drop, length-set, length-map, get_or-replicate, get_or-append, get_or-eq_default}
-use Prim.Native.Nat.{ℕ, zero, suc, ◌+◌, ◌-◌, ◌≤◌, ◌<◌}
+use mathlib.Core.List.{List, map}
+use lib.ListN.{length, get_or, drop, set, length-map}
+use Prim.Native.Nat.{ℕ, suc, ◌+◌, ◌-◌, ◌≤◌, ◌<◌}
 use native.Mathlib.Numerals.{add-one}
-use lib.ListN.{length, get_or, set, drop, replicate, drop_of_length-le}
+use lib.ListN.{length, get_or, set, drop, drop_of_length-le}
 use lib.Seq.{drop-cons, set_out}
 use native.Mathlib.Omega.{arith}
-use mathlib.Core.Path.{◌≡◌, refl, sym, ap, ap₂, ◌∙◌}
-use mathlib.Core.List.{List, [], ◌∷◌}
-use mathlib.Core.Bool.{Bool, true, false, cond, not}
-use Rattle.words.specs.Word.{all_zero}
-use Rattle.judge.proofs.Represents.{both}
-use lib.Dec.{eqb}
-use borrow.Author.Tests.{ne_eqb, eq-eqb, lt-leb, le-leb, lt-ltb, le-ltb, not-false, eqb-true}
+use mathlib.Core.Path.{◌≡◌, sym, ap, ap₂, ◌∙◌}
+use mathlib.Core.List.{List}
+use borrow.Author.Tests.{ne_eqb, eq-eqb, lt-leb, le-leb, lt-ltb, le-ltb}
 use Rattle.records.specs.Kinds.{body_len, no_len, kind_of}
 use Rattle.reader.specs.Read.{record_of}
 use Rattle.rules.specs.Check.{limit}

@@ -1,31 +1,25 @@
 -- The check in pieces is the check of the whole image.
 use Prim.Native.Nat.{ℕ, zero, suc, ◌+◌, ◌-◌, ◌≤◌, ◌<◌}
-use native.Mathlib.Nat.{add-zero, suc-add, add-suc, le_refl}
-use native.Mathlib.Numerals.{add-one}
 use native.Mathlib.Omega.{arith}
 use mathlib.Core.Path.{◌≡◌, refl, sym, ap, ap₂, ◌∙◌, subst}
 use mathlib.Core.List.{List, [], ◌∷◌, ◌++◌, append_assoc}
 use mathlib.Core.Bool.{Bool, true, false, cond}
 use lib.ListN.{length, get_or, set, drop, replicate, length-drop}
-use lib.Seq.{set_at, drop-cons, drop-drop}
+use lib.Seq.{set_at}
 use lib.Dec.{eqb, leb, ltb}
 use borrow.Author.Tests.{lt-ltb, le-ltb, le-leb, lt-leb, leb-true, leb-false, ltb-true, ltb-false, eqb-true, eqb-false, ne_eqb, eq-eqb}
 use Rattle.words.specs.Word.{word_at}
 use Rattle.records.specs.Kinds.{body_len, no_len, kind_of}
-use Rattle.records.specs.Key.{key_of}
 use Rattle.records.proofs.Order.{key_kind}
 use Rattle.records.proofs.Table.{kinds}
 use Rattle.records.specs.declared.Record.{Record}
 use Rattle.reader.specs.Read.{record_of}
 use Rattle.reader.specs.Walk.{Walk, more, stop, walk_of, walk_from}
-use Rattle.reader.proofs.Reading.{skips, kind_kept, told_by}
-use Rattle.reader.specs.Read.{read_at}
-use Rattle.reader.specs.declared.Read.{Read}
-use Rattle.reader.specs.declared.Read.TheVariants.{Whole}
-use Rattle.rules.specs.Check.{fault_of, end_at, check_walk, limit, verdict_of}
+use Rattle.reader.proofs.Reading.{skips, kind_kept}
+use Rattle.rules.specs.Check.{end_at, check_walk, limit, verdict_of}
 use Rattle.rules.specs.Valid.{Valid}
 use Rattle.rules.specs.declared.Verdict.{Verdict}
-use Rattle.rules.specs.declared.Verdict.TheVariants.{Accepted, Refused}
+use Rattle.rules.specs.declared.Verdict.TheVariants.{Refused}
 use Rattle.context.specs.Context.{with_record, start, context_of}
 use Rattle.context.specs.declared.Context.{Context}
 use Rattle.judge.specs.Judge.{judge_by}

@@ -9,7 +9,7 @@ use mathlib.Core.Bool.{Bool, true, false, not, ◌&&◌, ◌||◌, false≢true}
 use lib.ListN.{length, get_or, set, drop, replicate, length-drop, drop_of_length-le}
 use lib.Seq.{drop-cons, drop-drop}
 use lib.Dec.{eqb, leb, ltb}
-use borrow.Author.Tests.{lt-ltb, le-ltb, le-leb, lt-leb, leb-true, leb-false, ltb-true, ltb-false, eqb-true, eqb-false, ne_eqb, eq-eqb, not-false}
+use borrow.Author.Tests.{lt-ltb, le-leb, lt-leb, leb-true, leb-false, ltb-false, eqb-true, eqb-false, ne_eqb, not-false}
 use Rattle.words.specs.Word.{all_zero}
 use Rattle.judge.proofs.Represents.{both}
 use Rattle.records.specs.Kinds.{body_len, no_len, kind_of}
@@ -25,8 +25,7 @@ use Rattle.judge.specs.Judge.{judge_by}
 use Rattle.judge.specs.Past.{past_from}
 use Rattle.judge.specs.declared.Past.{Past}
 use Rattle.judge.proofs.Passing.{cut_by, unknown_by, faulty_by, end_by, on_by}
-use Rattle.pieces.specs.declared.Stage.{Stage}
-use Rattle.pieces.specs.declared.Stage.TheVariants.{Open, Ended, Faulty}
+use Rattle.pieces.specs.declared.Stage.TheVariants.{Open, Faulty}
 use Rattle.pieces.specs.declared.CheckState.{CheckState}
 use Rattle.pieces.specs.Pieces.{between, overlong, record_taken, byte_open, byte_by, byte_taken, piece_taken}
 use Rattle.pieces.specs.Taking.{holding, Holds, PastBegun, Clear, Taking}

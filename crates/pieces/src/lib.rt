@@ -157,18 +157,10 @@ fn fill(cut: [u8; 12], held: u8, piece: &[u8], from: usize) -> Filled
 {
     let mut bytes = cut;
     let mut n = held;
-    let mut i = from;
-    while i < piece.len() {
+    for i in from..piece.len() {
         let more = put_cut(bytes, n, piece[i]);
         let size = records::body_len(more[0]);
-        if size == records::NO_LEN {
-            return Filled {
-                cut: bytes,
-                held: n,
-                next: i,
-            };
-        }
-        if size <= n {
+        if size == records::NO_LEN || size <= n {
             return Filled {
                 cut: bytes,
                 held: n,
@@ -176,13 +168,12 @@ fn fill(cut: [u8; 12], held: u8, piece: &[u8], from: usize) -> Filled
             };
         }
         bytes = more;
-        n = n + 1;
-        i = i + 1;
+        n += 1;
     }
     Filled {
         cut: bytes,
         held: n,
-        next: i,
+        next: piece.len(),
     }
 }
 

@@ -1,5 +1,4 @@
 use borrow.Author.Rules.{rules}
-use Prim.Native.Nat.{◌-◌}
 use Rattle.pieces.proofs.Taking.{holds_begin, holds_on}
 use Rattle.pieces.proofs.fill.Goals as goal
 

@@ -1,7 +1,6 @@
 use borrow.Author.Rules.{rules}
 use native.Mathlib.Omega.{arith}
 use mathlib.Core.Path.{refl, ◌∙◌}
-use Prim.Native.Nat.{◌-◌}
 use Rattle.pieces.proofs.Bytes.{taken_all}
 use Rattle.pieces.proofs.Taking.{no_bytes, no_room, has_room_lem}
 use Rattle.pieces.proofs.take.Goals as goal
