@@ -7,7 +7,9 @@ use native.Mathlib.Numerals.{add-one}
 use native.Mathlib.Omega.{arith}
 use lib.Dec.{eqb, ltb}
 use lib.Bits.{bit_and, bit_or}
-use borrow.Author.Tests.{lt-ltb, le-ltb}
+use borrow.Author.Tests.{lt-ltb, le-ltb, ltb-true, ltb-false}
+use Rattle.std.specs.Prelude.{min}
+use Rattle.std.proofs.Math.Nat.{le-min}
 use Rattle.bits.specs.Bit.{bit, mask_of, is_some}
 use Rattle.bits.proofs.Laws.{bit_above, shr_none}
 use Rattle.bits.proofs.Mask.{mask_bit, mask_small, mask_is, common_is}
@@ -51,6 +53,14 @@ mask_same p q n f =
 -- what stands past a count
 past_count : (b : ℕ → Bool) (n v k : ℕ) → n ≤ v → (j : ℕ) → v ≤ j → j < k → (ltb j n && b j) ≡ false
 past_count b n v k h j l g = ap (λ (t : Bool). t && b j) (le-ltb j n (let q : n ≤ j = omega arith in q))
+
+-- what stands past the lesser of a count and a mask's size
+past_least : (n k v j : ℕ) → min n k ≤ v → v ≤ j → j < k → n ≤ j
+past_least n k v j h l g = go (ltb j n) refl
+  where
+    go : (b : Bool) → ltb j n ≡ b → n ≤ j
+    go true q = absurd (omega (arith, le-min {k = suc j} {a = n} {b = k} (ltb-true j n q) g))
+    go false q = ltb-false j n q
 
 within_count : (b : ℕ → Bool) (n v : ℕ) → v < n → b v ≡ (ltb v n && b v)
 within_count b n v h = sym (ap (λ (t : Bool). t && b v) (lt-ltb v n h))
@@ -99,8 +109,10 @@ module _ (rs : List Record) (m e : ℕ) {n x : ℕ} (k : n ≡ events_of rs) (f 
       one_bit (own_event rs m) e f
       (ap (λ (z : ℕ). eqb z m) g ∙ within_count (λ j. eqb (owner_of rs j) m) (events_of rs) e (subst (λ (z : ℕ). e < z) k h)) q
 
-  pub own_rest : e ≤ 64 → n ≤ e → x ≡ mask_of (own_event rs m) 64
-  own_rest l h = rest_bits (own_event rs m) 64 e f l (past_count (λ j. eqb (owner_of rs j) m) (events_of rs) e 64 (subst (λ (z : ℕ). z ≤ e) k h))
+  pub own_rest : e ≤ 64 → min n 64 ≤ e → x ≡ mask_of (own_event rs m) 64
+  own_rest l h =
+      rest_bits (own_event rs m) 64 e f l
+      (λ j a b. past_count (λ i. eqb (owner_of rs i) m) (events_of rs) j 64 (subst (λ (z : ℕ). z ≤ j) k (past_least n 64 e j h a b)) j (omega arith) b)
 
 -- ---- neighbours
 
@@ -117,8 +129,10 @@ module _ (rs : List Record) (m v : ℕ) {n x : ℕ} (k : n ≡ supervisors_of rs
   neighbour_bit h g q =
       one_bit (is_neighbour rs m) v f (g ∙ within_count (neighbour rs m) (supervisors_of rs) v (subst (λ (z : ℕ). v < z) k h)) q
 
-  pub neighbour_rest : v ≤ 32 → n ≤ v → x ≡ neighbours rs m
-  neighbour_rest l h = rest_bits (is_neighbour rs m) 32 v f l (past_count (neighbour rs m) (supervisors_of rs) v 32 (subst (λ (z : ℕ). z ≤ v) k h))
+  pub neighbour_rest : v ≤ 32 → min n 32 ≤ v → x ≡ neighbours rs m
+  neighbour_rest l h =
+      rest_bits (is_neighbour rs m) 32 v f l
+      (λ j a b. past_count (neighbour rs m) (supervisors_of rs) j 32 (subst (λ (z : ℕ). z ≤ j) k (past_least n 32 v j h a b)) j (omega arith) b)
 
 pub small_mask : (p : ℕ → Bool) (v : ℕ) {x : ℕ} → x ≡ mask_of p v → v ≤ 32 → x < 2 ^ 32
 small_mask p v f l = subst (λ (z : ℕ). z < 2 ^ 32) (sym f) (mask_small p v 32 l)

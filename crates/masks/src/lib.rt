@@ -35,14 +35,12 @@ pub fn commands(image: &[u8], places: Places, moves: u64) -> u64
     ensures { result ≡ commands_among (records_by image.now places) moves }
 {
     let mut mask: u64 = 0;
-    let mut e: u8 = 0;
-    while e < 64 {
+    for e in 0..64 {
         // Past the last that has a move nothing is left to ask.
         if moves >> e == 0 {
             return mask;
         }
         mask = with_bit(mask, e, is_command(image, places, moves, e));
-        e += 1;
     }
     mask
 }
@@ -53,13 +51,8 @@ pub fn own_events(image: &[u8], places: Places, m: u8) -> u64
 {
     let n = plan::events_of(image, places);
     let mut mask: u64 = 0;
-    let mut e: u8 = 0;
-    while e < n {
-        if 64 <= e {
-            return mask;
-        }
+    for e in 0..n.min(64) {
         mask = with_bit(mask, e, plan::owner_of(image, places, e) == m);
-        e += 1;
     }
     mask
 }
@@ -78,17 +71,12 @@ pub fn neighbours(image: &[u8], places: Places, m: u8) -> u32
     let own = own_events(image, places, m);
     let n = plan::supervisors_of(image, places);
     let mut mask: u64 = 0;
-    let mut v: u8 = 0;
-    while v < n {
-        if 32 <= v {
-            return mask as u32;
-        }
+    for v in 0..n.min(32) {
         mask = with_bit(
             mask,
             v,
             is_neighbour(own, plan::alphabet_of(image, places, v)),
         );
-        v += 1;
     }
     mask as u32
 }
@@ -123,14 +111,12 @@ fn owners(image: &[u8], places: Places, alphabet: u64) -> u16
     let modules = plan::modules_of(image, places);
     let n = plan::events_of(image, places);
     let mut mask: u64 = 0;
-    let mut e: u8 = 0;
-    while e < n {
+    for e in 0..n {
         // Past the alphabet's last event nothing is left to look for.
         if none_from(alphabet, e) {
-            return mask as u16;
+            break;
         }
         mask = with_owner(image, places, mask, alphabet, modules, e);
-        e += 1;
     }
     mask as u16
 }

@@ -1,4 +1,3 @@
-use Prim.Native.Nat.{◌≤◌, ◌-◌}
 use mathlib.Core.Path.{◌≡◌}
 use Rattle.bits.specs.Bit.{mask_of}
 use Rattle.places.specs.Places.{records_by}
@@ -6,7 +5,4 @@ use Rattle.masks.proofs.Events.{is_command}
 use Rattle.masks.proofs.commands.Given as goal
 
 abbrev pub invariant-loop-e : goal.invariant-loop-e
-invariant-loop-e l = (l.e ≤ 64) × (l.mask ≡ mask_of (is_command (records_by l.image l.places) l.moves) l.e)
-
-abbrev pub decreases-loop-e : goal.decreases-loop-e
-decreases-loop-e l = 64 - l.e
+invariant-loop-e l = l.mask ≡ mask_of (is_command (records_by l.image l.places) l.moves) l.e

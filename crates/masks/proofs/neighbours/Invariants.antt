@@ -1,4 +1,4 @@
-use Prim.Native.Nat.{◌≤◌, ◌-◌}
+use Prim.Native.Nat.{◌≤◌}
 use mathlib.Core.Path.{◌≡◌}
 use Rattle.bits.specs.Bit.{mask_of}
 use Rattle.places.specs.Places.{records_by}
@@ -7,6 +7,3 @@ use Rattle.masks.proofs.neighbours.Given as goal
 
 abbrev pub invariant-loop-v : goal.invariant-loop-v
 invariant-loop-v l = (l.v ≤ 32) × (l.mask ≡ mask_of (is_neighbour (records_by l.image l.places) l.m) l.v)
-
-abbrev pub decreases-loop-v : goal.decreases-loop-v
-decreases-loop-v l = l.n - l.v
