@@ -15,29 +15,16 @@ use water::Water;
 fn zeros_from(q: [u8; 8], n: usize) -> bool
     ensures { result ≡ every (λ x. eqb x 0) (drop n q) }
 {
-    let mut i = n;
-    while i < 8 {
-        if q[i] != 0 {
-            return false;
-        }
-        i += 1;
-    }
-    true
+    q.iter().skip(n).all(|x| *x == 0)
 }
 
 // Whether the first n cells hold uncontrollable events of module m.
 fn responses_fit(image: &[u8], places: Places, m: u8, q: [u8; 8], n: usize) -> bool
-    requires { n ≤ 8 }
     ensures { result ≡ every (own_uncontrollable (records_by image.now places) m) (take n q) }
 {
-    let mut i: usize = 0;
-    while i < n {
-        if !plan::own_uncontrollable(image, places, m, q[i]) {
-            return false;
-        }
-        i += 1;
-    }
-    true
+    q.iter()
+        .take(n)
+        .all(|e| plan::own_uncontrollable(image, places, m, *e))
 }
 
 fn queue_fits(image: &[u8], places: Places, m: u8, own: Own) -> bool

@@ -1,16 +1,11 @@
-use mathlib.Core.Path.{refl}
-use borrow.Author.Rules.{rules}
-use Rattle.fitting.proofs.Every.{zero_stops, zero_goes_on, zero_ends}
+use Rattle.std.proofs.Common.{rules, tests, ◌∙◌, eqb}
+use Rattle.std.proofs.lemmas.Iterator.{YieldsList-from_slice}
+use Rattle.std.proofs.lemmas.Iterator.Adapters.{YieldsList-from_skip}
+use Rattle.std.proofs.lemmas.Iterator.Search.{all_from_yields_List}
+use Rattle.fitting.proofs.Every.{all_every}
 use Rattle.fitting.proofs.zeros_from.Goals as goal
 
-pub loop-i-init : goal.loop-i-init
-loop-i-init c = (search rules, refl)
-
-pub returns-then-q-i-ne0 : goal.returns-then-q-i-ne0
-returns-then-q-i-ne0 c = search zero_stops
-
-pub loop-i-preserved : goal.loop-i-preserved
-loop-i-preserved c = (search rules, search zero_goes_on)
-
 pub returns : goal.returns
-returns c = search zero_ends
+returns c =
+    all_from_yields_List (λ x. eqb x 0) _ _ _ c.all.ensures.ran (YieldsList-from_skip c.args.n (YieldsList-from_slice c.args.q cc) cc) (λ x b q k. search (rules, tests))
+    ∙ all_every _ _
