@@ -1,10 +1,9 @@
 -- The columns of a record of the table, by the length of its body.
 use mathlib.Core.Path.{◌≡◌, refl, ap, ◌∙◌, sym}
-use mathlib.Core.List.{List, [], ◌∷◌}
-use mathlib.Core.Bool.{Bool, true, false, cond}
+use mathlib.Core.List.{List}
 use Prim.Native.Nat.{ℕ, ◌+◌, ◌-◌, ◌≤◌, ◌<◌}
 use native.Mathlib.Nat.{add-zero}
-use lib.ListN.{get_or, take, drop}
+use lib.ListN.{get_or, drop}
 use lib.Seq.{get_or-drop}
 use lib.Dec.{leb}
 use borrow.Author.Tests.{le-leb, lt-leb}
@@ -14,7 +13,7 @@ use Rattle.records.specs.Kinds.{body_len, no_len, kind_of}
 use Rattle.records.proofs.Table.{kinds}
 use Rattle.reader.specs.Read.{record_of}
 use Rattle.paper.specs.Paper.{fields_of, words_of}
-use Rattle.paper.specs.Put.{given, listed, byte_count, bytes_in, words_in, Taken}
+use Rattle.paper.specs.Put.{given, byte_count, bytes_in, words_in, Taken}
 use Rattle.paper.specs.declared.Fields.{Fields}
 
 pub record Columns (k : ℕ) (body : List ℕ) : Type 0 where

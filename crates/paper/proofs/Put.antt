@@ -1,5 +1,5 @@
 -- Columns and lines put into a buffer, one behind the other.
-use mathlib.Core.Path.{◌≡◌, refl, sym, ap, ◌∙◌, subst}
+use mathlib.Core.Path.{◌≡◌, refl, sym, ap, ◌∙◌}
 use mathlib.Core.List.{List, [], ◌∷◌, ◌++◌, append_assoc, append-nil}
 use mathlib.Core.Bool.{Bool, true, false}
 use Prim.Native.Nat.{ℕ, zero, suc, ◌+◌, ◌*◌, ◌-◌, ◌/◌, ◌%◌, ◌≤◌, ◌<◌}
@@ -156,29 +156,34 @@ module _ (n : ℕ) (b : List ℕ) (o : ℕ) {has : Bool} {x : List ℕ} (room : 
 
 -- ---- blank lines
 
-pub record Blanked (l : List ℕ) (from n : ℕ) (b : List ℕ) (more o : ℕ) : Type 0 where
-  pub rest : sets b o (blank_lines more) ≡ sets l from (blank_lines n)
+-- the first i of n lines stand
+pub record Blanked (l : List ℕ) (from n : ℕ) (b : List ℕ) (i : ℕ) : Type 0 where
+  pub rest : sets b (from + 73 * i) (blank_lines (n - i)) ≡ sets l from (blank_lines n)
   pub long : length b ≡ length l
-  pub room : o + 73 * more ≤ length b
+  pub room : from + 73 * n ≤ length b
 
-pub blanked_on : (l : List ℕ) (from n : ℕ) (b : List ℕ) (more o : ℕ) {a p : List ℕ} → Blanked l from n b more o → 0 < more → p ≡ blank_line → a ≡ put_at p o b → Blanked l from n a (more - 1) (o + 73)
+pub blanked_on : (l : List ℕ) (from n : ℕ) (b : List ℕ) (i : ℕ) {a p : List ℕ} → Blanked l from n b i → i < n → p ≡ blank_line → a ≡ put_at p (from + 73 * i) b → Blanked l from n a (i + 1)
 unfolding blank_lines
-blanked_on l from n b more o {a} {p} v h e f =
-    let k : ℕ = more - 1 in
-    let up : suc k ≡ more = omega arith in
-    let g : a ≡ sets b o blank_line = put_by blank_line b o 73 refl (omega arith) e f in
+blanked_on l from n b i {a} {p} v h e f =
+    let o : ℕ = from + 73 * i in
+    let k : ℕ = n - (i + 1) in
+    let up : suc k ≡ n - i = omega arith in
+    let next : from + 73 * (i + 1) ≡ o + 73 = omega arith in
+    let g : a ≡ sets b o blank_line = put_by blank_line b o 73 refl (omega (arith, v.room)) e f in
     let m : length a ≡ length b = ap length g ∙ length-sets b o blank_line in
     record {
-      rest = behind b o 73 (o + 73) blank_line (blank_lines k) refl refl g refl ∙ ap (λ (j : ℕ). sets b o (blank_lines j)) up ∙ v.rest;
+      rest =
+          ap (λ (j : ℕ). sets a j (blank_lines k)) next
+          ∙ behind b o 73 (o + 73) blank_line (blank_lines k) refl refl g refl ∙ ap (λ (j : ℕ). sets b o (blank_lines j)) up ∙ v.rest;
       long = m ∙ v.long;
-      room = omega arith;
+      room = omega (arith, v.room);
     }
 
-pub blanked_done : (l : List ℕ) (from n : ℕ) (b : List ℕ) (more o : ℕ) → Blanked l from n b more o → more ≤ 0 → b ≡ sets l from (blank_lines n)
+pub blanked_done : (l : List ℕ) (from n : ℕ) (b : List ℕ) (i : ℕ) → Blanked l from n b i → n ≤ i → b ≡ sets l from (blank_lines n)
 unfolding blank_lines
-blanked_done l from n b more o v h =
-    let z : more ≡ 0 = omega arith in
-    sym (ap (λ (k : ℕ). sets b o (blank_lines k)) z) ∙ v.rest
+blanked_done l from n b i v h =
+    let z : n - i ≡ 0 = omega arith in
+    sym (ap (λ (k : ℕ). sets b (from + 73 * i) (blank_lines k)) z) ∙ v.rest
 
 -- ---- a line
 

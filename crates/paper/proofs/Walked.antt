@@ -1,5 +1,5 @@
 -- The loops over the records of an image.
-use mathlib.Core.Path.{◌≡◌, refl, sym, ap, ◌∙◌, subst}
+use mathlib.Core.Path.{◌≡◌, refl, sym, ap, ◌∙◌}
 use mathlib.Core.List.{List, [], ◌∷◌, ◌++◌, append_assoc, append-nil}
 use mathlib.Core.Bool.{Bool, true, false, cond}
 use Prim.Native.Nat.{ℕ, suc, ◌+◌, ◌*◌, ◌-◌, ◌≤◌, ◌<◌}
@@ -12,11 +12,9 @@ use Rattle.records.specs.Kinds.{body_len, no_len}
 use Rattle.records.specs.declared.Record.{Record}
 use Rattle.reader.specs.Read.{record_of, read_at, read_by, shape_at}
 use Rattle.reader.specs.Walk.{walk_from, records_in, records_of}
-use Rattle.reader.specs.declared.Read.{Read}
 use Rattle.reader.specs.declared.Read.TheVariants.{Whole as WholeRead}
 use Rattle.reader.specs.declared.Shape.{Shape}
 use Rattle.reader.specs.declared.Shape.TheVariants.{Whole, Unknown, Cut, Nothing}
-use Rattle.reader.specs.contracts.Shape.{the_type}
 use Rattle.reader.proofs.Reading.{whole_by, walks, next, walks_by, told_by, reads_by, read_there}
 use Rattle.roundtrip.specs.Fits.{Fits, Bytes}
 use Rattle.roundtrip.proofs.OneRecord.{written_read}

@@ -137,9 +137,7 @@ fn word_column_of(x: u64) -> [u8; 32]
 {
     let mut column = [b' '; 32];
     let mut rest = x;
-    let mut i: usize = 32;
-    while 16 < i {
-        i -= 1;
+    for i in (16..32).rev() {
         column[i] = lines::hex_digit((rest % 16) as u8);
         rest = rest / 16;
     }
@@ -195,10 +193,7 @@ fn put_lines(image: &[u8], buf: &mut [u8])
     let mut o: usize = 0;
     let mut kind: u8 = 0x1f;
     let mut size: usize = 0;
-    loop {
-        let Shape::Whole(k, b, next) = shape_after(kind, size, image, i) else {
-            return;
-        };
+    while let Shape::Whole(k, b, next) = shape_after(kind, size, image, i) {
         kind = k;
         size = next - b;
         put_line(k, size, image, b, &mut buf[o..o + 73]);
@@ -220,12 +215,8 @@ fn put_blank_lines(n: usize, buf: &mut [u8], from: usize)
     requires { from + 73 * n ≤ length buf.old }
     ensures { buf.new ≡ sets buf.old from (blank_lines n) }
 {
-    let mut more = n;
-    let mut o = from;
-    while 0 < more {
-        words::put_bytes(&mut *buf, o, &blank_line());
-        more -= 1;
-        o += 73;
+    for i in 0..n {
+        words::put_bytes(&mut *buf, from + 73 * i, &blank_line());
     }
 }
 
@@ -237,15 +228,13 @@ fn count_of(image: &[u8]) -> usize
     let mut i: usize = 0;
     let mut kind: u8 = 0x1f;
     let mut size: usize = 0;
-    loop {
-        let Shape::Whole(k, b, next) = shape_after(kind, size, image, i) else {
-            return n;
-        };
+    while let Shape::Whole(k, b, next) = shape_after(kind, size, image, i) {
         kind = k;
         size = next - b;
         n += 1;
         i = next;
     }
+    n
 }
 
 // How many lines the last page lacks behind n lines.

@@ -1,4 +1,3 @@
-use Prim.Native.Nat.{◌-◌}
 use borrow.Author.Rules.{rules}
 use Rattle.paper.proofs.Walked.{order_by, less_by, end_known, counted_on, counted_room, counted_done, counted_most}
 use Rattle.paper.proofs.count_of.Goals as goal
@@ -6,8 +5,8 @@ use Rattle.paper.proofs.count_of.Goals as goal
 pub loop-k-init : goal.loop-k-init
 loop-k-init c = record { rest = search rules; within = search rules; inside = search rules; last = end_known }
 
-pub returns-in_default : goal.returns-in_default
-returns-in_default c = search (counted_done, counted_most, c.in_default.not-Whole)
+pub returns : goal.returns
+returns c = search (counted_done, counted_most, c.in_default.not-Whole)
 
 pub overflow_sub-size : goal.overflow_sub-size
 overflow_sub-size c = search (order_by, rules)

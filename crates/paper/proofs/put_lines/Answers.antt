@@ -1,5 +1,4 @@
 use mathlib.Core.Path.{refl}
-use Prim.Native.Nat.{◌-◌}
 use borrow.Author.Rules.{rules}
 use Rattle.paper.proofs.Walked.{known_by, order_by, body_by, less_by, end_known, line_room, lined_on, lined_done}
 use Rattle.paper.proofs.put_lines.Goals as goal
@@ -7,8 +6,8 @@ use Rattle.paper.proofs.put_lines.Goals as goal
 pub loop-k-init : goal.loop-k-init
 loop-k-init c = record { small = λ j. (c.shared_slice_known-1.given j).fits; rest = refl; long = refl; room = search rules; last = end_known }
 
-pub returns-in_default : goal.returns-in_default
-returns-in_default c = search (lined_done, c.in_default.not-Whole)
+pub returns : goal.returns
+returns c = search (lined_done, c.in_default.not-Whole)
 
 pub overflow_sub-size : goal.overflow_sub-size
 overflow_sub-size c = search (order_by, rules)
@@ -25,8 +24,8 @@ slice_bounds-put_line-end c = search (line_room, rules)
 pub put_line-requires : goal.put_line-requires
 put_line-requires c = search (known_by, body_by, line_room, rules)
 
-pub overflow_add-o-in-loop-k : goal.overflow_add-o-in-loop-k
-overflow_add-o-in-loop-k c = search (line_room, rules)
+pub overflow_add-o-in-Whole : goal.overflow_add-o-in-Whole
+overflow_add-o-in-Whole c = search (line_room, rules)
 
 pub loop-k-smaller : goal.loop-k-smaller
 loop-k-smaller c = search less_by
