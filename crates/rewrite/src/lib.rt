@@ -33,10 +33,10 @@ fn put_records(image: &[u8], buf: &mut [u8])
     ensures { buf.new ≡ plan_bytes image.now ++ drop (length image.now) buf.old }
 {
     let mut i: usize = 0;
+    // No `while let` over both fields: where such a pattern fails, the proof is not told that no record was read.
     loop {
         let on = walk::read_on(image, i);
-        let read = on.read;
-        let Read::Whole(r, _) = read else {
+        let Read::Whole(r, _) = on.read else {
             return;
         };
         put_at(r, &mut *buf, i);

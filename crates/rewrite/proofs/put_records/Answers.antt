@@ -1,4 +1,3 @@
-use Prim.Native.Nat.{◌-◌}
 use Rattle.rewrite.proofs.Apart.{begins, range_by, room_by, less_by, on_by, done_by, long_by}
 use Rattle.rewrite.proofs.put_records.Goals as goal
 
