@@ -52,8 +52,8 @@ stands_there s i k n e = go (ltb i (length s)) refl e
         record { kind = eqb-true _ _ b.1; fits = omega arith; inside = l }
     go false p q = absurd (false≢true q)
 
-stands_told : (s : List ℕ) (i k n : ℕ) {t : Bool} → t ≡ stands_at s i k n → not t ≡ false → Whole-there s i k n
-stands_told s i k n e h = stands_there s i k n (sym e ∙ not-false _ h)
+stands_told : (s : List ℕ) (i k n : ℕ) {t : Bool} → t ≡ stands_at s i k n → t ≡ true → Whole-there s i k n
+stands_told s i k n e h = stands_there s i k n (sym e ∙ h)
 
 -- the kinds from the events to the steps have three fields or more: a test that is computed at each of them
 long : (k n : ℕ) → n ≡ size_by k → 0x11 ≤ k → k ≤ 0x17 → 4 ≤ n
@@ -64,7 +64,7 @@ long k n e a b =
     let l : 3 ≤ body_len k = subst (λ (x : ℕ). 3 ≤ body_len x) w t in
     omega (arith, e)
 
-module _ (s : List ℕ) (i k n : ℕ) {t : Bool} (e : t ≡ stands_at s i k n) (h : not t ≡ false) where
+module _ (s : List ℕ) (i k n : ℕ) {t : Bool} (e : t ≡ stands_at s i k n) (h : t ≡ true) where
   room_by : i + n ≤ length s
   room_by = (stands_told s i k n e h).fits
 
@@ -88,7 +88,7 @@ module _ (s : List ℕ) (i k n : ℕ) {t : Bool} (e : t ≡ stands_at s i k n) (
     inside_by m a b q l = let r : i + 4 ≤ length s = fields_by a b in let t : i + m ≤ length s = omega arith in lt_of_le_of_lt t l
 
 -- the offset of a marking's field
-module _ (s : List ℕ) (i n : ℕ) {t : Bool} (e : t ≡ stands_at s i 0x18 n) (h : not t ≡ false) (z : n ≡ size_by 0x18) (m : ℕ) (a : m ≤ 2) where
+module _ (s : List ℕ) (i n : ℕ) {t : Bool} (e : t ≡ stands_at s i 0x18 n) (h : t ≡ true) (z : n ≡ size_by 0x18) (m : ℕ) (a : m ≤ 2) where
   pub marking_inside : i + m < length s
   unfolding body_len
   marking_inside = let r : i + n ≤ length s = room_by s i 0x18 n e h in omega (arith, z)
@@ -328,7 +328,7 @@ module _ (n : Counts) (ev : Events) (e x : ℕ) where
       go false p q = absurd (false≢true q)
 
 module _ (s : List ℕ) (c : Context → Context) (i : ℕ) (n : Counts) (p : RecordKey) (j : ℕ) {b : Bool} {f : Fields} {k : ℕ} {o : Bool} {bytes : ℕ} (g : f ≡ fields_at s j) (k1 : k ≡ f.first) where
-  pub event_step : (known controllable : ℕ) (owner : List ℕ) {a t : ℕ} → bytes ≡ size_by 0x11 → b ≡ stands_at s j 0x11 bytes → not b ≡ false
+  pub event_step : (known controllable : ℕ) (owner : List ℕ) {a t : ℕ} → bytes ≡ size_by 0x11 → b ≡ stands_at s j 0x11 bytes → b ≡ true
       → o ≡ precedes p (key_by 0x11 f.first 0 0) → not ((o && ltb f.first 64) && (leb f.third 1 && (ltb f.first n.events && ltb f.second n.modules))) ≡ false
       → a ≡ put_bit known f.first true → t ≡ put_bit controllable f.first (eqb f.third 1)
       → Passed s 0x11 c i (at_events p n known controllable owner) j
@@ -347,7 +347,7 @@ module _ (s : List ℕ) (c : Context → Context) (i : ℕ) (n : Counts) (p : Re
       in
       subst (λ (x : Context). Stretch s 0x11 (c r) i x (j + bytes)) w d
 
-  pub module_step : (known : ℕ) (states : List ℕ) {a : ℕ} → bytes ≡ size_by 0x12 → b ≡ stands_at s j 0x12 bytes → not b ≡ false
+  pub module_step : (known : ℕ) (states : List ℕ) {a : ℕ} → bytes ≡ size_by 0x12 → b ≡ stands_at s j 0x12 bytes → b ≡ true
       → o ≡ precedes p (key_by 0x12 f.first 0 0)
       → not ((o && ltb f.first 16) && ((leb 1 f.second && leb f.second 32) && (ltb f.first n.modules && ltb f.third f.second))) ≡ false → a ≡ put_bit known f.first true
       → Passed s 0x12 c i (at_modules p n known states) j
@@ -367,7 +367,7 @@ module _ (s : List ℕ) (c : Context → Context) (i : ℕ) (n : Counts) (p : Re
       in
       subst (λ (x : Context). Stretch s 0x12 (c r) i x (j + bytes)) w d
 
-  pub supervisor_step : (events known : ℕ) (states alphabet : List ℕ) {a x : ℕ} {kept : Bool} → bytes ≡ size_by 0x14 → b ≡ stands_at s j 0x14 bytes → not b ≡ false → x ≡ word_at s (j + 4)
+  pub supervisor_step : (events known : ℕ) (states alphabet : List ℕ) {a x : ℕ} {kept : Bool} → bytes ≡ size_by 0x14 → b ≡ stands_at s j 0x14 bytes → b ≡ true → x ≡ word_at s (j + 4)
       → kept ≡ supervisor_kept f x n events → o ≡ precedes p (key_by 0x14 f.first 0 0) → not ((o && ltb f.first 32) && kept) ≡ false → a ≡ put_bit known f.first true
       → {next : List ℕ} → next ≡ set alphabet k x → Passed s 0x14 c i (at_supervisors p n events known states alphabet) j
       → Passed s 0x14 c i (at_supervisors (key_by 0x14 f.first 0 0) n events a (set states k f.second) next) (j + bytes)
@@ -388,7 +388,7 @@ module _ (s : List ℕ) (c : Context → Context) (i : ℕ) (n : Counts) (p : Re
       subst (λ (x : Context). Stretch s 0x14 (c r) i x (j + bytes)) w d
 
   pub module_move_step : (events : ℕ) (owner : List ℕ) (known : ℕ) (states : List ℕ) (a m : ℕ) {y : ℕ} {kept : Bool} → Below known n.modules a → Below events n.events m
-      → bytes ≡ size_by 0x13 → b ≡ stands_at s j 0x13 bytes → not b ≡ false → f.first < 16 → f.third < 64 → y ≡ f.third → kept ≡ move_named f a (get_or states k 0) m
+      → bytes ≡ size_by 0x13 → b ≡ stands_at s j 0x13 bytes → b ≡ true → f.first < 16 → f.third < 64 → y ≡ f.third → kept ≡ move_named f a (get_or states k 0) m
       → o ≡ precedes p (key_by 0x13 f.first f.second f.third) → not ((o && kept) && eqb (get_or owner y 0) f.first) ≡ false
       → Passed s 0x13 c i (at_module_moves p n events owner known states) j
       → Passed s 0x13 c i (at_module_moves (key_by 0x13 f.first f.second f.third) n events owner known states) (j + bytes)
@@ -404,7 +404,7 @@ module _ (s : List ℕ) (c : Context → Context) (i : ℕ) (n : Counts) (p : Re
       (simp (sym o1 ∙ t.0, z.owner, z.from, z.event, z.to, w2 ∙ q.1)) refl refl (λ z. absurd (omega arith)) (v r)
 
   pub supervisor_move_step : (events known : ℕ) (states alphabet : List ℕ) (a m : ℕ) {own : ℕ} {kept : Bool} → Below known n.supervisors a → Below events n.events m
-      → bytes ≡ size_by 0x15 → b ≡ stands_at s j 0x15 bytes → not b ≡ false → f.first < 32 → own ≡ get_or alphabet k 0 → kept ≡ move_named f a (get_or states k 0) (bit_and m own)
+      → bytes ≡ size_by 0x15 → b ≡ stands_at s j 0x15 bytes → b ≡ true → f.first < 32 → own ≡ get_or alphabet k 0 → kept ≡ move_named f a (get_or states k 0) (bit_and m own)
       → o ≡ precedes p (key_by 0x15 f.first f.second f.third) → not (o && kept) ≡ false → Passed s 0x15 c i (at_supervisors p n events known states alphabet) j
       → Passed s 0x15 c i (at_supervisors (key_by 0x15 f.first f.second f.third) n events known states alphabet) (j + bytes)
   unfolding Passed at_supervisors judge_by order_by index_by names_by rules_by all_by in_range key_of kind_of counts_after events_after modules_after supervisors_after
@@ -417,7 +417,7 @@ module _ (s : List ℕ) (c : Context → Context) (i : ℕ) (n : Counts) (p : Re
       reaches s 0x15 (j + bytes) (reads_supervisor_move s j g sized (stands_told s j 0x15 bytes e b1)) (omega (arith, sized))
       (simp (sym o1 ∙ q.0, z.owner, z.from, z.event, z.to, t.1)) refl refl (λ z. absurd (omega arith)) (v r)
 
-  pub disabling_step : (events controllable known : ℕ) (states alphabet : List ℕ) {x own : ℕ} {w kept : Bool} → own ≡ get_or alphabet k 0 → bytes ≡ size_by 0x16 → b ≡ stands_at s j 0x16 bytes → not b ≡ false → f.first < 32
+  pub disabling_step : (events controllable known : ℕ) (states alphabet : List ℕ) {x own : ℕ} {w kept : Bool} → own ≡ get_or alphabet k 0 → bytes ≡ size_by 0x16 → b ≡ stands_at s j 0x16 bytes → b ≡ true → f.first < 32
       → x ≡ word_at s (j + 3) → kept ≡ disabling_named f x n.supervisors known (get_or states k 0) events → o ≡ precedes p (key_by 0x16 f.first f.second 0)
       → w ≡ every_event x (bit (bit_and controllable own)) → not (((o && not (eqb x 0)) && kept) && w) ≡ false
       → Passed s 0x16 c i (at_disablings p n events controllable known states alphabet) j
@@ -433,7 +433,7 @@ module _ (s : List ℕ) (c : Context → Context) (i : ℕ) (n : Counts) (p : Re
       (reads_disabling s j g sized (stands_told s j 0x16 bytes e b1) ∙ ap (λ (y : ℕ). Whole (Disabling f.first f.second y) (j + bytes)) (sym x1)) (omega (arith, sized))
       (simp (sym o1 ∙ t.0, t.1, n2 ∙ m.1, w2 ∙ q.1)) refl refl (λ z. absurd (omega arith)) (v r)
 
-  pub step_step : (known controllable : ℕ) (owner counts : List ℕ) {x u : ℕ} {t kept : Bool} → bytes ≡ size_by 0x17 → b ≡ stands_at s j 0x17 bytes → not b ≡ false → x ≡ word_at s (j + 4) → f.first < 64
+  pub step_step : (known controllable : ℕ) (owner counts : List ℕ) {x u : ℕ} {t kept : Bool} → bytes ≡ size_by 0x17 → b ≡ stands_at s j 0x17 bytes → b ≡ true → x ≡ word_at s (j + 4) → f.first < 64
       → t ≡ eqb (get_or owner (x % 64) 0) (get_or owner f.first 0) → kept ≡ step_kept f x n.events known controllable t → o ≡ precedes p (key_by 0x17 f.first f.second 0)
       → not ((o && eqb f.second (get_or counts k 0)) && kept) ≡ false → u ≡ (f.second + 1) % 256 → Passed s 0x17 c i (at_steps p n known controllable owner counts) j
       → Passed s 0x17 c i (at_steps (key_by 0x17 f.first f.second 0) n known controllable owner (set counts k u)) (j + bytes)
@@ -469,7 +469,7 @@ module _ (s : List ℕ) (c : Context → Context) (i : ℕ) (n : Counts) (p : Re
   abbrev state : ℕ
   state = get_or s (j + 2) 0
 
-  pub marking_step : (known : ℕ) (states : List ℕ) {b o t : Bool} {k bytes : ℕ} → bytes ≡ size_by 0x18 → b ≡ stands_at s j 0x18 bytes → not b ≡ false → k ≡ owner → t ≡ bit known owner
+  pub marking_step : (known : ℕ) (states : List ℕ) {b o t : Bool} {k bytes : ℕ} → bytes ≡ size_by 0x18 → b ≡ stands_at s j 0x18 bytes → b ≡ true → k ≡ owner → t ≡ bit known owner
       → o ≡ precedes p (key_by 0x18 owner state 0) → not (o && ((ltb owner n.modules && t) && ltb state (get_or states k 0))) ≡ false → Passed s 0x18 c i (at_modules p n known states) j
       → Passed s 0x18 c i (at_modules (key_by 0x18 owner state 0) n known states) (j + bytes)
   unfolding Passed at_modules judge_by order_by index_by names_by rules_by all_by in_range key_of kind_of counts_after events_after modules_after supervisors_after

@@ -112,6 +112,7 @@ fn same_module(owner: &[u8], event: u8, operand: u64) -> bool
 }
 
 // Passes the events from an offset on, up to a faulty one or a record of another kind, and notes the module of each.
+// No `for` over chunks_exact, here and in the seven loops below: where the records stop is the result, which would be counted beside the chunks.
 fn events(
     image: &[u8],
     from: usize,
@@ -129,15 +130,7 @@ fn events(
     let mut last = before;
     let mut i = from;
     let size = records::size_by(0x11);
-    loop {
-        if !record_tests::stands(image, i, 0x11, size) {
-            return PlaceOfEvents {
-                known: declared,
-                controllable: commands,
-                last,
-                next: i,
-            };
-        }
+    while record_tests::stands(image, i, 0x11, size) {
         let f = fields_at(image, i);
         let e = f.first;
         let key = RecordKey {
@@ -148,19 +141,20 @@ fn events(
         };
         let kept = (f.third <= 1) & ((e < n.events) & (f.second < n.modules));
         if !(records::precedes(last, key) & (e < 64) & kept) {
-            return PlaceOfEvents {
-                known: declared,
-                controllable: commands,
-                last,
-                next: i,
-            };
+            break;
         }
         let k = words::wide(e);
         declared = bits::put(declared, e, true);
         commands = bits::put(commands, e, f.third == 1);
         owner[k] = f.second;
         last = key;
-        i = i + size;
+        i += size;
+    }
+    PlaceOfEvents {
+        known: declared,
+        controllable: commands,
+        last,
+        next: i,
     }
 }
 
@@ -180,14 +174,7 @@ fn modules(
     let mut last = before;
     let mut i = from;
     let size = records::size_by(0x12);
-    loop {
-        if !record_tests::stands(image, i, 0x12, size) {
-            return PlaceOfNumbers {
-                known: declared,
-                last,
-                next: i,
-            };
-        }
+    while record_tests::stands(image, i, 0x12, size) {
         let f = fields_at(image, i);
         let m = f.first;
         let key = RecordKey {
@@ -198,17 +185,18 @@ fn modules(
         };
         let kept = ((1 <= f.second) & (f.second <= 32)) & ((m < n.modules) & (f.third < f.second));
         if !(records::precedes(last, key) & (m < 16) & kept) {
-            return PlaceOfNumbers {
-                known: declared,
-                last,
-                next: i,
-            };
+            break;
         }
         let k = words::wide(m);
         declared = bits::put(declared, m, true);
         states[k] = f.second;
         last = key;
-        i = i + size;
+        i += size;
+    }
+    PlaceOfNumbers {
+        known: declared,
+        last,
+        next: i,
     }
 }
 
@@ -229,18 +217,12 @@ fn module_moves(
     let mut last = before;
     let mut i = from;
     let size = records::size_by(0x13);
-    loop {
-        if !record_tests::stands(image, i, 0x13, size) {
-            return Place { last, next: i };
-        }
+    while record_tests::stands(image, i, 0x13, size) {
         let f = fields_at(image, i);
         let m = f.first;
         let e = f.third;
-        if 16 <= m {
-            return Place { last, next: i };
-        }
-        if 64 <= e {
-            return Place { last, next: i };
+        if 16 <= m || 64 <= e {
+            break;
         }
         let k = words::wide(m);
         let count = states[k];
@@ -256,11 +238,12 @@ fn module_moves(
         let names = below(events, n.events);
         let named = record_tests::move_named(f, numbers, count, names);
         if !(records::precedes(last, key) & named & (of == m)) {
-            return Place { last, next: i };
+            break;
         }
         last = key;
-        i = i + size;
+        i += size;
     }
+    Place { last, next: i }
 }
 
 // Passes the supervisors from an offset on, in the same way, and notes the states and the alphabet of each.
@@ -281,14 +264,7 @@ fn supervisors(
     let mut last = before;
     let mut i = from;
     let size = records::size_by(0x14);
-    loop {
-        if !record_tests::stands(image, i, 0x14, size) {
-            return PlaceOfNumbers {
-                known: declared,
-                last,
-                next: i,
-            };
-        }
+    while record_tests::stands(image, i, 0x14, size) {
         let f = fields_at(image, i);
         let x = word_in(image, i + 4);
         let v = f.first;
@@ -300,18 +276,19 @@ fn supervisors(
         };
         let kept = record_tests::supervisor_kept(f, x, n, events);
         if !(records::precedes(last, key) & (v < 32) & kept) {
-            return PlaceOfNumbers {
-                known: declared,
-                last,
-                next: i,
-            };
+            break;
         }
         let k = words::wide(v);
         declared = bits::put(declared, v, true);
         states[k] = f.second;
         words::put_word(&mut *alphabet, k * 8, x);
         last = key;
-        i = i + size;
+        i += size;
+    }
+    PlaceOfNumbers {
+        known: declared,
+        last,
+        next: i,
     }
 }
 
@@ -332,14 +309,11 @@ fn supervisor_moves(
     let mut last = before;
     let mut i = from;
     let size = records::size_by(0x15);
-    loop {
-        if !record_tests::stands(image, i, 0x15, size) {
-            return Place { last, next: i };
-        }
+    while record_tests::stands(image, i, 0x15, size) {
         let f = fields_at(image, i);
         let v = f.first;
         if 32 <= v {
-            return Place { last, next: i };
+            break;
         }
         let k = words::wide(v);
         let count = states[k];
@@ -354,11 +328,12 @@ fn supervisor_moves(
         let names = below(events, n.events);
         let named = record_tests::move_named(f, numbers, count, names & own);
         if !(records::precedes(last, key) & named) {
-            return Place { last, next: i };
+            break;
         }
         last = key;
-        i = i + size;
+        i += size;
     }
+    Place { last, next: i }
 }
 
 // Passes the disablings from an offset on, in the same way.
@@ -379,15 +354,12 @@ fn disablings(
     let mut last = before;
     let mut i = from;
     let size = records::size_by(0x16);
-    loop {
-        if !record_tests::stands(image, i, 0x16, size) {
-            return Place { last, next: i };
-        }
+    while record_tests::stands(image, i, 0x16, size) {
         let f = fields_at(image, i);
         let mask = word_in(image, i + 3);
         let v = f.first;
         if 32 <= v {
-            return Place { last, next: i };
+            break;
         }
         let k = words::wide(v);
         let count = states[k];
@@ -401,11 +373,12 @@ fn disablings(
         let named = record_tests::disabling_named(f, mask, n.supervisors, known, count, events);
         let kept = bits::within(mask, controllable & own);
         if !(records::precedes(last, key) & (mask != 0) & named & kept) {
-            return Place { last, next: i };
+            break;
         }
         last = key;
-        i = i + size;
+        i += size;
     }
+    Place { last, next: i }
 }
 
 // Passes the steps from an offset on, in the same way, and counts those of each event.
@@ -425,15 +398,12 @@ fn steps(
     let mut last = before;
     let mut i = from;
     let size = records::size_by(0x17);
-    loop {
-        if !record_tests::stands(image, i, 0x17, size) {
-            return Place { last, next: i };
-        }
+    while record_tests::stands(image, i, 0x17, size) {
         let f = fields_at(image, i);
         let x = word_in(image, i + 4);
         let e = f.first;
         if 64 <= e {
-            return Place { last, next: i };
+            break;
         }
         let k = words::wide(e);
         let count = counts[k];
@@ -446,12 +416,13 @@ fn steps(
         };
         let kept = record_tests::step_kept(f, x, n.events, known, controllable, same);
         if !(records::precedes(last, key) & (f.second == count) & kept) {
-            return Place { last, next: i };
+            break;
         }
         counts[k] = std::num::wrapping_add_u8(f.second, 1);
         last = key;
-        i = i + size;
+        i += size;
     }
+    Place { last, next: i }
 }
 
 // Passes the markings from an offset on, in the same way.
@@ -469,14 +440,11 @@ fn markings(
     let mut last = before;
     let mut i = from;
     let size = records::size_by(0x18);
-    loop {
-        if !record_tests::stands(image, i, 0x18, size) {
-            return Place { last, next: i };
-        }
+    while record_tests::stands(image, i, 0x18, size) {
         let m = image[i + 1];
         let st = image[i + 2];
         if 16 <= m {
-            return Place { last, next: i };
+            break;
         }
         let k = words::wide(m);
         let count = states[k];
@@ -488,11 +456,12 @@ fn markings(
         };
         let named = (m < n.modules) & bits::has(known, m) & (st < count);
         if !(records::precedes(last, key) & named) {
-            return Place { last, next: i };
+            break;
         }
         last = key;
-        i = i + size;
+        i += size;
     }
+    Place { last, next: i }
 }
 
 // A faultless end record at an offset: nothing may follow it.

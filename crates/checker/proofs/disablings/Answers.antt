@@ -3,7 +3,7 @@ use mathlib.Core.Bool.{not}
 use Rattle.checker.proofs.Stretch.{own_room}
 use Rattle.checker.proofs.Stretch.{word_by}
 use Rattle.records.specs.Kinds.{body_len}
-use Rattle.std.proofs.Common.{◌-◌, lit≤, rules}
+use Rattle.std.proofs.Common.{lit≤, rules}
 use Rattle.checker.proofs.Stretch.{begins_stretch, fields_by, inside_by, fits_by, further_by, disabling_step}
 use Rattle.checker.proofs.Stretch.{own_at_lem}
 use Rattle.checker.proofs.disablings.Goals as goal
@@ -33,5 +33,5 @@ loop-n-smaller c = search further_by
 pub loop-n-preserved : goal.loop-n-preserved
 loop-n-preserved c =
     disabling_step _ _ _ _ _ _ c.fields_at-f.ensures c.wide-k.ensures _ _ _ _ _ (own_at_lem _ _ _ c.word_in-own.ensures c.wide-k.ensures c.if-v-ge32.false) c.size_by-size.ensures
-    c.stands.ensures (ap not c.if-not-stands.false) c.if-v-ge32.false c.word_in-mask.ensures c.disabling_named-named.ensures c.precedes.ensures c.within-kept.ensures (ap not c.if-not-precedes-mask.false)
+    c.stands.ensures c.loop-n-test.true c.if-v-ge32.false c.word_in-mask.ensures c.disabling_named-named.ensures c.precedes.ensures c.within-kept.ensures (ap not c.if-not-precedes-mask.false)
     c.loop-n.invariant

@@ -1,6 +1,4 @@
-use mathlib.Core.Path.{ap}
-use mathlib.Core.Bool.{not}
-use Rattle.std.proofs.Common.{◌-◌, lit≤, rules}
+use Rattle.std.proofs.Common.{lit≤, rules}
 use Rattle.checker.specs.Stretch.{Passed, at_events}
 use Rattle.checker.proofs.Stretch.{begins_stretch, fields_by, fits_by, further_by, event_step}
 use Rattle.checker.proofs.Stretch.{index_in}
@@ -17,7 +15,7 @@ bounds-owner-k c = search index_in
 
 pub overflow_add-i : goal.overflow_add-i
 overflow_add-i c =
-    record { fits = fits_by _ _ _ _ c.stands.ensures (ap not c.if-not-stands.false) (search rules) }
+    record { fits = fits_by _ _ _ _ c.stands.ensures c.loop-n-test.true (search rules) }
 
 pub loop-n-smaller : goal.loop-n-smaller
 loop-n-smaller c = search further_by

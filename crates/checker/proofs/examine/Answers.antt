@@ -1,6 +1,5 @@
-use Rattle.std.proofs.Common.{suc, ◌<◌, length, sym, ap, ◌∙◌, arith, rules}
+use Rattle.std.proofs.Common.{sym, ap, ◌∙◌, arith, rules}
 use Rattle.records.specs.Kinds.{body_len}
-use Rattle.rules.specs.Check.{limit}
 use Rattle.record_tests.specs.Tests.{stands_at}
 use Rattle.checker.proofs.Stretch.{stands_there}
 use Rattle.checker.proofs.Loop.{begins, too_long, head_by}

@@ -1,4 +1,4 @@
-use Rattle.std.proofs.Common.{◌-◌, rules}
+use Rattle.std.proofs.Common.{rules}
 use Rattle.reader.proofs.Reading.{inside_by, less_by}
 use Rattle.checker.proofs.Loop.{stopped_by, refused_by, ended_by, goes_on_by}
 use Rattle.checker.proofs.judged.Goals as goal

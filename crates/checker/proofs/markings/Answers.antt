@@ -1,4 +1,4 @@
-use Rattle.std.proofs.Common.{◌-◌, lit≤, rules}
+use Rattle.std.proofs.Common.{lit≤, rules}
 use Rattle.checker.proofs.Stretch.{begins_stretch, marking_inside, marking_fits, fits_by, further_by, marking_step}
 use Rattle.checker.proofs.markings.Goals as goal
 

@@ -1,4 +1,4 @@
-use Rattle.std.proofs.Common.{◌-◌, lit≤, rules}
+use Rattle.std.proofs.Common.{lit≤, rules}
 use Rattle.checker.specs.Stretch.{Passed, at_modules}
 use Rattle.checker.proofs.Stretch.{begins_stretch, fields_by, fits_by, further_by, module_step}
 use Rattle.checker.proofs.Stretch.{index_in}

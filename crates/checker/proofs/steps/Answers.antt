@@ -2,7 +2,7 @@ use mathlib.Core.Path.{ap}
 use mathlib.Core.Bool.{not}
 use Rattle.checker.proofs.Stretch.{word_by}
 use Rattle.records.specs.Kinds.{body_len}
-use Rattle.std.proofs.Common.{◌-◌, lit≤, rules}
+use Rattle.std.proofs.Common.{lit≤, rules}
 use Rattle.checker.proofs.Stretch.{begins_stretch, fields_by, inside_by, fits_by, further_by, step_step}
 use Rattle.checker.proofs.steps.Goals as goal
 
@@ -27,7 +27,7 @@ loop-n-smaller c = search further_by
 
 pub loop-n-preserved : goal.loop-n-preserved
 loop-n-preserved c = (
-  step_step _ _ _ _ _ _ c.fields_at-f.ensures c.wide-k.ensures _ _ _ _ c.size_by-size.ensures c.stands.ensures (ap not c.if-not-stands.false)
+  step_step _ _ _ _ _ _ c.fields_at-f.ensures c.wide-k.ensures _ _ _ _ c.size_by-size.ensures c.stands.ensures c.loop-n-test.true
       c.word_in-x.ensures c.if-e-ge64.false c.same_module-same.ensures c.step_kept-kept.ensures c.precedes.ensures
       (ap not c.if-not-precedes-f.false) c.wrapping_add_u8.ensures.value c.loop-n.invariant.0,
   search rules,
