@@ -1,5 +1,5 @@
 -- Records passed where what is remembered stands in the bytes of a state.
-use Rattle.std.proofs.Common.{◌≡◌, ℕ, ◌+◌, ◌^◌, ◌<◌, ◌≤◌, Bool, true, List, ◌++◌, length, get_or, take, drop, replicate, sym, ap, ◌∙◌, inl, append_assoc, arith, lit≤, length-drop, length-take-le, drop-drop}
+use Rattle.std.proofs.Common.{◌≡◌, ℕ, ◌+◌, ◌^◌, ◌<◌, ◌≤◌, Bool, true, List, ◌++◌, length, get_or, take, drop, sym, ap, ◌∙◌, inl, append_assoc, arith, lit≤, length-drop, length-take-le, drop-drop}
 use lib.Seq.{sets, sets-eq, length-sets}
 use Rattle.words.specs.Word.{put_at, word_at, word_bytes}
 use Rattle.words.proofs.Laws.{length_word, put_sets}
@@ -11,7 +11,7 @@ use Rattle.context.specs.declared.Context.{Context}
 use Rattle.judge.specs.Past.{past_from}
 use Rattle.judge.specs.declared.Past.{Past}
 use Rattle.context_bytes.specs.Encoding.{key_bytes, key_at, counts_at, events_at, modules_at, supervisors_at, alphabets, context_bytes, context_at}
-use Rattle.context_bytes.proofs.Reading.{part_of, part_put, part_words}
+use Rattle.context_bytes.proofs.Reading.{part_of, part_words}
 use Rattle.context_bytes.proofs.Regions.{sets_apart}
 use Rattle.context_bytes.proofs.InPlace.{with_last, with_known, with_controllable, with_owner, with_modules_known, with_sizes, with_supervisors_known, with_states, with_alphabets}
 use Rattle.context_bytes.proofs.InPlace.{last_set, known_set, controllable_set, owner_set, steps_set, modules_set, sizes_set, supervisors_set, states_set, alphabets_set}
@@ -176,14 +176,13 @@ module _ (s b : List ℕ) (g : AfterRecord b) where
             ∙ ap (λ (y : List ℕ). with_last last (context_at y)) part.is
 
       pub steps_in : (known controllable : ℕ) (owner : List ℕ) → length l ≡ length (take 64 (drop 111 b)) → x1 ≡ take 111 b ++ (l ++ drop 64 (drop 111 b)) → known ≡ word_at b 31 → controllable ≡ word_at b 39
-          → owner ≡ put_at (take 64 (drop 47 b)) 0 (replicate 64 0)
+          → owner ≡ bytes_from b 47 64
           → Passed s 0x17 (at_steps q n known controllable owner (take 64 (drop 111 b))) i (at_steps last n known controllable owner l) j → OnwardIn s b i x2 j
       unfolding Passed at_steps context_at events_at
       steps_in known controllable owner kept lent k1 c1 o1 h =
           let size : length l ≡ 64 = lent_size 111 64 l (lit≤ tt) kept in
-          let o : owner ≡ bytes_from b 47 64 = part_put b 47 64 (omega (arith, room)) o1 in
-          arrives 0x17 (h (context_at b)) (simp (q1, n1, k1, c1, o, counted) begins)
-          (keyed 111 64 size lent (lit≤ tt) (lit≤ tt) ∙ ap (with_last last) (steps_set b room l size) ∙ simp (flag, n1, k1, c1, o)) (both_wrote 111 64 size lent (lit≤ tt) (lit≤ tt))
+          arrives 0x17 (h (context_at b)) (simp (q1, n1, k1, c1, o1, counted) begins)
+          (keyed 111 64 size lent (lit≤ tt) (lit≤ tt) ∙ ap (with_last last) (steps_set b room l size) ∙ simp (flag, n1, k1, c1, o1)) (both_wrote 111 64 size lent (lit≤ tt) (lit≤ tt))
 
       -- the numbers declared are put last
       module _ (k : ℕ) (fits : k < 2 ^ 64) (x3 : List ℕ) where
@@ -217,7 +216,7 @@ module _ (s b : List ℕ) (g : AfterRecord b) where
 
     -- both tables of the supervisors, the key and the numbers declared, put one after the other
     pub supervisors_in : (events known k : ℕ) → k < 2 ^ 64 → (st al st₀ al₀ x1 x2 x3 x4 : List ℕ) → length st ≡ 32 → length al ≡ 256 → events ≡ word_at b 31 → known ≡ word_at b 199
-        → st₀ ≡ put_at (take 32 (drop 207 b)) 0 (replicate 32 0) → al₀ ≡ put_at (take 256 (drop 239 b)) 0 (replicate 256 0)
+        → st₀ ≡ bytes_from b 207 32 → al₀ ≡ bytes_from b 239 256
         → Passed s 0x14 (at_supervisors q n events known st₀ (alphabets al₀)) i (at_supervisors last n events k st (alphabets al)) j
         → x1 ≡ put_at st 207 b → x2 ≡ put_at al 239 x1 → x3 ≡ put_at (key_bytes last) 24 x2 → x4 ≡ put_at (word_bytes k) 199 x3 → OnwardIn s b i x4 j
     unfolding Passed at_supervisors context_at events_at supervisors_at
@@ -233,10 +232,9 @@ module _ (s b : List ℕ) (g : AfterRecord b) where
         let c3 : context_at x3 ≡ with_last last (with_alphabets (alphabets al) (with_states st (context_at b))) =
         ap context_at y.is ∙ last_set x2 (omega (arith, a.wrote.size)) last ∙ ap (with_last last) c2
         in
-        let st1 : st₀ ≡ bytes_from b 207 32 = part_put b 207 32 (omega (arith, room)) s0 in
         let al1 : alphabets al₀ ≡ (supervisors_at b).alphabet =
-        ap alphabets (part_put b 239 256 (omega (arith, room)) a0 ∙ sym (part_of b 239 256 (omega (arith, room)))) ∙ own
+        ap alphabets (a0 ∙ sym (part_of b 239 256 (omega (arith, room)))) ∙ own
         in
-        arrives 0x14 (h (context_at b)) (simp (q1, n1, e1, k1, st1, al1) begins)
+        arrives 0x14 (h (context_at b)) (simp (q1, n1, e1, k1, s0, al1) begins)
         (ap context_at z.is ∙ supervisors_set x3 (omega (arith, y.wrote.size)) k fits ∙ ap (with_supervisors_known k) c3 ∙ simp (flag, n1, e1))
         (wrote_then b x3 x4 z.wrote (wrote_then b x2 x3 y.wrote (wrote_then b x1 x2 a.wrote t.wrote)))

@@ -11,7 +11,7 @@ ghost use Rattle.checker.specs.Stretch.{AfterRecord, OnwardIn};
 ghost use Rattle.words.specs.Word.{put_at, word_at};
 ghost use Rattle.reader.specs.Read.{read_at};
 ghost use Rattle.reader.specs.declared.Read.TheVariants.{Whole};
-ghost use Rattle.context_bytes.specs.Encoding.{key_at, key_bytes, counts_at};
+ghost use Rattle.context_bytes.specs.Encoding.{key_bytes};
 ghost use Rattle.checker.specs.Stretch.{Reached, Passed, noted_past, context_by, events_by, modules_by, supervisors_by, headed};
 ghost use Rattle.checker.specs.Stretch.{at_events, at_modules, at_module_moves, at_supervisors, at_disablings, at_steps};
 ghost use Rattle.checker.specs.Stretch.{Below};
@@ -682,32 +682,10 @@ pub fn check(image: &[u8]) -> Verdict
 // ---- how far the check goes without an answer, from any offset, in the bytes of a state
 
 // The last record's kind and key.
-fn last_in(state: &[u8]) -> RecordKey
-    ensures { result ≡ key_at state.now 24 }
-{
-    RecordKey {
-        kind: words::byte_at(state, 24),
-        first: words::byte_at(state, 25),
-        second: words::byte_at(state, 26),
-        third: words::byte_at(state, 27),
-    }
-}
-
 fn put_last(state: &mut [u8], q: RecordKey)
     ensures { state.new ≡ put_at (key_bytes q) 24 state.old }
 {
     words::put_bytes(state, 24, &[q.kind, q.first, q.second, q.third]);
-}
-
-// The head's counts.
-fn counts_in(state: &[u8]) -> Counts
-    ensures { result ≡ counts_at state.now 28 }
-{
-    Counts {
-        modules: words::byte_at(state, 28),
-        supervisors: words::byte_at(state, 29),
-        events: words::byte_at(state, 30),
-    }
 }
 
 // The loops over a stretch, each if a record of its kind stands at the offset: what it needs is read where it is in the state, and what it changes put
@@ -719,8 +697,8 @@ fn past_events(image: &[u8], from: usize, state: &mut [u8]) -> usize
     if words::byte_at(image, from) != 0x11 {
         return from;
     }
-    let before = last_in(&state[..]);
-    let n = counts_in(&state[..]);
+    let before = context_bytes::last_at(&state[..]);
+    let n = context_bytes::counts_at(&state[..]);
     let known = words::word_at(&state[..], 31);
     let controllable = words::word_at(&state[..], 39);
     let e = events(
@@ -748,8 +726,8 @@ fn past_modules(image: &[u8], from: usize, state: &mut [u8]) -> usize
     if words::byte_at(image, from) != 0x12 {
         return from;
     }
-    let before = last_in(&state[..]);
-    let n = counts_in(&state[..]);
+    let before = context_bytes::last_at(&state[..]);
+    let n = context_bytes::counts_at(&state[..]);
     let known = words::word_at(&state[..], 175);
     let m = modules(image, from, before, n, known, &mut state[183..199]);
     let last = m.last;
@@ -766,8 +744,8 @@ fn past_module_moves(image: &[u8], from: usize, state: &mut [u8]) -> usize
     if words::byte_at(image, from) != 0x13 {
         return from;
     }
-    let before = last_in(&state[..]);
-    let n = counts_in(&state[..]);
+    let before = context_bytes::last_at(&state[..]);
+    let n = context_bytes::counts_at(&state[..]);
     let events = words::word_at(&state[..], 31);
     let known = words::word_at(&state[..], 175);
     let v = module_moves(
@@ -793,14 +771,12 @@ fn past_supervisors(image: &[u8], from: usize, state: &mut [u8]) -> usize
     if words::byte_at(image, from) != 0x14 {
         return from;
     }
-    let before = last_in(&state[..]);
-    let n = counts_in(&state[..]);
+    let before = context_bytes::last_at(&state[..]);
+    let n = context_bytes::counts_at(&state[..]);
     let events = words::word_at(&state[..], 31);
     let known = words::word_at(&state[..], 199);
-    let mut states = [0u8; 32];
-    let mut alphabet = [0u8; 256];
-    words::put_bytes(&mut states, 0, &state[207..239]);
-    words::put_bytes(&mut alphabet, 0, &state[239..495]);
+    let mut states: [u8; 32] = context_bytes::bytes_at(&state[..], 207);
+    let mut alphabet: [u8; 256] = context_bytes::bytes_at(&state[..], 239);
     let v = supervisors(
         image,
         from,
@@ -827,8 +803,8 @@ fn past_supervisor_moves(image: &[u8], from: usize, state: &mut [u8]) -> usize
     if words::byte_at(image, from) != 0x15 {
         return from;
     }
-    let before = last_in(&state[..]);
-    let n = counts_in(&state[..]);
+    let before = context_bytes::last_at(&state[..]);
+    let n = context_bytes::counts_at(&state[..]);
     let events = words::word_at(&state[..], 31);
     let known = words::word_at(&state[..], 199);
     let m = supervisor_moves(
@@ -853,8 +829,8 @@ fn past_disablings(image: &[u8], from: usize, state: &mut [u8]) -> usize
     if words::byte_at(image, from) != 0x16 {
         return from;
     }
-    let before = last_in(&state[..]);
-    let n = counts_in(&state[..]);
+    let before = context_bytes::last_at(&state[..]);
+    let n = context_bytes::counts_at(&state[..]);
     let events = words::word_at(&state[..], 31);
     let all = words::word_at(&state[..], 39);
     let known = words::word_at(&state[..], 199);
@@ -882,12 +858,11 @@ fn past_steps(image: &[u8], from: usize, state: &mut [u8]) -> usize
     if words::byte_at(image, from) != 0x17 {
         return from;
     }
-    let before = last_in(&state[..]);
-    let n = counts_in(&state[..]);
+    let before = context_bytes::last_at(&state[..]);
+    let n = context_bytes::counts_at(&state[..]);
     let known = words::word_at(&state[..], 31);
     let all = words::word_at(&state[..], 39);
-    let mut owner = [0u8; 64];
-    words::put_bytes(&mut owner, 0, &state[47..111]);
+    let owner: [u8; 64] = context_bytes::bytes_at(&state[..], 47);
     let s = steps(
         image,
         from,
@@ -910,8 +885,8 @@ fn past_markings(image: &[u8], from: usize, state: &mut [u8]) -> usize
     if words::byte_at(image, from) != 0x18 {
         return from;
     }
-    let before = last_in(&state[..]);
-    let n = counts_in(&state[..]);
+    let before = context_bytes::last_at(&state[..]);
+    let n = context_bytes::counts_at(&state[..]);
     let known = words::word_at(&state[..], 175);
     let t = markings(image, from, before, n, known, &state[183..199]);
     let last = t.last;

@@ -6,7 +6,7 @@ ghost use Rattle.std.specs.Prelude.{◌≡◌, ◌+◌, ◌≤◌, length};
 ghost use Rattle.std.proofs.lemmas.List.Edits.{sets};
 ghost use Rattle.words.specs.Word.{put_at};
 ghost use Rattle.fields.specs.Fields.{bytes_from};
-ghost use Rattle.context_bytes.specs.Encoding.{events_at, modules_at, alphabets, supervisors_at, context_at};
+ghost use Rattle.context_bytes.specs.Encoding.{key_at, counts_at, events_at, modules_at, alphabets, supervisors_at, context_at};
 ghost use Rattle.context_bytes.specs.Encoding.{events_bytes, modules_bytes, words_bytes, supervisors_bytes, context_bytes};
 
 use context::{Context, Counts, Events, Modules, Supervisors};
@@ -25,7 +25,7 @@ pub fn alphabets_of(s: &[u8]) -> [u64; 32]
 }
 
 // So many bytes from an offset on.
-fn bytes_in<const N: usize>(s: &[u8], o: usize) -> [u8; N]
+pub fn bytes_at<const N: usize>(s: &[u8], o: usize) -> [u8; N]
     requires { o + N ≤ length s.now }
     ensures { result ≡ bytes_from s.now o N }
 {
@@ -34,14 +34,37 @@ fn bytes_in<const N: usize>(s: &[u8], o: usize) -> [u8; N]
     bytes
 }
 
+// The last record's kind and key; bytes past the end count as 0.
+pub fn last_at(s: &[u8]) -> RecordKey
+    ensures { result ≡ key_at s.now 24 }
+{
+    RecordKey {
+        kind: words::byte_at(s, 24),
+        first: words::byte_at(s, 25),
+        second: words::byte_at(s, 26),
+        third: words::byte_at(s, 27),
+    }
+}
+
+// The head's counts likewise.
+pub fn counts_at(s: &[u8]) -> Counts
+    ensures { result ≡ counts_at s.now 28 }
+{
+    Counts {
+        modules: words::byte_at(s, 28),
+        supervisors: words::byte_at(s, 29),
+        events: words::byte_at(s, 30),
+    }
+}
+
 fn events_in(s: &[u8]) -> Events
     requires { 495 ≤ length s.now }
     ensures { result ≡ events_at s.now }
 {
     let known = words::word_at(s, 31);
     let controllable = words::word_at(s, 39);
-    let owner = bytes_in(s, 47);
-    let steps = bytes_in(s, 111);
+    let owner = bytes_at(s, 47);
+    let steps = bytes_at(s, 111);
     Events {
         known,
         controllable,
@@ -55,7 +78,7 @@ fn modules_in(s: &[u8]) -> Modules
     ensures { result ≡ modules_at s.now }
 {
     let known = words::word_at(s, 175);
-    let states = bytes_in(s, 183);
+    let states = bytes_at(s, 183);
     Modules { known, states }
 }
 
@@ -64,7 +87,7 @@ fn supervisors_in(s: &[u8]) -> Supervisors
     ensures { result ≡ supervisors_at s.now }
 {
     let known = words::word_at(s, 199);
-    let states = bytes_in(s, 207);
+    let states = bytes_at(s, 207);
     let alphabet = alphabets_of(&s[239..495]);
     Supervisors {
         known,
@@ -78,17 +101,8 @@ fn context_in(s: &[u8]) -> Context
     ensures { result ≡ context_at s.now }
 {
     let flag = s[23];
-    let last = RecordKey {
-        kind: s[24],
-        first: s[25],
-        second: s[26],
-        third: s[27],
-    };
-    let counts = Counts {
-        modules: s[28],
-        supervisors: s[29],
-        events: s[30],
-    };
+    let last = last_at(s);
+    let counts = counts_at(s);
     let events = events_in(s);
     let modules = modules_in(s);
     let supervisors = supervisors_in(s);

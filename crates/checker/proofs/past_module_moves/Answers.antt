@@ -3,4 +3,4 @@ use Rattle.checker.proofs.past_module_moves.Goals as goal
 
 pub returns : goal.returns
 returns c =
-    module_moves_in _ _ c.requires _ _ _ c.counts_in-n.ensures _ _ c.last_in-before.ensures _ c.put_last.ensures _ _ c.word_at-events.ensures c.word_at-known.ensures c.module_moves-v.ensures
+    module_moves_in _ _ c.requires _ _ _ c.counts_at-n.ensures _ _ c.last_at-before.ensures _ c.put_last.ensures _ _ c.word_at-events.ensures c.word_at-known.ensures c.module_moves-v.ensures

@@ -1,5 +1,5 @@
 use Rattle.context_bytes.specs.Encoding.{key_at}
-use Rattle.checker.proofs.last_in.Goals as goal
+use Rattle.context_bytes.proofs.last_at.Goals as goal
 
 pub returns : goal.returns
 unfolding key_at

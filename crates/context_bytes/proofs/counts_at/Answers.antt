@@ -1,5 +1,5 @@
 use Rattle.context_bytes.specs.Encoding.{counts_at}
-use Rattle.checker.proofs.counts_in.Goals as goal
+use Rattle.context_bytes.proofs.counts_at.Goals as goal
 
 pub returns : goal.returns
 unfolding counts_at

@@ -3,7 +3,7 @@ use mathlib.Core.Path.{◌≡◌, ap, ◌∙◌}
 use native.Mathlib.Omega.{arith}
 use lib.ListN.{take, drop}
 use Rattle.context_bytes.proofs.Reading.{part_of}
-use Rattle.context_bytes.proofs.bytes_in.Goals as goal
+use Rattle.context_bytes.proofs.bytes_at.Goals as goal
 
 pub returns : goal.returns
 returns g c =
