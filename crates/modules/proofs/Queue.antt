@@ -9,6 +9,8 @@ use lib.ListN.{length, get_or, take, drop, set, replicate, length-append, length
 use lib.Seq.{get_or-take, get_or-drop, get_or-append-add, take-suc, take-suc-set, take_all, set_at}
 use lib.Dec.{ltb}
 use borrow.Author.Tests.{ltb-true, ltb-false, lt-leb, le-leb}
+use Rattle.words.specs.Lists.{list_from}
+use Rattle.words.proofs.Lists.{from_same, same_slots}
 use Rattle.records.specs.declared.Record.{Record}
 use Rattle.plan.specs.Plan.{own_uncontrollable}
 use Rattle.modules.specs.declared.Own.{Own}
@@ -109,7 +111,7 @@ module _ (q : List ℕ) (n k i : ℕ) {v : ℕ} where
   pub cell_after : k ≤ i → v ≡ get_or (take n q) (i + 1) 0 → v ≡ get_or (without k (take n q)) i 0
   cell_after h p = p ∙ without_after (take n q) k i h
 
--- ---- the cells written one by one
+-- ---- the cells, each by itself
 
 module _ (q : List ℕ) (n k : ℕ) where
   abbrev rest : List ℕ
@@ -118,20 +120,12 @@ module _ (q : List ℕ) (n k : ℕ) where
   rest_length : length q ≡ 8 → length (cells rest) ≡ 8
   rest_length e = cells_length rest (omega (arith, without_length (take n q) k, length-take n q))
 
-  pub written_on : (r : List ℕ) (i : ℕ) {v gap : ℕ} → length q ≡ 8 → length r ≡ 8 → i < 8 → gap ≡ k → v ≡ get_or (without gap (take n q)) i 0
-      → take i r ≡ take i (cells rest) → take (i + 1) (set r i v) ≡ take (i + 1) (cells rest)
-  written_on r i {v} {gap} e l h w p s =
-      let g : i < length r = omega arith in
-      let g' : i < length (cells rest) = omega (arith, rest_length e) in
-      let x : v ≡ get_or (cells rest) i 0 = p ∙ ap (λ (j : ℕ). get_or (without j (take n q)) i 0) w ∙ sym (cells_at rest i) in
-      ap (λ (j : ℕ). take j (set r i v)) (add-one i) ∙ take-suc-set r i v g ∙ ap₂ (λ (a : List ℕ) (b : ℕ). a ++ (b ∷ [])) s x
-      ∙ sym (ap (λ (j : ℕ). take j (cells rest)) (add-one i) ∙ take-suc (cells rest) i 0 g')
-
-  pub all_written : (r : List ℕ) (i : ℕ) → length q ≡ 8 → length r ≡ 8 → 8 ≤ i → take i r ≡ take i (cells rest) → r ≡ cells rest
-  all_written r i e l h s =
-      let a : length r ≤ i = omega arith in
-      let b : length (cells rest) ≤ i = omega (arith, rest_length e) in
-      sym (take_all i r a) ∙ s ∙ take_all i (cells rest) b
+  -- every cell by itself
+  pub cells_are : {r : List ℕ} {gap : ℕ} → length q ≡ 8 → gap ≡ k → r ≡ list_from (λ i. get_or (without gap (take n q)) i 0) 0 8 → r ≡ cells rest
+  cells_are e w m =
+      m ∙ ap (λ (j : ℕ). list_from (λ i. get_or (without j (take n q)) i 0) 0 8) w
+      ∙ from_same (λ i. get_or rest i 0) (λ i. get_or (cells rest) i 0) 8 (λ j h. sym (cells_at rest j))
+      ∙ ap (list_from (λ i. get_or (cells rest) i 0) 0) (sym (rest_length e)) ∙ same_slots 0 (cells rest)
 
 -- how many are left of n responses in eight cells
 module _ (n k : ℕ) where
@@ -152,9 +146,6 @@ module _ (n k : ℕ) where
 
   pub eight_left : 8 ≤ n → 8 ≤ k → Left 8
   eight_left g h = left 8 (omega arith)
-
-pub set_length : (r : List ℕ) (i v : ℕ) → length r ≡ 8 → length (set r i v) ≡ 8
-set_length r i v e = length-set r i v ∙ e
 
 -- ---- one response more, and one taken out
 

@@ -16,6 +16,7 @@ ghost use Rattle.modules.specs.Turn.{empty_own, start_own};
 use places::Places;
 use reader::Found;
 use records::Record;
+use std::array;
 use water::{Flow, Water};
 
 // The procedure that runs: idle, with every field 0, or at a step of an event. A wait's ticks so far are counted; a litres step has its
@@ -104,13 +105,7 @@ fn cells_without(q: [u8; 8], n: u8, k: u8) -> [u8; 8]
     ensures { result ≡ cells (without k (take n q)) }
 {
     let gap = words::wide(k);
-    let mut r = [0u8; 8];
-    let mut i: usize = 0;
-    while i < 8 {
-        r[i] = cell_without(q, n, gap, i);
-        i += 1;
-    }
-    r
+    array::from_fn(|i| cell_without(q, n, gap, i))
 }
 
 // The own part with one response more, at the end of its queue.

@@ -1,14 +1,12 @@
-use mathlib.Core.Path.{refl}
-use native.Mathlib.Omega.{arith}
-use borrow.Author.Rules.{rules}
-use Rattle.modules.proofs.Queue.{written_on, all_written, set_length}
+use lib.ListN.{get_or, take}
+use Rattle.std.proofs.Common.{rules}
+use Rattle.modules.specs.Queue.{without}
+use Rattle.modules.proofs.Made.{made}
+use Rattle.modules.proofs.Queue.{cells_are}
 use Rattle.modules.proofs.cells_without.Goals as goal
 
-pub loop-i-init : goal.loop-i-init
-loop-i-init c = (omega arith, search rules, refl, refl)
-
-pub loop-i-preserved : goal.loop-i-preserved
-loop-i-preserved c = (search rules, search rules, search set_length, search written_on)
-
 pub returns : goal.returns
-returns c = search all_written
+returns c =
+    let a = c.args in
+    cells_are a.q a.n a.k (search rules) c.wide-gap.ensures
+    (made _ (λ i. get_or (without c.wide-gap.result (take a.n a.q)) i 0) _ (λ i y q k. search rules) _ 8 c.from_fn.ensures.items)
