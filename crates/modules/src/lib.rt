@@ -119,10 +119,11 @@ fn with_response(own: Own, e: u8) -> Own
     // No response stands at index 8.
     let mut after = cells_without(q, n, 8);
     after[i] = e;
-    let mut next = own;
-    next.queue = after;
-    next.length = n + 1;
-    next
+    Own {
+        queue: after,
+        length: n + 1,
+        ..own
+    }
 }
 
 // How many responses a queue of eight cells and n responses holds without the one at index k.
@@ -143,10 +144,11 @@ pub fn without(own: Own, k: u8) -> Own
     let n = own.length;
     let q = own.queue;
     let after = cells_without(q, n, k);
-    let mut next = own;
-    next.queue = after;
-    next.length = count_without(n, k);
-    next
+    Own {
+        queue: after,
+        length: count_without(n, k),
+        ..own
+    }
 }
 
 // A response of module m by the event e.
@@ -189,13 +191,12 @@ pub fn answer(reply: Reply) -> Called
 fn idle() -> Procedure
     ensures { result ≡ idle }
 {
-    let w = water::none();
     Procedure {
         running: false,
         event: 0,
         index: 0,
         count: 0,
-        water: w,
+        water: water::none(),
     }
 }
 
@@ -257,13 +258,12 @@ pub fn arrive_at(image: &[u8], places: Places, e: u8, i: u8) -> Procedure
 {
     let w = step_fields(image, places, e, i);
     if w.present {
-        let v = water_at(w.operation, w.operand);
         Procedure {
             running: true,
             event: e,
             index: i,
             count: 0,
-            water: v,
+            water: water_at(w.operation, w.operand),
         }
     } else {
         idle()
@@ -276,10 +276,10 @@ fn advanced(image: &[u8], places: Places, own: Own) -> Own
     ensures { result ≡ Steps.advanced (records_by image.now places) own }
 {
     let p = own.procedure;
-    let after = arrive_at(image, places, p.event, p.index + 1);
-    let mut next = own;
-    next.procedure = after;
-    next
+    Own {
+        procedure: arrive_at(image, places, p.event, p.index + 1),
+        ..own
+    }
 }
 
 // The own part with an output on or off.
@@ -288,13 +288,16 @@ fn switched(own: Own, x: u64, on: bool) -> Own
     ensures { result ≡ with_outputs own (cond on (output_on own.outputs x) (output_off own.outputs x)) }
 {
     let b = 1u32 << x;
-    let mut next = own;
     if on {
-        next.outputs = own.outputs | b;
-        next
+        Own {
+            outputs: own.outputs | b,
+            ..own
+        }
     } else {
-        next.outputs = own.outputs & !b;
-        next
+        Own {
+            outputs: own.outputs & !b,
+            ..own
+        }
     }
 }
 
@@ -304,14 +307,15 @@ fn waited(image: &[u8], places: Places, x: u64, own: Own) -> Own
     requires x_bound { x < 65536 }
     ensures { result ≡ cond (ltb (suc own.procedure.count) x) (counted own) (Steps.advanced (records_by image.now places) own) }
 {
-    let mut p = own.procedure;
+    let p = own.procedure;
     let n = p.count as u64 + 1;
     if n < x {
-        p.running = true;
-        p.count = p.count + 1;
-        let mut next = own;
-        next.procedure = p;
-        next
+        let procedure = Procedure {
+            running: true,
+            count: p.count + 1,
+            ..p
+        };
+        Own { procedure, ..own }
     } else {
         advanced(image, places, own)
     }
@@ -323,18 +327,19 @@ fn metered(image: &[u8], places: Places, x: u64, f: Flow, own: Own) -> Own
     requires f_value { flow_ok f ≡ true }
     ensures { result ≡ cond (Rules.running x own.procedure.water) (Steps.metered (records_by image.now places) f own) own }
 {
-    let mut p = own.procedure;
+    let p = own.procedure;
     let w = p.water;
     if water::running(x, w) {
         let v = water::updated(w, f);
         if water::reached(v) {
             advanced(image, places, own)
         } else {
-            p.running = true;
-            p.water = v;
-            let mut next = own;
-            next.procedure = p;
-            next
+            let procedure = Procedure {
+                running: true,
+                water: v,
+                ..p
+            };
+            Own { procedure, ..own }
         }
     } else {
         own
@@ -428,12 +433,11 @@ pub fn tick(image: &[u8], places: Places, f: Flow, own: Own) -> Replied
 pub fn empty() -> Own
     ensures { result ≡ empty_own }
 {
-    let p = idle();
     Own {
         state: 0,
         queue: [0u8; 8],
         length: 0,
-        procedure: p,
+        procedure: idle(),
         outputs: 0,
     }
 }
@@ -442,7 +446,8 @@ pub fn empty() -> Own
 pub fn started(image: &[u8], places: Places, m: u8) -> Own
     ensures { result ≡ start_own (records_by image.now places) m }
 {
-    let mut own = empty();
-    own.state = plan::module_initial(image, places, m);
-    own
+    Own {
+        state: plan::module_initial(image, places, m),
+        ..empty()
+    }
 }

@@ -5,4 +5,4 @@ use Rattle.modules.proofs.started.Goals as goal
 
 pub returns : goal.returns
 unfolding start_own
-returns c = ap₂ with_state c.empty-own.ensures c.module_initial.ensures
+returns c = ap₂ with_state c.empty.ensures c.module_initial.ensures
