@@ -75,8 +75,7 @@ pub fn message_at(w: Wire, k: usize) -> MessageAt
     }
     if k < 96 {
         let sent = w.messages[k];
-        let message = sent.message;
-        MessageAt::It(message)
+        MessageAt::It(sent.message)
     } else {
         MessageAt::Missing
     }
@@ -87,15 +86,12 @@ fn copied(w: Wire, onto: Wire, from: usize, to: usize) -> Wire
     ensures { result ≡ with_messages onto (drop from (take to w.messages)) }
 {
     let mut next = onto;
-    let mut i: usize = from;
-    while i < to {
+    for i in from..to {
         if 96 <= i {
             return next;
         }
         let sent = w.messages[i];
-        let message = sent.message;
-        next = with_message(next, message);
-        i += 1;
+        next = with_message(next, sent.message);
     }
     next
 }

@@ -1,4 +1,3 @@
-use Prim.Native.Nat.{◌-◌}
 use mathlib.Core.Path.{◌≡◌}
 use lib.ListN.{take, drop}
 use Rattle.wire.specs.Wire.{with_messages}
@@ -6,6 +5,3 @@ use Rattle.wire.proofs.copied.Given as goal
 
 abbrev pub invariant-loop-i : goal.invariant-loop-i
 invariant-loop-i l = with_messages l.next (drop l.i (take l.to l.w.messages)) ≡ with_messages l.initial.next (drop l.from (take l.to l.w.messages))
-
-abbrev pub decreases-loop-i : goal.decreases-loop-i
-decreases-loop-i l = l.to - l.i
