@@ -13,6 +13,8 @@ pub fn read_full<R: Read>(input: &mut R, buf: &mut [u8]) -> usize
     ensures bytes { Consumes (R.remaining input.old) (R.remaining input.new) (take result buf.new) }
 {
     let mut done: usize = 0;
+    // Each turn goes on by as many bytes as a read brought, so no `for` or chain counts this index, and std's read_exact and read_to_end say
+    // little after an error.
     while done < buf.len() {
         match input.read(&mut buf[done..]) {
             Ok(0) => return done,
