@@ -1,5 +1,5 @@
+pub mod Calls
 pub mod Chosen
-pub mod Made
 pub mod Queue
 pub mod Steps
 pub mod Ticks

@@ -1,7 +1,7 @@
 use lib.ListN.{get_or, take}
 use Rattle.std.proofs.Common.{rules}
 use Rattle.modules.specs.Queue.{without}
-use Rattle.modules.proofs.Made.{made}
+use Rattle.modules.proofs.Calls.{made}
 use Rattle.modules.proofs.Queue.{cells_are}
 use Rattle.modules.proofs.cells_without.Goals as goal
 
