@@ -67,13 +67,6 @@ module _ (rs : List Record) (n : ℕ) where
   abbrev pub state_passes : ℕ → ℕ → Bool
   state_passes v st = cond (ltb v n) (supervisor_state rs v st) (eqb st 0)
 
-  module _ (owns : List Own) (k : length owns ≡ 16) where
-    pub own_on : (z : Own) (m i : ℕ) {b : Bool} → b ≡ own_passes m (get_or owns i z) → i ≡ m → m < 16 → b ≡ true → all_below (slot_passes own_passes empty_own owns) m ≡ true → all_below (slot_passes own_passes empty_own owns) (m + 1) ≡ true
-    own_on z m i g e h = slot_on own_passes empty_own owns z m i g e (omega (arith, h, k))
-
-    pub own_fails : (z : Own) (m i : ℕ) {b : Bool} → b ≡ own_passes m (get_or owns i z) → i ≡ m → m < 16 → b ≡ false → false ≡ all_below (slot_passes own_passes empty_own owns) 16
-    own_fails z m i g e h f = slot_fails own_passes empty_own owns z m i g e (omega (arith, h, k)) f ∙ ap (all_below (slot_passes own_passes empty_own owns)) k
-
   module _ (states : List ℕ) (k : length states ≡ 32) (v : ℕ) {i : ℕ} (e : i ≡ v) (h : v < 32) where
     abbrev all : ℕ → Bool
     all = all_below (slot_passes state_passes 0 states)

@@ -1,26 +1,8 @@
-use mathlib.Core.Path.{◌≡◌, ap, ◌∙◌}
-use Prim.Native.Nat.{◌%◌}
-use native.Mathlib.Omega.{arith}
-use borrow.Author.Rules.{rules}
-use lib.ListN.{replicate}
-use Rattle.modules.specs.Turn.{empty_own}
-use Rattle.modules.specs.declared.Own.{Own}
-use Rattle.words.specs.Lists.{list_from}
+use Rattle.std.proofs.Common.{rules}
+use Rattle.places.specs.Places.{records_by}
+use Rattle.modules.proofs.Calls.{made}
 use Rattle.device_states.specs.States.{start_slot}
-use Rattle.words.proofs.Lists.{fill_on, fill_done}
 use Rattle.device_states.proofs.start_slots.Goals as goal
 
-pub loop-i-init : goal.loop-i-init
-unfolding list_from
-loop-i-init c = (search rules, ap (λ (o : Own). replicate 16 o) c.empty-empty.ensures)
-
-pub loop-i-preserved : goal.loop-i-preserved
-loop-i-preserved c =
-    let l = c.loop-i in
-    let e : l.i % 256 ≡ l.i = omega (arith, c.loop-i-test.true) in
-    (search rules, fill_on _ empty_own 16 l.i l.invariant.1 (c.start_slot-own.ensures ∙ ap (start_slot _) e) c.loop-i-test.true)
-
 pub returns : goal.returns
-returns c =
-    let l = c.loop-i in
-    fill_done _ empty_own 16 l.i l.invariant.1 c.loop-i-test.false l.invariant.0
+returns c = made _ (start_slot (records_by c.args.image.now c.args.places)) _ (λ i y q k. search rules) _ 16 c.from_fn.ensures.items

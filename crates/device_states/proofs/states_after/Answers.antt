@@ -1,5 +1,4 @@
-use mathlib.Core.Path.{◌≡◌, refl}
-use Prim.Native.Nat.{◌%◌}
+use mathlib.Core.Path.{refl}
 use native.Mathlib.Omega.{arith}
 use borrow.Author.Rules.{rules}
 use Rattle.words.specs.Lists.{list_from}
@@ -22,8 +21,7 @@ pub loop-i-preserved : goal.loop-i-preserved
 loop-i-preserved c =
     let l = c.loop-i in
     let a = c.args in
-    let e : l.i % 256 ≡ l.i = omega (arith, c.loop-i-test.true) in
-    (search rules, moved_on _ a.states (search rules) a.e _ l.invariant.1 _ e c.supervisor_after.ensures c.loop-i-test.true)
+    (search rules, moved_on _ a.states (search rules) a.e _ l.invariant.1 _ refl c.supervisor_after.ensures c.loop-i-test.true)
 
 pub returns : goal.returns
 returns c =

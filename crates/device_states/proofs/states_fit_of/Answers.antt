@@ -18,11 +18,11 @@ returns-then-n-v c =
 pub loop-v-preserved : goal.loop-v-preserved
 loop-v-preserved c = (search rules, search (state_on, rules))
 
-pub returns-else-supervisor_state : goal.returns-else-supervisor_state
-returns-else-supervisor_state c =
+pub returns-then-not-supervisor_state : goal.returns-then-not-supervisor_state
+returns-then-not-supervisor_state c =
     let a = c.args in
     let e = c.wide-i.ensures in
-    state_fails _ _ a.states (search rules) _ e c.loop-v-test.true c.if-n-v.false c.supervisor_state.ensures c.if-supervisor_state.false
+    state_fails _ _ a.states (search rules) _ e c.loop-v-test.true c.if-n-v.false c.supervisor_state.ensures c.if-not-supervisor_state.true
 
 pub returns : goal.returns
 returns c = search all_done
