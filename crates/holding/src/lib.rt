@@ -30,8 +30,7 @@ pub fn held_fits(adjacent: u32, held: u32) -> bool
     let held_bits = held as u64;
     // Whether the permits of all neighbours below v are held.
     let mut whole = true;
-    let mut v: u8 = 0;
-    while v < 32 {
+    for v in 0..32u8 {
         // Past the last that is held nothing is left to ask.
         if held_bits >> v == 0 {
             return true;
@@ -42,7 +41,6 @@ pub fn held_fits(adjacent: u32, held: u32) -> bool
             return false;
         }
         whole = (!neighbour_v | held_v) & whole;
-        v += 1;
     }
     true
 }

@@ -47,8 +47,7 @@ fn release_all(image: &[u8], places: Places, m: u8, mask: u32, t: Turn, buffer: 
 {
     let mask_bits = mask as u64;
     let mut at: usize = 0;
-    let mut v: u8 = 0;
-    while v < 32 {
+    for v in 0..32u8 {
         // Past the last of them nothing is left to write.
         if mask_bits >> v == 0 {
             return;
@@ -57,7 +56,6 @@ fn release_all(image: &[u8], places: Places, m: u8, mask: u32, t: Turn, buffer: 
             release_to(image, places, m, v, t, &mut *buffer, at);
             at += messages::RELEASE_SIZE;
         }
-        v += 1;
     }
 }
 

@@ -17,15 +17,13 @@ use places::Places;
 fn first_usable(moves: u64, q: [u8; 8], n: u8) -> Maybe
     ensures { option_of result ≡ first_among moves (take n q) }
 {
-    let mut i: u8 = 0;
-    while i < n {
+    for i in 0..n {
         if 8 <= i {
             return Maybe::Nothing;
         }
         if bits::has(moves, modules::cell(q, n, words::wide(i))) {
             return Maybe::Just(i);
         }
-        i += 1;
     }
     Maybe::Nothing
 }

@@ -14,12 +14,6 @@ returns-then-held_bits-v-eq0 c = search held_rest
 pub returns-then-held_v-neighbour_v : goal.returns-then-held_v-neighbour_v
 returns-then-held_v-neighbour_v c = search held_out
 
-pub overflow_add-v : goal.overflow_add-v
-overflow_add-v c = omega arith
-
-pub loop-v-smaller : goal.loop-v-smaller
-loop-v-smaller c = omega arith
-
 pub loop-v-preserved : goal.loop-v-preserved
 loop-v-preserved c = (omega arith, search whole_more, search held_more)
 

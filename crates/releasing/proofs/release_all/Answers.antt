@@ -16,12 +16,6 @@ pub overflow_add-at : goal.overflow_add-at
 overflow_add-at c =
     omega (arith, room_by _ _ _ _ _ _ _ _ c.loop-v.invariant c.has.ensures c.loop-v-test.true c.if-has.true)
 
-pub overflow_add-v : goal.overflow_add-v
-overflow_add-v c = omega arith
-
-pub loop-v-smaller : goal.loop-v-smaller
-loop-v-smaller c = omega arith
-
 pub loop-v-preserved : goal.loop-v-preserved
 loop-v-preserved c = elim c.if-has.branch [
   | then-has w ↦ on_by _ _ _ _ _ _ _ _ c.loop-v.invariant c.has.ensures c.loop-v-test.true w.if-has.true w.release_to.ensures w.buffer-is w.at-is
