@@ -56,10 +56,12 @@ pub fn lacks(adjacent: u32, held: u32) -> bool
 pub fn fits(image: &[u8], places: Places, m: u8, adjacent: u32, x: Module) -> bool
     ensures { result ≡ fits_in (records_by image.now places) m adjacent x }
 {
-    let own = x.own;
-    let held = x.held;
-    let received = x.received;
-    let bid = x.bid;
+    let Module {
+        own,
+        held,
+        received,
+        bid,
+    } = x;
     if held_fits(adjacent, held) {
         ((held != 0) | (received == 0))
             & (!bid | lacks(adjacent, held))

@@ -40,8 +40,10 @@ fn by_response(image: &[u8], places: Places, m: u8, i: u8, own: Own) -> Turned
             own,
         };
     };
-    let mut next = modules::without(own, i);
-    next.state = t;
+    let next = Own {
+        state: t,
+        ..modules::without(own, i)
+    };
     Turned {
         turn: Turn::Event(e),
         own: next,
@@ -65,10 +67,11 @@ fn by_choice(image: &[u8], places: Places, m: u8, k: u64, moves: u64, own: Own) 
             own,
         };
     };
-    let p = modules::arrive_at(image, places, e, 0);
-    let mut next = own;
-    next.state = to;
-    next.procedure = p;
+    let next = Own {
+        state: to,
+        procedure: modules::arrive_at(image, places, e, 0),
+        ..own
+    };
     Turned {
         turn: Turn::Event(e),
         own: next,
