@@ -10,7 +10,7 @@ pub returns-then-m-lt16 : goal.returns-then-m-lt16
 returns-then-m-lt16 c =
     let a = c.args in
     let h : length a.p.modules ≡ 16 = search mapped in
-    any_slot _ empty_module a.p.modules _ a.m c.wide-i.ensures (omega (arith, c.if-m-lt16.true))
+    any_slot _ empty_module a.p.modules _ a.m c.wide.ensures (omega (arith, c.if-m-lt16.true))
 
 pub returns-else-m-lt16 : goal.returns-else-m-lt16
 returns-else-m-lt16 c =

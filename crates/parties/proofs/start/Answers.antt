@@ -2,4 +2,4 @@ use Rattle.parties.proofs.start.Goals as goal
 
 pub returns : goal.returns
 returns c =
-    simp (c.start-c.ensures, c.empty-wire.ensures, c.start_supervisors-supervisors.ensures, c.start_modules-modules.ensures)
+    simp (c.start.ensures, c.empty.ensures, c.start_supervisors.ensures, c.start_modules.ensures)

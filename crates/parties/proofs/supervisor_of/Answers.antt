@@ -10,7 +10,7 @@ pub returns-then-v-lt32 : goal.returns-then-v-lt32
 returns-then-v-lt32 c =
     let a = c.args in
     let h : length a.p.supervisors ≡ 32 = search mapped in
-    any_slot _ empty_supervisor a.p.supervisors _ a.v c.wide-i.ensures (omega (arith, c.if-v-lt32.true))
+    any_slot _ empty_supervisor a.p.supervisors _ a.v c.wide.ensures (omega (arith, c.if-v-lt32.true))
 
 pub returns-else-v-lt32 : goal.returns-else-v-lt32
 returns-else-v-lt32 c =

@@ -6,7 +6,7 @@ use lib.Seq.{set_out}
 use Rattle.parties.proofs.with_module.Goals as goal
 
 pub returns-then-m-lt16 : goal.returns-then-m-lt16
-returns-then-m-lt16 c = simp c.wide-i.ensures
+returns-then-m-lt16 c = simp c.wide.ensures
 
 pub returns-else-m-lt16 : goal.returns-else-m-lt16
 returns-else-m-lt16 c =

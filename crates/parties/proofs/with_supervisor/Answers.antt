@@ -6,7 +6,7 @@ use lib.Seq.{set_out}
 use Rattle.parties.proofs.with_supervisor.Goals as goal
 
 pub returns-then-v-lt32 : goal.returns-then-v-lt32
-returns-then-v-lt32 c = simp c.wide-i.ensures
+returns-then-v-lt32 c = simp c.wide.ensures
 
 pub returns-else-v-lt32 : goal.returns-else-v-lt32
 returns-else-v-lt32 c =

@@ -1,4 +1,0 @@
-use Rattle.parties.proofs.supervisor_start.Goals as goal
-
-pub returns : goal.returns
-returns c = simp c.start-c.ensures
