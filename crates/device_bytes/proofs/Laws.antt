@@ -5,7 +5,7 @@ use mathlib.Core.Bool.{Bool, true, false, cond, ◌&&◌, and-false}
 use Prim.Native.Nat.{ℕ, suc, ◌+◌, ◌*◌, ◌-◌, ◌≤◌, ◌<◌}
 use native.Mathlib.Nat.{zero-add}
 use native.Mathlib.Omega.{arith}
-use lib.ListN.{length, get_or, set, take, drop, replicate, length-append, length-drop, get_or-eq_default}
+use lib.ListN.{length, get_or, take, drop, replicate, length-append, length-drop, get_or-eq_default}
 use lib.Dec.{T, ltb}
 use lib.Seq.{sets, sets-eq, length-sets, take_all, drop-cons, drop-length, get_or-drop, get_or-take}
 use lib.Ieee.Bits.{is_true}
@@ -22,7 +22,7 @@ use Rattle.modules.specs.Fits.{own_fits, own_empty}
 use Rattle.words.specs.Lists.{list_from}
 use Rattle.device_states.specs.declared.Device.{Device}
 use Rattle.device_states.specs.States.{own_at}
-use Rattle.words.proofs.Lists.{filled, fill_on, fill_done, from_length, from_at}
+use Rattle.words.proofs.Lists.{from_length, from_at}
 use Rattle.bits.proofs.Below.{all_on_lem, one_fails}
 use Rattle.fields.specs.Fields.{is_flag}
 use Rattle.fields.proofs.Writing.{join}
@@ -110,13 +110,6 @@ module _ (rs : List Record) (n : ℕ) (s : List ℕ) (m : ℕ) {b : Bool} (e : b
   slot_fails = one_fails (slot_fits rs n s) 16 m e
 
 module _ (s : List ℕ) where
-  pub states_on : (i : ℕ) {x : ℕ} {l : List ℕ} → l ≡ filled (state_byte s) 0 32 i → x ≡ get_or s (slots_size + i) 0 → i < 32 → set l i x ≡ filled (state_byte s) 0 32 (i + 1)
-  unfolding state_byte
-  states_on i = fill_on (state_byte s) 0 32 i
-
-  pub states_done : (i : ℕ) {l : List ℕ} → l ≡ filled (state_byte s) 0 32 i → 32 ≤ i → i ≤ 32 → l ≡ list_from (state_byte s) 0 32
-  states_done i = fill_done (state_byte s) 0 32 i
-
   -- the own part of a module
   pub slot_at : (m : ℕ) → m < 16 → own_at (device_at s) m ≡ slot_of s m
   slot_at m h = from_at (slot_of s) 0 16 m empty_own h ∙ ap (slot_of s) (zero-add m)

@@ -14,6 +14,7 @@ ghost use Rattle.device_bytes.specs.Device.{slots_size, device_size, owns_bytes,
 use device_states::Device;
 use modules::Own;
 use places::Places;
+use std::array;
 
 // The bytes of the slots and of a device: `slots_size` and `device_size` of the specs.
 pub const SLOTS_SIZE: usize = 16 * own_bytes::OWN_SIZE;
@@ -62,16 +63,13 @@ fn slots_fit(image: &[u8], places: Places, n: u8, s: &[u8]) -> bool
     requires { length s.now ≡ device_size }
     ensures { result ≡ all_below (slot_fits (records_by image.now places) n s.now) 16 }
 {
-    let mut m: u8 = 0;
-    while m < 16 {
+    for m in 0..16u8 {
         if n <= m {
             if zeros_from(s, m) {
                 return true;
             }
         }
-        if slot_fits(image, places, n, s, m) {
-            m += 1;
-        } else {
+        if !slot_fits(image, places, n, s, m) {
             return false;
         }
     }
@@ -82,13 +80,7 @@ fn states_in(s: &[u8]) -> [u8; 32]
     requires { length s.now ≡ device_size }
     ensures { result ≡ list_from (state_byte s.now) 0 32 }
 {
-    let mut next = [0u8; 32];
-    let mut i: usize = 0;
-    while i < 32 {
-        next[i] = s[SLOTS_SIZE + i];
-        i += 1;
-    }
-    next
+    array::from_fn(|v| s[SLOTS_SIZE + v])
 }
 
 // The states of the supervisors; bytes of another length have none.
@@ -111,8 +103,7 @@ pub fn fits(image: &[u8], places: Places, s: &[u8]) -> bool
     }
     let n = plan::modules_of(image, places);
     if slots_fit(image, places, n, s) {
-        let states = states_in(s);
-        device_states::states_fit(image, places, states)
+        device_states::states_fit(image, places, states_in(s))
     } else {
         false
     }
@@ -128,8 +119,7 @@ pub fn own_at(s: &[u8], m: u8) -> Own
     if 16 <= m {
         return modules::empty();
     }
-    let i = words::wide(m);
-    slot_of(s, i)
+    slot_of(s, words::wide(m))
 }
 
 // ---- put
@@ -145,11 +135,8 @@ fn put_slots(s: &mut [u8], owns: [Own; 16])
     requires { slots_size ≤ length s.old }
     ensures { (s.new ≡ sets s.old 0 (owns_bytes owns)) × (length (owns_bytes owns) ≡ slots_size) }
 {
-    let mut i: usize = 0;
-    while i < 16 {
-        let own = owns[i];
-        put_slot(&mut *s, i, own);
-        i += 1;
+    for i in 0..16 {
+        put_slot(&mut *s, i, owns[i]);
     }
 }
 
@@ -167,9 +154,7 @@ pub fn put_device(s: &mut [u8], d: Device)
     ensures { s.new ≡ device_put d s.old }
 {
     if DEVICE_SIZE <= s.len() {
-        let modules = d.modules;
-        let supervisors = d.supervisors;
-        put_slots(&mut *s, modules);
-        words::put_bytes(&mut *s, SLOTS_SIZE, &supervisors);
+        put_slots(&mut *s, d.modules);
+        words::put_bytes(&mut *s, SLOTS_SIZE, &d.supervisors);
     }
 }

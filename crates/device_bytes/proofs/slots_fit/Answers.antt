@@ -15,8 +15,8 @@ returns-then-zeros_from c = search slots_zero
 pub loop-m-preserved : goal.loop-m-preserved
 loop-m-preserved c = (search rules, search slot_on)
 
-pub returns-else-slot_fits : goal.returns-else-slot_fits
-returns-else-slot_fits c = search slot_fails
+pub returns-then-not-slot_fits : goal.returns-then-not-slot_fits
+returns-then-not-slot_fits c = search slot_fails
 
 pub returns : goal.returns
 returns c = search all_done
