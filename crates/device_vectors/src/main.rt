@@ -131,11 +131,8 @@ fn run_ticks(
     times: u64,
 ) -> io::Result<Device> {
     let mut c = device::tick(image, d, m, f);
-    let mut k: u64 = 1;
-    while k < times {
-        let d = c.device;
-        c = device::tick(image, d, m, f);
-        k += 1;
+    for _ in 1..times {
+        c = device::tick(image, c.device, m, f);
     }
     called(rt, c)
 }
@@ -212,18 +209,14 @@ fn run_line(rt: &impl Print, img: &mut [u8], r: Held, s: &[u8]) -> io::Result<He
 fn run(rt: &impl Print, text: &[u8]) -> io::Result<()> {
     let mut room = [0u8; 49160];
     let img: &mut [u8] = &mut room;
-    let none = device::start(b"");
-    let device = none.device;
-    let mut r = Held { device, n: 0 };
-    let mut at: usize = 0;
-    while at < text.len() {
-        let end = example_lines::line_end(text, at);
-        r = run_line(rt, &mut *img, r, example_lines::line_at(text, at))?;
-        if text.len() <= end {
-            return Ok(());
-        }
-        at = end + 1;
-    }
+    let none = Held {
+        device: device::start(b"").device,
+        n: 0,
+    };
+    text.split_inclusive(|b| *b == b'\n').try_fold(
+        none,
+        |r, line| run_line(rt, &mut *img, r, example_lines::line_at(line, 0)),
+    )?;
     Ok(())
 }
 

@@ -276,16 +276,11 @@ fn run_line(rt: &impl Print, img: &mut [u8], s: &[u8]) -> io::Result<()> {
 fn run(rt: &impl Print, text: &[u8]) -> io::Result<()> {
     let mut room = [0u8; 49160];
     let img: &mut [u8] = &mut room;
-    let mut at: usize = 0;
-    while at < text.len() {
-        let end = example_lines::line_end(text, at);
-        run_line(rt, &mut *img, example_lines::line_at(text, at))?;
-        if text.len() <= end {
-            return Ok(());
-        }
-        at = end + 1;
-    }
-    Ok(())
+    text.split_inclusive(|b| *b == b'\n').try_for_each(|line| run_line(
+        rt,
+        &mut *img,
+        example_lines::line_at(line, 0),
+    ))
 }
 
 // Input beyond 262,144 bytes is left out.
