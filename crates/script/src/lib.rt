@@ -105,13 +105,11 @@ fn push_states(t: Text, modules: [Own; 16], n: usize) -> Text
     ensures { (result ≡ appended t (spaced_all (take n (states_of modules)))) × (length (spaced_all (take n (states_of modules))) ≤ 64) }
 {
     let mut next = t;
-    let mut i: usize = 0;
-    while i < n {
+    for i in 0..n {
         if 16 <= i {
             return next;
         }
         next = texts::push_field(next, state_of(modules[i]));
-        i += 1;
     }
     next
 }

@@ -1,5 +1,4 @@
 use mathlib.Core.Logic.{inl, inr}
-use Prim.Native.Nat.{◌-◌}
 use Rattle.script.proofs.States.{passed_first, states_again, states_done, states_short}
 use Rattle.script.proofs.push_states.Goals as goal
 

@@ -1,4 +1,3 @@
-use Prim.Native.Nat.{◌-◌}
 use lib.ListN.{take}
 use Rattle.script.specs.Answers.{states_of}
 use Rattle.script.proofs.States.{Passed}
@@ -6,6 +5,3 @@ use Rattle.script.proofs.push_states.Given as goal
 
 abbrev pub invariant-loop-i : goal.invariant-loop-i
 invariant-loop-i l = Passed l.initial.next (take l.n (states_of l.modules)) l.next l.i
-
-abbrev pub decreases-loop-i : goal.decreases-loop-i
-decreases-loop-i l = l.n - l.i
