@@ -16,62 +16,26 @@ fn print(rt: &impl Print, t: Text) -> io::Result<()> {
     rt.write_all(texts::first(&bytes, n))
 }
 
-// The check of what has come of the image, whether there may be more, and whether it could not be read.
-#[derive(Clone, Copy)]
-struct Progress {
-    state: CheckState,
-    more: bool,
-    failed: bool,
-}
-
-// The piece that one read brings; it may be shorter than asked for.
-fn read_piece(stdin: &mut impl Read, state: CheckState) -> Progress {
-    let mut buf = [0u8; PIECE];
-    match stdin.read(&mut buf) {
-        Ok(0) => Progress {
-            state,
-            more: false,
-            failed: false,
-        },
-        Ok(n) => Progress {
-            state: pieces::take(state, &buf[..n]),
-            more: true,
-            failed: false,
-        },
-        Err(_) => Progress {
-            state,
-            more: false,
-            failed: true,
-        },
-    }
-}
-
-// A proved loop has to end, and nothing says that the input does: so it counts its turns down from a number that no run uses up.
-fn read_image(stdin: &mut impl Read) -> Progress {
+// The check of the whole image, or none if it cannot be read to its end. A proved loop has to end, and nothing says that the input does: so it goes
+// over more turns than a run uses up.
+fn read_image(stdin: &mut impl Read) -> Option<CheckState> {
     let mut state = pieces::start();
-    let mut turns = u64::MAX;
-    while turns > 0 {
-        let p = read_piece(stdin, state);
-        if !p.more {
-            return p;
+    let mut buf = [0u8; PIECE];
+    for _ in 0..u64::MAX {
+        match stdin.read(&mut buf) {
+            Ok(0) => return Some(state),
+            Ok(n) => state = pieces::take(state, &buf[..n]),
+            Err(_) => return None,
         }
-        state = p.state;
-        turns -= 1;
     }
-    Progress {
-        state,
-        more: true,
-        failed: true,
-    }
+    None
 }
 
 // Of an image that cannot be read to its end nothing is told.
 fn main(rt: HostRuntime) -> io::Result<()> {
-    let p = read_image(&mut rt.stdin());
-    if p.failed {
+    let Some(state) = read_image(&mut rt.stdin()) else {
         return print(&rt, texts::word(b"not read\n"));
-    }
-    let state = p.state;
+    };
     match pieces::verdict(state) {
         Verdict::Accepted => print(&rt, texts::word(b"accepted\n")),
         Verdict::Refused(n, at) => print(&rt, script::plan_refused_line(n, at)),

@@ -31,64 +31,36 @@ fn play_line(rt: &impl Print, image: &[u8], d: Device, line: Partial) -> io::Res
     Ok(got.device)
 }
 
-// How far the script has come: the device, the line that is still coming, and whether there may be more.
+// How far the script has come: the device, and the line that is still coming.
 #[derive(Clone, Copy)]
 struct Progress {
     device: Device,
     line: Partial,
-    more: bool,
 }
 
 // The bytes of a part of the script, one after the other.
-fn play_bytes(rt: &impl Print, image: &[u8], p: Progress, s: &[u8]) -> io::Result<Progress> {
-    let mut d = p.device;
-    let mut line = p.line;
-    let mut i: usize = 0;
-    while i < s.len() {
-        if s[i] == b'\n' {
-            d = play_line(rt, image, d, line)?;
-            line = lines::begun();
+fn play_bytes(rt: &impl Print, image: &[u8], mut p: Progress, s: &[u8]) -> io::Result<Progress> {
+    for &byte in s {
+        if byte == b'\n' {
+            p.device = play_line(rt, image, p.device, p.line)?;
+            p.line = lines::begun();
         } else {
-            line = lines::with_byte(line, s[i]);
+            p.line = lines::with_byte(p.line, byte);
         }
-        i += 1;
     }
-    Ok(Progress {
-        device: d,
-        line,
-        more: true,
-    })
+    Ok(p)
 }
 
 // The last line may lack its line feed; nothing behind a line feed is no line.
 fn play_last(rt: &impl Print, image: &[u8], p: Progress) -> io::Result<Device> {
-    let d = p.device;
-    let line = p.line;
-    if lines::has_byte(line) {
-        play_line(rt, image, d, line)
+    if lines::has_byte(p.line) {
+        play_line(rt, image, p.device, p.line)
     } else {
-        Ok(d)
+        Ok(p.device)
     }
 }
 
-// The bytes that one read brings.
-fn read_part(
-    rt: &impl Print,
-    stdin: &mut impl Read,
-    image: &[u8],
-    p: Progress,
-) -> io::Result<Progress> {
-    let mut buf = [0u8; PART];
-    let n = stdin.read(&mut buf).unwrap_or(0);
-    if n == 0 {
-        let mut last = p;
-        last.more = false;
-        return Ok(last);
-    }
-    play_bytes(rt, image, p, &buf[..n])
-}
-
-// A proved loop has to end, and nothing says that the input does: so it counts its turns down from a number that no run uses up.
+// A proved loop has to end, and nothing says that the input does: so it goes over more turns than a run uses up.
 fn play_script(
     rt: &impl Print,
     stdin: &mut impl Read,
@@ -98,15 +70,14 @@ fn play_script(
     let mut p = Progress {
         device,
         line: lines::begun(),
-        more: true,
     };
-    let mut turns = u64::MAX;
-    while turns > 0 {
-        p = read_part(rt, stdin, image, p)?;
-        if !p.more {
-            return play_last(rt, image, p);
+    let mut buf = [0u8; PART];
+    for _ in 0..u64::MAX {
+        let n = stdin.read(&mut buf).unwrap_or(0);
+        if n == 0 {
+            break;
         }
-        turns -= 1;
+        p = play_bytes(rt, image, p, &buf[..n])?;
     }
     play_last(rt, image, p)
 }
