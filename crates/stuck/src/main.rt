@@ -20,21 +20,19 @@ fn print(rt: &impl Print, t: Text) -> io::Result<()> {
 }
 
 // A line of a name and numbers, printed one by one, since a word may be longer than a text.
-fn print_numbers(rt: &impl Print, name: Text, s: &[u8], from: usize, to: usize) -> io::Result<()> {
+fn print_numbers(rt: &impl Print, name: Text, numbers: &[u8]) -> io::Result<()> {
     print(rt, name)?;
-    let mut i = from;
-    while i < to {
-        print(rt, texts::push_field(texts::empty(), words::byte_at(s, i)))?;
-        i += 1;
+    for &n in numbers {
+        print(rt, texts::push_field(texts::empty(), n))?;
     }
     print(rt, texts::word(b"\n"))
 }
 
-// The word, and the state that it leads to, which is the last k bytes of n.
-fn print_stuck(rt: &impl Print, answer: &[u8], n: usize, k: usize) -> io::Result<()> {
-    let at = if k < n { n - k } else { 0 };
-    print_numbers(rt, texts::word(b"word"), answer, 0, at)?;
-    print_numbers(rt, texts::word(b"states"), answer, at, n)
+// The word, and the state that it leads to, which is the last k numbers of the answer.
+fn print_stuck(rt: &impl Print, answer: &[u8], k: usize) -> io::Result<()> {
+    let (word, states) = answer.split_at(answer.len().saturating_sub(k));
+    print_numbers(rt, texts::word(b"word"), word)?;
+    print_numbers(rt, texts::word(b"states"), states)
 }
 
 fn run_on(rt: &impl Print, image: &[u8], places: Places) -> io::Result<()> {
@@ -47,7 +45,7 @@ fn run_on(rt: &impl Print, image: &[u8], places: Places) -> io::Result<()> {
         Blocking::Free => print(rt, texts::word(b"never stuck\n")),
         Blocking::Stuck(n) => {
             let k = words::wide(modules) + words::wide(supervisors);
-            print_stuck(rt, &answer, n, k)
+            print_stuck(rt, texts::first(&answer, n), k)
         }
         Blocking::Refused(n, _) => print(rt, script::refused_line(n)),
     }

@@ -3,7 +3,7 @@
 
 use checker::Examined;
 use counting::Counting;
-use length_input::{Input, WordLength};
+use length_input::WordLength;
 use std::io::Read;
 use std::{fs, io};
 use texts::Text;
@@ -23,37 +23,16 @@ fn print(rt: &impl Print, t: Text) -> io::Result<()> {
     rt.write_all(texts::first(&bytes, n))
 }
 
-// What has come of the input, and whether there may be more.
-#[derive(Clone, Copy)]
-struct Progress {
-    input: Input,
-    more: bool,
-}
-
-// The bytes that one read brings.
-fn read_part(stdin: &mut impl Read, input: Input) -> Progress {
-    let mut buf = [0u8; PART];
-    let n = stdin.read(&mut buf).unwrap_or(0);
-    if n == 0 {
-        return Progress { input, more: false };
-    }
-    Progress {
-        input: length_input::with_bytes(input, &buf[..n]),
-        more: true,
-    }
-}
-
-// A proved loop has to end, and nothing says that the input does: so it counts its turns down from a number that no run uses up.
+// A proved loop has to end, and nothing says that the input does: so it goes over more turns than a run uses up.
 fn read_length(stdin: &mut impl Read) -> WordLength {
     let mut input = length_input::begun();
-    let mut turns = u64::MAX;
-    while turns > 0 {
-        let p = read_part(stdin, input);
-        input = p.input;
-        if !p.more {
-            return length_input::length_of(input);
+    let mut buf = [0u8; PART];
+    for _ in 0..u64::MAX {
+        let n = stdin.read(&mut buf).unwrap_or(0);
+        if n == 0 {
+            break;
         }
-        turns -= 1;
+        input = length_input::with_bytes(input, &buf[..n]);
     }
     length_input::length_of(input)
 }
