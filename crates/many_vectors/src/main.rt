@@ -319,13 +319,9 @@ struct Held {
 
 // The states before any call.
 fn fresh() -> Held {
-    let c = module_calls::start(b"", 0);
-    let module = c.state;
-    let d = supervisor_calls::start(b"", 0);
-    let supervisor = d.state;
     Held {
-        module,
-        supervisor,
+        module: module_calls::start(b"", 0).state,
+        supervisor: supervisor_calls::start(b"", 0).state,
         n: 0,
     }
 }
@@ -395,16 +391,10 @@ fn run_line(rt: &impl Print, img: &mut [u8], r: Held, s: &[u8]) -> io::Result<He
 fn run(rt: &impl Print, text: &[u8]) -> io::Result<()> {
     let mut room = [0u8; 49160];
     let img: &mut [u8] = &mut room;
-    let mut r = fresh();
-    let mut at: usize = 0;
-    while at < text.len() {
-        let end = example_lines::line_end(text, at);
-        r = run_line(rt, &mut *img, r, example_lines::line_at(text, at))?;
-        if text.len() <= end {
-            return Ok(());
-        }
-        at = end + 1;
-    }
+    text.split_inclusive(|b| *b == b'\n').try_fold(
+        fresh(),
+        |r, line| run_line(rt, &mut *img, r, example_lines::line_at(line, 0)),
+    )?;
     Ok(())
 }
 

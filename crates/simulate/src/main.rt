@@ -38,12 +38,8 @@ fn print(rt: &impl Print, t: Text) -> io::Result<()> {
 
 fn print_row(rt: &impl Print, word: &[u8], r: Row) -> io::Result<()> {
     rt.write_all(word)?;
-    let mut i: usize = 0;
-    while i < 1024 {
-        if i < r.count {
-            print(rt, texts::push_field(texts::empty(), r.numbers[i]))?;
-        }
-        i += 1;
+    for &n in r.numbers.iter().take(r.count) {
+        print(rt, texts::push_field(texts::empty(), n))?;
     }
     rt.write_all(b"\n")
 }
@@ -63,13 +59,11 @@ fn gathered(rt: &impl Print, word: &[u8], r: Row, event: Maybe) -> io::Result<Ro
 
 // The messages from a place on.
 fn print_sent(rt: &impl Print, w: Wire, from: usize) -> io::Result<()> {
-    let mut k = from;
-    while k < w.count {
+    for k in from..w.count {
         let MessageAt::It(g) = wire::message_at(w, k) else {
             return Ok(());
         };
         print(rt, answers::sent_line(g))?;
-        k += 1;
     }
     Ok(())
 }
@@ -108,64 +102,36 @@ fn play_line(rt: &impl Print, image: &[u8], t: State, line: Partial) -> io::Resu
 
 // ---- the script
 
-// How far the script has come: the state, the line that is still coming, and whether there may be more.
+// How far the script has come: the state, and the line that is still coming.
 #[derive(Clone, Copy)]
 struct Progress {
     state: State,
     line: Partial,
-    more: bool,
 }
 
 // The bytes of a part of the script, one after the other.
-fn play_bytes(rt: &impl Print, image: &[u8], p: Progress, s: &[u8]) -> io::Result<Progress> {
-    let mut t = p.state;
-    let mut line = p.line;
-    let mut i: usize = 0;
-    while i < s.len() {
-        if s[i] == b'\n' {
-            t = play_line(rt, image, t, line)?;
-            line = lines::begun();
+fn play_bytes(rt: &impl Print, image: &[u8], mut p: Progress, s: &[u8]) -> io::Result<Progress> {
+    for &byte in s {
+        if byte == b'\n' {
+            p.state = play_line(rt, image, p.state, p.line)?;
+            p.line = lines::begun();
         } else {
-            line = lines::with_byte(line, s[i]);
+            p.line = lines::with_byte(p.line, byte);
         }
-        i += 1;
     }
-    Ok(Progress {
-        state: t,
-        line,
-        more: true,
-    })
+    Ok(p)
 }
 
 // The last line may lack its line feed; nothing behind a line feed is no line.
 fn play_last(rt: &impl Print, image: &[u8], p: Progress) -> io::Result<State> {
-    let t = p.state;
-    let line = p.line;
-    if lines::has_byte(line) {
-        play_line(rt, image, t, line)
+    if lines::has_byte(p.line) {
+        play_line(rt, image, p.state, p.line)
     } else {
-        Ok(t)
+        Ok(p.state)
     }
 }
 
-// The bytes that one read brings.
-fn read_part(
-    rt: &impl Print,
-    stdin: &mut impl Read,
-    image: &[u8],
-    p: Progress,
-) -> io::Result<Progress> {
-    let mut buf = [0u8; PART];
-    let n = stdin.read(&mut buf).unwrap_or(0);
-    if n == 0 {
-        let mut last = p;
-        last.more = false;
-        return Ok(last);
-    }
-    play_bytes(rt, image, p, &buf[..n])
-}
-
-// A proved loop has to end, and nothing says that the input does: so it counts its turns down from a number that no run uses up.
+// A proved loop has to end, and nothing says that the input does: so it goes over more turns than a run uses up.
 fn play_script(
     rt: &impl Print,
     stdin: &mut impl Read,
@@ -175,15 +141,14 @@ fn play_script(
     let mut p = Progress {
         state,
         line: lines::begun(),
-        more: true,
     };
-    let mut turns = u64::MAX;
-    while turns > 0 {
-        p = read_part(rt, stdin, image, p)?;
-        if !p.more {
-            return play_last(rt, image, p);
+    let mut buf = [0u8; PART];
+    for _ in 0..u64::MAX {
+        let n = stdin.read(&mut buf).unwrap_or(0);
+        if n == 0 {
+            break;
         }
-        turns -= 1;
+        p = play_bytes(rt, image, p, &buf[..n])?;
     }
     play_last(rt, image, p)
 }

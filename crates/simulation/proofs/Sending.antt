@@ -51,9 +51,6 @@ module _ (s : List ℕ) (at : ℕ) (next : Wire) {x : Wire} (f : with_messages n
   unfolding with_messages
   releases_end h = sym (ap (with_messages next) (releases_short (drop at s) (simp length-drop h))) ∙ f
 
-  pub releases_done : length s ≤ at → next ≡ x
-  releases_done h = releases_end (omega arith)
-
 -- the first bytes of a buffer, as many as are there
 pub part : (b : List ℕ) (n : ℕ) {k : ℕ} → k ≡ min n (length b) → take k b ≡ take n b
 part b n e = ap (λ (j : ℕ). take j b) e ∙ go n b

@@ -50,14 +50,9 @@ fn send_releases(w: Wire, s: &[u8]) -> Wire
     ensures { result ≡ with_messages w (releases_of s.now) }
 {
     let mut next = w;
-    let mut at: usize = 0;
-    while at < s.len() {
-        if s.len() - at < messages::RELEASE_SIZE {
-            return next;
-        }
-        let end = at + messages::RELEASE_SIZE;
-        next = send(next, &s[at..end]);
-        at = end;
+    for k in 0..s.len() / messages::RELEASE_SIZE {
+        let at = k * messages::RELEASE_SIZE;
+        next = send(next, &s[at..at + messages::RELEASE_SIZE]);
     }
     next
 }
