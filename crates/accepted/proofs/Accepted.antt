@@ -1,4 +1,5 @@
 -- The laws of an accepted plan.
+use Rattle.std.specs.Prelude.{Option}
 use Prim.Native.Nat.{ℕ, ◌<◌}
 use mathlib.Core.Path.{◌≡◌, refl, sym, ap, subst}
 use mathlib.Core.Logic.{◌⊎◌, inl, inr, ⊎_elim}
@@ -17,7 +18,6 @@ use Rattle.records.specs.declared.Record.TheVariants.{Event, Module, Supervisor,
 use Rattle.records.specs.declared.RecordKey.{RecordKey}
 use Rattle.reader.specs.Find.{find_in, found}
 use Rattle.reader.specs.Walk.{records_of}
-use Rattle.reader.specs.declared.Found.{Found}
 use Rattle.rules.specs.LookUp.{field1, field2, field3, word_field, field_of, modules_of, supervisors_of, events_of}
 use Rattle.rules.specs.Rules.{in_order, all_declared}
 use Rattle.rules.specs.Check.{IsPlan}
@@ -71,7 +71,7 @@ module _ (latest all : List Record) (v : Valid latest) (ended : End ∈ latest) 
 
   head_same : find_in head_key last.before ≡ find_in head_key all
   unfolding found
-  head_same = same last head_key (subst (λ (f : Found). T (found f)) (sym start.finds) tt)
+  head_same = same last head_key (subst (λ (f : Option Record). T (found f)) (sym start.finds) tt)
 
   counts : Counted (find_in head_key all)
   counts = subst Counted head_same (counted last.before start)
@@ -82,7 +82,7 @@ module _ (latest all : List Record) (v : Valid latest) (ended : End ∈ latest) 
       → (i : ℕ) → i < field_of f (find_in head_key all) → (r : Record) × (remade k i r ∈ all)
   declared k f t i h =
       let n : ℕ = field_of f (find_in head_key last.before) in
-      let d : T (ltb i n && found (find_in (key_by k i 0 0) last.before)) = all_at _ n t i (subst (λ (l : Found). i < field_of f l) (sym head_same) h) in
+      let d : T (ltb i n && found (find_in (key_by k i 0 0) last.before)) = all_at _ n t i (subst (λ (l : Option Record). i < field_of f l) (sym head_same) h) in
       let s = some_found (key_by k i 0 0) last.before (search both) in
       (s.0, Memᴰ.cast (sym (shape k i s.0 (ap (λ (p : RecordKey). p.kind) s.2) (ap (λ (p : RecordKey). p.first) s.2))) (last.within s.0 s.1))
 

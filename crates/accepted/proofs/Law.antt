@@ -1,4 +1,5 @@
 -- What a record that passes over the records before it names, among all the records.
+use Rattle.std.specs.Prelude.{Option}
 use Prim.Native.Nat.{ℕ, ◌<◌}
 use mathlib.Core.Path.{◌≡◌, sym, ap, ◌∙◌, subst}
 use mathlib.Core.List.{List}
@@ -14,7 +15,6 @@ use Rattle.records.specs.declared.Record.{Record}
 use Rattle.records.specs.declared.Record.TheVariants.{Head, Event, Module, ModuleMove, Supervisor, SupervisorMove, Disabling, Step, Marking, End}
 use Rattle.records.specs.declared.RecordKey.{RecordKey}
 use Rattle.reader.specs.Find.{find_in, found}
-use Rattle.reader.specs.declared.Found.{Found}
 use Rattle.rules.specs.LookUp.{field1, field2, field3, word_field, field_of, events_of, event_in, event_declared, supervisor_declared, owner_of, controllable, alphabet_of}
 use Rattle.rules.specs.Rules.{names_declared, keeps_rules}
 use Rattle.rules.specs.Valid.{Passes}
@@ -34,7 +34,7 @@ module _ (some all : List Record) (same : (p : RecordKey) → T (found (find_in 
   below : (f : Record → ℕ) (p : RecordKey) (x : ℕ) → T (ltb x (field_of f (find_in p some))) → x < field_of f (find_in p all)
   below f p x t =
       let h : x < field_of f (find_in p some) = ltb→lt x (field_of f (find_in p some)) t in
-      subst (λ (l : Found). x < field_of f l) (same p (found_field f x (find_in p some) h)) h
+      subst (λ (l : Option Record). x < field_of f l) (same p (found_field f x (find_in p some) h)) h
 
   event_below : (e : ℕ) → T (event_declared some e) → e < events_of all
   event_below e t = below field3 head_key e (search both)
@@ -46,7 +46,7 @@ module _ (some all : List Record) (same : (p : RecordKey) → T (found (find_in 
   owner_same e t = ap (field_of field2) (event_same e t)
 
   class_same : (e : ℕ) → T (event_declared some e) → controllable some e ≡ controllable all e
-  class_same e t = ap (λ (l : Found). eqb (field_of field3 l) 1) (event_same e t)
+  class_same e t = ap (λ (l : Option Record). eqb (field_of field3 l) 1) (event_same e t)
 
   alphabet_same : (v : ℕ) → T (supervisor_declared some v) → alphabet_of some v ≡ alphabet_of all v
   alphabet_same v t = ap (field_of word_field) (same (key_by 0x14 v 0 0) (search both))

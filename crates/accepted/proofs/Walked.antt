@@ -1,4 +1,7 @@
 -- The walk of an accepted image: faultless records, the end record last, and then the image's end.
+use Rattle.refusal.specs.declared.Refusal.{Refusal}
+use Rattle.std.specs.Prelude.{Result, Ok, Err, ⊤}
+use Rattle.refusal.specs.Refusal.{refusal}
 use Prim.Native.Nat.{ℕ, zero, suc, ◌+◌, ◌≤◌}
 use native.Mathlib.Omega.{arith}
 use mathlib.Core.Path.{◌≡◌, refl, sym, ap, ◌∙◌, subst}
@@ -13,12 +16,11 @@ use Rattle.records.specs.declared.Record.TheVariants.{End}
 use Rattle.reader.specs.Read.{record_of}
 use Rattle.reader.specs.Walk.{Walk, more, stop, walk_of, walk_from, records_in}
 use Rattle.rules.specs.Check.{fault_of, check_walk, verdict_of, limit, IsPlan}
-use Rattle.rules.specs.declared.Verdict.TheVariants.{Accepted, Refused}
 use Rattle.rules.specs.Valid.{Valid}
 use Rattle.reader.specs.Walk.{stop_of}
 use Rattle.accepted.proofs.Shape.{lone}
 
-refused : {k o : ℕ} → Refused k o ≡ Accepted → ⊥
+refused : {e : Refusal} → ◌≡◌ {A = Result ⊤ Refusal} (Err e) (Ok tt) → ⊥
 refused a = let z : ◌≡◌ {A = ℕ} 0 1 = cc in omega arith
 
 -- after the faultless records rs, latest first, a walk to the end n of an image
@@ -29,13 +31,13 @@ pub record Walked (n : ℕ) (rs : List Record) (w : Walk) : Type 0 where
   pub stops : stop_of w ≡ n
 
 -- one record more, from what the rest tells and where the rest stops if this was the image's last byte
-step : (n o : ℕ) (rs : List Record) (r : Record) (w : Walk) → (Valid (r ∷ rs) → check_walk n (r ∷ rs) w ≡ Accepted → Walked n (r ∷ rs) w) → (suc o ≡ n → w ≡ stop 3 n)
-    → Valid rs → check_walk n rs (more o r w) ≡ Accepted → Walked n rs (more o r w)
+step : (n o : ℕ) (rs : List Record) (r : Record) (w : Walk) → (Valid (r ∷ rs) → check_walk n (r ∷ rs) w ≡ Ok tt → Walked n (r ∷ rs) w) → (suc o ≡ n → w ≡ stop 3 n)
+    → Valid rs → check_walk n rs (more o r w) ≡ Ok tt → Walked n rs (more o r w)
 unfolding check_walk Valid records_in stop_of
 step n o rs r w rest at_end v a = go (eqb (fault_of rs r) 0) (eqb (kind_of r) 0x1f) (eqb (suc o) n) refl refl refl a
   where
     go : (b c d : Bool) → eqb (fault_of rs r) 0 ≡ b → eqb (kind_of r) 0x1f ≡ c → eqb (suc o) n ≡ d
-        → cond b (cond c (cond d Accepted (Refused 4 (suc o))) (check_walk n (r ∷ rs) w)) (Refused (fault_of rs r) o) ≡ Accepted → Walked n rs (more o r w)
+        → cond b (cond c (cond d (Ok tt) (Err (refusal 4 (suc o)))) (check_walk n (r ∷ rs) w)) (Err (refusal (fault_of rs r) o)) ≡ Ok tt → Walked n rs (more o r w)
     go true true true p q e a =
         let h : w ≡ stop 3 n = at_end (eqb-true (suc o) n e) in
         let s : records_in w ≡ [] = ap records_in h in
@@ -56,14 +58,14 @@ unfolding walk_of
 none_left k o [] e = refl
 none_left k o (b ∷ bs) e = absurd (omega arith)
 
-walked : (n k o : ℕ) (bs : List ℕ) (rs : List Record) → o + length bs ≡ n → Valid rs → check_walk n rs (walk_of k o bs) ≡ Accepted → Walked n rs (walk_of k o bs)
+walked : (n k o : ℕ) (bs : List ℕ) (rs : List Record) → o + length bs ≡ n → Valid rs → check_walk n rs (walk_of k o bs) ≡ Ok tt → Walked n rs (walk_of k o bs)
 unfolding walk_of check_walk
 walked n k o [] rs e v a = absurd (refused a)
 walked n zero o (k ∷ bs) rs e v a =
     go (eqb (body_len k) no_len) (leb (body_len k) (length bs)) a (walked n (body_len k) (suc o) bs (record_of k bs ∷ rs) (omega arith))
   where
-    go : (b c : Bool) → check_walk n rs (cond b (stop 2 o) (cond c (more o (record_of k bs) (walk_of (body_len k) (suc o) bs)) (stop 3 o))) ≡ Accepted
-        → (Valid (record_of k bs ∷ rs) → check_walk n (record_of k bs ∷ rs) (walk_of (body_len k) (suc o) bs) ≡ Accepted → Walked n (record_of k bs ∷ rs) (walk_of (body_len k) (suc o) bs))
+    go : (b c : Bool) → check_walk n rs (cond b (stop 2 o) (cond c (more o (record_of k bs) (walk_of (body_len k) (suc o) bs)) (stop 3 o))) ≡ Ok tt
+        → (Valid (record_of k bs ∷ rs) → check_walk n (record_of k bs ∷ rs) (walk_of (body_len k) (suc o) bs) ≡ Ok tt → Walked n (record_of k bs ∷ rs) (walk_of (body_len k) (suc o) bs))
         → Walked n rs (cond b (stop 2 o) (cond c (more o (record_of k bs) (walk_of (body_len k) (suc o) bs)) (stop 3 o)))
     go true c a f = absurd (refused a)
     go false true a f =
@@ -73,12 +75,12 @@ walked n (suc k) o (b ∷ bs) rs e v a = walked n k (suc o) bs rs (omega arith) 
 
 -- ---- of an accepted image
 
-verdict : (s : List ℕ) → IsPlan s → (length s ≤ limit) × (check_walk (length s) [] (walk_from s 0) ≡ Accepted)
+verdict : (s : List ℕ) → IsPlan s → (length s ≤ limit) × (check_walk (length s) [] (walk_from s 0) ≡ Ok tt)
 unfolding verdict_of
 verdict s a = go (ltb limit (length s)) refl a
   where
-    go : (b : Bool) → ltb limit (length s) ≡ b → cond b (Refused 1 0) (check_walk (length s) [] (walk_from s 0)) ≡ Accepted
-        → (length s ≤ limit) × (check_walk (length s) [] (walk_from s 0) ≡ Accepted)
+    go : (b : Bool) → ltb limit (length s) ≡ b → cond b (Err (refusal 1 0)) (check_walk (length s) [] (walk_from s 0)) ≡ Ok tt
+        → (length s ≤ limit) × (check_walk (length s) [] (walk_from s 0) ≡ Ok tt)
     go true e a = absurd (refused a)
     go false e a = (ltb-false limit (length s) e, a)
 

@@ -1,12 +1,11 @@
 -- What an accepted plan promises of its records rs. Document 01, "Plan records" and numbers 4 to 8, as facts for the layers above.
-use Rattle.std.specs.Prelude.{ℕ, ◌≤◌, ◌<◌, ◌≡◌, true, false, length}
+use Rattle.std.specs.Prelude.{ℕ, ◌≤◌, ◌<◌, ◌≡◌, true, false, length, Some}
 use mathlib.Core.List.{List, [], ◌∷◌, ◌++◌, Memᴰ}
 use Rattle.bits.specs.Bit.{bit}
 use Rattle.records.specs.Key.{key_of}
 use Rattle.records.specs.Range.{in_range, operand_in_range}
 use Rattle.records.specs.declared.Record.{Record}
 use Rattle.records.specs.declared.Record.TheVariants.{Head, Event, Module, ModuleMove, Supervisor, SupervisorMove, Disabling, Step, Marking, End}
-use Rattle.reader.specs.declared.Found.TheVariants.{It}
 use Rattle.reader.specs.Find.{find_in}
 use Rattle.reader.specs.Walk.{walk_from, records_of, stop_of}
 use Rattle.rules.specs.LookUp.{field2, field_of, modules_of, supervisors_of, events_of, module_in, supervisor_in, owner_of, controllable, alphabet_of}
@@ -140,7 +139,7 @@ pub record Sound (rs : List Record) : Type 0 where
   pub events : (1 ≤ events_of rs) × (events_of rs ≤ 64)
   -- a look-up finds each record
   pub unique : Unique rs
-  pub finds : (r : Record) → r ∈ rs → find_in (key_of r) rs ≡ It r
+  pub finds : (r : Record) → r ∈ rs → find_in (key_of r) rs ≡ Some r
   -- each record's fields are in range and name what is there
   pub ranges : (r : Record) → r ∈ rs → in_range r ≡ true
   pub laws : (r : Record) → r ∈ rs → LawOf rs r

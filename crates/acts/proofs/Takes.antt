@@ -1,4 +1,5 @@
 -- A line of a simulation of any length, taken byte by byte: a good line has at most 11 bytes.
+use Rattle.std.specs.Prelude.{None}
 use mathlib.Core.Path.{◌≡◌, refl, sym, ap}
 use mathlib.Core.List.{List}
 use mathlib.Core.Bool.{Bool, true, false, cond}
@@ -6,7 +7,6 @@ use Prim.Native.Nat.{ℕ, ◌+◌, ◌<◌}
 use native.Mathlib.Omega.{arith}
 use lib.ListN.{length, take, drop, length-drop}
 use borrow.Author.Tests.{ne_eqb}
-use Rattle.bits.specs.declared.Maybe.TheVariants.{Nothing}
 use Rattle.lines.specs.Number.{number_of, space_in, starts}
 use Rattle.lines.specs.Partial.{Short}
 use Rattle.lines.proofs.Numbers.{number_long, byte_long}
@@ -35,7 +35,7 @@ act_long bs h = go (starts 109 bs) (starts 115 bs) (starts 100 bs) (starts 114 b
     long : 9 < length (drop 2 bs)
     long = simp length-drop (omega arith)
 
-    none : number_of (drop 2 bs) ≡ Nothing
+    none : number_of (drop 2 bs) ≡ None
     none = byte_long (drop 2 bs) (let l : 9 < length (drop 2 bs) = long in omega arith)
 
     go : (m s d r k : Bool)

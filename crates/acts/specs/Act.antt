@@ -1,12 +1,8 @@
 -- The script of the simulation. A line is a letter and decimal numbers without leading zeros, one space before each: `m M` a step of module M,
 -- `s V` a step of supervisor V, `d K` the delivery of the K-th message under way, `r M E` a response, `k M N` a tick with a reading of N
 -- eighths of a litre, `k M -` a tick where no sensor is fitted. Any other line is misshapen, as are numbers over 255, a reading's over 65,535.
-use Rattle.std.specs.Prelude.{ℕ, ◌+◌, ◌≡◌, List, Bool, true, false, cond, ◌&&◌, ◌||◌, length, get_or, take, drop, eqb}
+use Rattle.std.specs.Prelude.{ℕ, ◌+◌, ◌≡◌, List, Bool, true, false, cond, ◌&&◌, ◌||◌, length, get_or, take, drop, eqb, Option, Some, None}
 use Prim.Native.Char.{code}
-use Rattle.bits.specs.declared.Maybe.{Maybe}
-use Rattle.bits.specs.declared.Maybe.TheVariants.{Just, Nothing}
-use Rattle.lines.specs.declared.Number.{Number}
-use Rattle.lines.specs.declared.Number.TheVariants.{Value, Misshapen as NoNumber}
 use Rattle.lines.specs.declared.Partial.{Partial}
 use Rattle.lines.specs.Number.{number_up_to, number_of, space_in, starts}
 use Rattle.lines.specs.Partial.{partly, TakenWhole}
@@ -18,25 +14,25 @@ use Rattle.acts.specs.declared.Act.TheVariants.{Module, Supervisor, Delivery, Re
 use Rattle.acts.specs.declared.Reading.{Reading}
 use Rattle.acts.specs.declared.Reading.TheVariants.{Eighths, NoSensor, Misshapen as NoReading}
 
-abbrev pub reading_by : Number → Reading
-reading_by (Value n) = Eighths n
-reading_by NoNumber = NoReading
+abbrev pub reading_by : Option ℕ → Reading
+reading_by (Some n) = Eighths n
+reading_by None = NoReading
 
 -- `N`, up to 65,535 eighths, or `-`
 unfoldable pub reading_of : List ℕ → Reading
 reading_of bs = cond (eqb (length bs) 1 && eqb (get_or bs 0 0) (code "-")) NoSensor (reading_by (number_up_to 65535 bs))
 
-abbrev pub module_by : Maybe → Act
-module_by (Just m) = Module m
-module_by Nothing = Misshapen
+abbrev pub module_by : Option ℕ → Act
+module_by (Some m) = Module m
+module_by None = Misshapen
 
-abbrev pub supervisor_by : Maybe → Act
-supervisor_by (Just v) = Supervisor v
-supervisor_by Nothing = Misshapen
+abbrev pub supervisor_by : Option ℕ → Act
+supervisor_by (Some v) = Supervisor v
+supervisor_by None = Misshapen
 
-abbrev pub delivery_by : Maybe → Act
-delivery_by (Just k) = Delivery k
-delivery_by Nothing = Misshapen
+abbrev pub delivery_by : Option ℕ → Act
+delivery_by (Some k) = Delivery k
+delivery_by None = Misshapen
 
 -- the two numbers of a response are those of the listing
 abbrev pub response_by : Line → Act
@@ -44,11 +40,11 @@ response_by (PairOf m e) = Response m e
 response_by (Turn m) = Misshapen
 response_by NoPair = Misshapen
 
-abbrev pub tick_by : Maybe → Reading → Act
-tick_by (Just m) (Eighths n) = Tick m n
-tick_by (Just m) NoSensor = Unfitted m
-tick_by (Just m) NoReading = Misshapen
-tick_by Nothing r = Misshapen
+abbrev pub tick_by : Option ℕ → Reading → Act
+tick_by (Some m) (Eighths n) = Tick m n
+tick_by (Some m) NoSensor = Unfitted m
+tick_by (Some m) NoReading = Misshapen
+tick_by None r = Misshapen
 
 -- `M N` or `M -`
 unfoldable pub tick_of : List ℕ → Act

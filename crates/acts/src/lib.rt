@@ -4,8 +4,7 @@
 ghost use Rattle.std.specs.Prelude.{◌≡◌};
 ghost use Rattle.acts.specs.Act.{reading_by, reading_of, module_by, supervisor_by, delivery_by, response_by, tick_by, tick_of, act_of, ActAs};
 
-use bits::Maybe;
-use lines::{Number, Partial};
+use lines::Partial;
 use script::Line;
 
 // What a line of the script asks: a step of a module or a supervisor, a delivery, a response, a tick with a reading in eighths of a litre, or
@@ -29,12 +28,12 @@ enum Reading {
     Misshapen,
 }
 
-fn reading_by(n: Number) -> Reading
+fn reading_by(n: Option<u16>) -> Reading
     ensures { result ≡ reading_by n }
 {
     match n {
-        Number::Value(e) => Reading::Eighths(e),
-        Number::Misshapen => Reading::Misshapen,
+        Some(e) => Reading::Eighths(e),
+        None => Reading::Misshapen,
     }
 }
 
@@ -51,30 +50,30 @@ fn reading_of(s: &[u8]) -> Reading
     }
 }
 
-fn module_by(m: Maybe) -> Act
+fn module_by(m: Option<u8>) -> Act
     ensures { result ≡ module_by m }
 {
     match m {
-        Maybe::Just(n) => Act::Module(n),
-        Maybe::Nothing => Act::Misshapen,
+        Some(n) => Act::Module(n),
+        None => Act::Misshapen,
     }
 }
 
-fn supervisor_by(m: Maybe) -> Act
+fn supervisor_by(m: Option<u8>) -> Act
     ensures { result ≡ supervisor_by m }
 {
     match m {
-        Maybe::Just(n) => Act::Supervisor(n),
-        Maybe::Nothing => Act::Misshapen,
+        Some(n) => Act::Supervisor(n),
+        None => Act::Misshapen,
     }
 }
 
-fn delivery_by(m: Maybe) -> Act
+fn delivery_by(m: Option<u8>) -> Act
     ensures { result ≡ delivery_by m }
 {
     match m {
-        Maybe::Just(n) => Act::Delivery(n),
-        Maybe::Nothing => Act::Misshapen,
+        Some(n) => Act::Delivery(n),
+        None => Act::Misshapen,
     }
 }
 
@@ -88,16 +87,16 @@ fn response_by(l: Line) -> Act
     }
 }
 
-fn tick_by(m: Maybe, n: Reading) -> Act
+fn tick_by(m: Option<u8>, n: Reading) -> Act
     ensures { result ≡ tick_by m n }
 {
     match m {
-        Maybe::Just(k) => match n {
+        Some(k) => match n {
             Reading::Eighths(e) => Act::Tick(k, e),
             Reading::NoSensor => Act::Unfitted(k),
             Reading::Misshapen => Act::Misshapen,
         },
-        Maybe::Nothing => Act::Misshapen,
+        None => Act::Misshapen,
     }
 }
 

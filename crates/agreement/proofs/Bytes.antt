@@ -1,4 +1,5 @@
 -- A message's bytes are read as that message, and what a step writes is its messages, each by itself.
+use Rattle.std.specs.Prelude.{Some}
 use mathlib.Core.Path.{◌≡◌, refl, sym, ap, ap₂, ◌∙◌}
 use mathlib.Core.List.{List, [], ◌∷◌, ◌++◌, map, append_assoc, append-nil}
 use Prim.Native.Nat.{ℕ, ◌*◌, ◌^◌, ◌<◌}
@@ -10,7 +11,6 @@ use Rattle.words.proofs.Laws.{word_read, word_drop, length_word}
 use Rattle.messages.specs.Message.{release_size, message_bytes, parse, pieces}
 use Rattle.messages.specs.declared.Message.{Message}
 use Rattle.messages.specs.declared.Message.TheVariants.{Bid, Permit, Release}
-use Rattle.messages.specs.declared.Parsed.TheVariants.{Whole}
 use Rattle.permits.specs.Step.{bytes_of_messages}
 
 -- a permit's mask has 64 bits
@@ -19,7 +19,7 @@ Sized (Bid m v) = Unit {0}
 Sized (Permit v m k) = k < 2 ^ 64
 Sized (Release m v e) = Unit {0}
 
-pub parse_bytes : (g : Message) → Sized g → parse (message_bytes g) ≡ Whole g
+pub parse_bytes : (g : Message) → Sized g → parse (message_bytes g) ≡ Some g
 unfolding parse message_bytes
 parse_bytes (Bid m v) h = refl
 parse_bytes (Permit v m k) h =

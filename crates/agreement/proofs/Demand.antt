@@ -1,9 +1,11 @@
 -- Demand 3, from every system that belongs to a system of the rules with their invariant, and so from the start.
+use Rattle.std.specs.Prelude.{Option, Some, None, Ok, Err, is_some}
+use Rattle.refusal.specs.Refusal.{refusal}
+use Rattle.messages.specs.declared.Message.{Message}
 use mathlib.Core.Path.{◌≡◌, refl, sym, ap, ◌∙◌, subst}
 use mathlib.Core.Logic.{◌≢◌}
 use mathlib.Core.Bool.{Bool, true, false, cond, true≢false, false≢true}
 use mathlib.Core.List.{List, [], ◌∷◌, ◌++◌, map}
-use mathlib.Core.Option.{Option, none, some}
 use Prim.Native.Nat.{ℕ, zero, suc, ◌<◌}
 use native.Mathlib.Decide.{ℕ_discrete}
 use native.Mathlib.Omega.{arith}
@@ -13,21 +15,15 @@ use Rattle.reader.specs.Walk.{records_of}
 use Rattle.rules.specs.LookUp.{modules_of, supervisors_of}
 use Rattle.rules.specs.Check.{verdict_of, IsPlan}
 use Rattle.accepted.proofs.Accepted.{every_plan}
-use Rattle.modules.specs.declared.Called.TheVariants.{Done as Accepted}
 use Rattle.device.specs.Device.{start_call}
 use Rattle.device_states.specs.declared.Device.{Device}
 use Rattle.messages.specs.Message.{buffer_length, parse}
-use Rattle.messages.specs.declared.Parsed.{Parsed}
-use Rattle.messages.specs.declared.Parsed.TheVariants.{Whole}
 use Rattle.permits.specs.declared.Module.{Module}
 use Rattle.permits.specs.declared.Supervisor.{Supervisor}
-use Rattle.permits.specs.declared.Stepped.TheVariants.{Refused}
-use Rattle.permits.specs.declared.Served.TheVariants.{Refused as SupervisorRefused}
 use Rattle.permits.specs.Module as M
 use Rattle.permits.specs.Supervisor as S
 use Rattle.turn_laws.proofs.Laws.{turn_laws}
 use Rattle.roundtrip.proofs.AllFit.{all_fit}
-use Rattle.bits.specs.Bit.{is_some}
 use Rattle.protocol.specs.Generic.{Picked, pick, behind, update}
 use Rattle.protocol.specs.Plan.{Laws}
 use Rattle.protocol.specs.Rules as R
@@ -59,34 +55,34 @@ record_same (P.turn_seen m t o ∷ l) = ap (λ (w : List ℕ). P.turn_events t +
 record_same (P.reply_seen m r o ∷ l) = record_same l
 
 -- an accepted step is no refusal
-module_accepts : (rs : List Record) (m : ℕ) (x : Module) (c : M.Choice) (n o : ℕ) → M.answer_by rs m x c ≢ Refused n o
+module_accepts : (rs : List Record) (m : ℕ) (x : Module) (c : M.Choice) (n o : ℕ) → M.answer_by rs m x c ≢ Err (refusal n o)
 unfolding M.answer_by
 module_accepts rs m x M.takes_turn n o e = let z : ◌≡◌ {A = ℕ} 0 1 = cc in omega arith
 module_accepts rs m x M.waits n o e = let z : ◌≡◌ {A = ℕ} 0 1 = cc in omega arith
 module_accepts rs m x (M.bids_to v) n o e = let z : ◌≡◌ {A = ℕ} 0 1 = cc in omega arith
 
-supervisor_accepts : (bytes : List ℕ) (t : Option ℕ) (n o : ℕ) → S.answer_by bytes t ≢ SupervisorRefused n o
+supervisor_accepts : (bytes : List ℕ) (t : Option ℕ) (n o : ℕ) → S.answer_by bytes t ≢ Err (refusal n o)
 unfolding S.answer_by
-supervisor_accepts bytes none n o e = let z : ◌≡◌ {A = ℕ} 0 1 = cc in omega arith
-supervisor_accepts bytes (some m) n o e = let z : ◌≡◌ {A = ℕ} 0 1 = cc in omega arith
+supervisor_accepts bytes None n o e = let z : ◌≡◌ {A = ℕ} 0 1 = cc in omega arith
+supervisor_accepts bytes (Some m) n o e = let z : ◌≡◌ {A = ℕ} 0 1 = cc in omega arith
 
 -- ---- the index among all sent of a message under way
 
-open_at : (k : ℕ) (w : List A.Sent) (g : A.Sent) → A.at k w ≡ some g → g.delivered ≡ false → A.once (A.at k w) ≡ some g.bytes
+open_at : (k : ℕ) (w : List A.Sent) (g : A.Sent) → A.at k w ≡ Some g → g.delivered ≡ false → A.once (A.at k w) ≡ Some g.bytes
 unfolding A.once
-open_at k w g e f = ap A.once e ∙ ap (λ (d : Bool). cond d none (some g.bytes)) f
+open_at k w g e f = ap A.once e ∙ ap (λ (d : Bool). cond d None (Some g.bytes)) f
 
-was_there : {X : Type 0} (b : X) (o : Option (Picked X)) (q : Picked X) → behind b o ≡ some q → (p : Picked X) × (o ≡ some p)
+was_there : {X : Type 0} (b : X) (o : Option (Picked X)) (q : Picked X) → behind b o ≡ Some q → (p : Picked X) × (o ≡ Some p)
 unfolding behind
-was_there b none q e = let z : ◌≡◌ {A = ℕ} 0 1 = cc in absurd (omega arith)
-was_there b (some p) q e = (p, refl)
+was_there b None q e = let z : ◌≡◌ {A = ℕ} 0 1 = cc in absurd (omega arith)
+was_there b (Some p) q e = (p, refl)
 
-index_sent : (w : List A.Sent) (j : ℕ) (q : Picked (List ℕ)) → pick j (A.under_way w) ≡ some q → (k : ℕ) × (index_under_way k w ≡ j)
+index_sent : (w : List A.Sent) (j : ℕ) (q : Picked (List ℕ)) → pick j (A.under_way w) ≡ Some q → (k : ℕ) × (index_under_way k w ≡ j)
 unfolding A.under_way
 index_sent [] j q e = unfold pick in (let z : ◌≡◌ {A = ℕ} 0 1 = cc in absurd (omega arith))
 index_sent (g ∷ l) j q e = go (λ i p h. index_sent l i p h) g.delivered refl j e
   where
-    go : ((i : ℕ) (p : Picked (List ℕ)) → pick i (A.under_way l) ≡ some p → (k : ℕ) × (index_under_way k l ≡ i)) → (d : Bool) → g.delivered ≡ d → (j : ℕ) → pick j (cond d (A.under_way l) (g.bytes ∷ A.under_way l)) ≡ some q → (k : ℕ) × (index_under_way k (g ∷ l) ≡ j)
+    go : ((i : ℕ) (p : Picked (List ℕ)) → pick i (A.under_way l) ≡ Some p → (k : ℕ) × (index_under_way k l ≡ i)) → (d : Bool) → g.delivered ≡ d → (j : ℕ) → pick j (cond d (A.under_way l) (g.bytes ∷ A.under_way l)) ≡ Some q → (k : ℕ) × (index_under_way k (g ∷ l) ≡ j)
     go ih true f j e = let r = ih j q e in (suc r.0, unfold index_under_way in (ap (λ (d : Bool). cond d (index_under_way r.0 l) (suc (index_under_way r.0 l))) f ∙ r.1))
     go ih false f zero e = (zero, unfold index_under_way in (ap (λ (d : Bool). cond d (length (A.under_way l)) 0) f))
     go ih false f (suc i) e =
@@ -101,11 +97,11 @@ one_supervisor x y y' a b =
     λ i. record { state = (sym b.state ∙ a.state) i; noted = (sym b.noted ∙ a.noted) i; holder = (sym b.holder ∙ a.holder) i; last_served = (sym b.last ∙ a.last) i }
 
 -- an open bid is with the lowest neighbour not held
-one_bid : (t o o' : Option ℕ) → is_some o' ≡ is_some o → ((u : ℕ) → o ≡ some u → t ≡ some u) → ((u : ℕ) → o' ≡ some u → t ≡ some u) → o' ≡ o
-one_bid t none none e f g = refl
-one_bid t none (some u) e f g = absurd (true≢false e)
-one_bid t (some u) none e f g = absurd (false≢true e)
-one_bid t (some u) (some u') e f g = sym (g u' refl) ∙ f u refl
+one_bid : (t o o' : Option ℕ) → is_some o' ≡ is_some o → ((u : ℕ) → o ≡ Some u → t ≡ Some u) → ((u : ℕ) → o' ≡ Some u → t ≡ Some u) → o' ≡ o
+one_bid t None None e f g = refl
+one_bid t None (Some u) e f g = absurd (true≢false e)
+one_bid t (Some u) None e f g = absurd (false≢true e)
+one_bid t (Some u) (Some u') e f g = sym (g u' refl) ∙ f u refl
 
 module _ (rs : List Record) (D D' : P.System) (O O' : R.OneDevice) (I : Inv (plan_of rs) D O) (J : Inv (plan_of rs) D' O') where
   one_module : (m : ℕ) (x : Module) → SameModule x (D.module_at m) → SameModule x (D'.module_at m) → D'.module_at m ≡ D.module_at m
@@ -127,7 +123,7 @@ module _ (rs : List Record) (D D' : P.System) (O O' : R.OneDevice) (I : Inv (pla
       (λ e. q (one_supervisor (B.supervisor_at v) (D.supervisor_at v) (D'.supervisor_at v) (s.supervisors v k) (subst (λ (x : Supervisor). SameSupervisor x (D'.supervisor_at v)) e (t.supervisors v k))))
 
 -- a delivery that changes a state is that of a message under way
-changing : (image : List ℕ) (B : A.System) (k : ℕ) → Changes image B (A.step image B (A.deliver k)) → (g : A.Sent) × (A.at k B.sent ≡ some g) × (g.delivered ≡ false)
+changing : (image : List ℕ) (B : A.System) (k : ℕ) → Changes image B (A.step image B (A.deliver k)) → (g : A.Sent) × (A.at k B.sent ≡ Some g) × (g.delivered ≡ false)
 unfolding A.step
 changing image B k ch = go (A.at k B.sent) refl ch
   where
@@ -135,11 +131,11 @@ changing image B k ch = go (A.at k B.sent) refl ch
     same (of_module m l q) = q refl
     same (of_supervisor v l q) = q refl
 
-    go : (o : Option A.Sent) → A.at k B.sent ≡ o → Changes image B (A.delivered_at image B k (A.once o)) → (g : A.Sent) × (A.at k B.sent ≡ some g) × (g.delivered ≡ false)
-    go none e c = unfold A.once A.delivered_at in (absurd (same c))
-    go (some g) e c = marked g.delivered refl (unfold A.once in c)
+    go : (o : Option A.Sent) → A.at k B.sent ≡ o → Changes image B (A.delivered_at image B k (A.once o)) → (g : A.Sent) × (A.at k B.sent ≡ Some g) × (g.delivered ≡ false)
+    go None e c = unfold A.once A.delivered_at in (absurd (same c))
+    go (Some g) e c = marked g.delivered refl (unfold A.once in c)
       where
-        marked : (d : Bool) → g.delivered ≡ d → Changes image B (A.delivered_at image B k (cond d none (some g.bytes))) → (h : A.Sent) × (A.at k B.sent ≡ some h) × (h.delivered ≡ false)
+        marked : (d : Bool) → g.delivered ≡ d → Changes image B (A.delivered_at image B k (cond d None (Some g.bytes))) → (h : A.Sent) × (A.at k B.sent ≡ Some h) × (h.delivered ≡ false)
         marked true f c = unfold A.delivered_at in (absurd (same c))
         marked false f c = (g, e, f)
 
@@ -169,34 +165,34 @@ module _ (image : List ℕ) (plan : IsPlan image) (L : Laws (plan_of (records_of
   rs = records_of image
 
   -- a message under way is taken
-  message_taken : (g : R.Message) {r : List R.Message} → Inserted g D.under_way r → parse (bytes_of g) ≡ Whole (message_of g) → answer_to image B (bytes_of g) (Whole (message_of g)) ≡ Accepted
+  message_taken : (g : R.Message) {r : List R.Message} → Inserted g D.under_way r → parse (bytes_of g) ≡ Some (message_of g) → answer_to image B (bytes_of g) (Some (message_of g)) ≡ Ok tt
   unfolding answer_to message_of
   message_taken (R.bid m v) t e =
       let a = accepted (plan_of rs) L D O I (R.bid m v) _ t in
-      ap (λ (g : Parsed). (S.deliver_by (verdict_of image) rs v (B.supervisor_at v) g).answer) e
+      ap (λ (g : Option Message). (S.deliver_by (verdict_of image) rs v (B.supervisor_at v) g).answer) e
       ∙ supervisor_takes (B.supervisor_at v) (R.take_bid (D.supervisor_at v) m) a.0 _ a.1 (bid_here image plan L B D O s I m v (inserted_all t I.names).0)
   message_taken (R.permit v m k) t e =
       let a = accepted (plan_of rs) L D O I (R.permit v m k) _ t in
-      ap (λ (g : Parsed). (M.deliver_by (verdict_of image) rs m (B.module_at m) g).answer) e
+      ap (λ (g : Option Message). (M.deliver_by (verdict_of image) rs m (B.module_at m) g).answer) e
       ∙ module_takes (B.module_at m) (R.take_permit (D.module_at m) v k) a.0 _ a.1 (permit_here image plan L B D O s I v m k (inserted_all t I.names).0)
   message_taken (R.release m v o) t e =
       let a = accepted (plan_of rs) L D O I (R.release m v o) _ t in
-      ap (λ (g : Parsed). (S.deliver_by (verdict_of image) rs v (B.supervisor_at v) g).answer) e
+      ap (λ (g : Option Message). (S.deliver_by (verdict_of image) rs v (B.supervisor_at v) g).answer) e
       ∙ supervisor_takes (B.supervisor_at v) (R.take_release (plan_of rs) v (D.supervisor_at v) m o) a.0 _ a.1 (release_here image plan L B D O s I m v o (inserted_all t I.names).0)
 
-  pub all_taken : (k : ℕ) (g : A.Sent) → A.at k B.sent ≡ some g → g.delivered ≡ false → answer_to image B g.bytes (parse g.bytes) ≡ Accepted
+  pub all_taken : (k : ℕ) (g : A.Sent) → A.at k B.sent ≡ Some g → g.delivered ≡ false → answer_to image B g.bytes (parse g.bytes) ≡ Ok tt
   all_taken k g e f = go (pick (index_under_way k B.sent) D.under_way) refl (brought_is image plan L B D O s I k ∙ ap (λ (o : Option (List ℕ)). brought_with o (A.under_way (A.mark k B.sent))) (open_at k B.sent g e f))
     where
-      go : (o : Option (Picked R.Message)) → pick (index_under_way k B.sent) D.under_way ≡ o → picked_of bytes_of o ≡ brought_with (some g.bytes) (A.under_way (A.mark k B.sent))
-          → answer_to image B g.bytes (parse g.bytes) ≡ Accepted
-      go none h q = unfold picked_of brought_with in (let z : ◌≡◌ {A = ℕ} 0 1 = cc in absurd (omega arith))
-      go (some p) h q =
+      go : (o : Option (Picked R.Message)) → pick (index_under_way k B.sent) D.under_way ≡ o → picked_of bytes_of o ≡ brought_with (Some g.bytes) (A.under_way (A.mark k B.sent))
+          → answer_to image B g.bytes (parse g.bytes) ≡ Ok tt
+      go None h q = unfold picked_of brought_with in (let z : ◌≡◌ {A = ℕ} 0 1 = cc in absurd (omega arith))
+      go (Some p) h q =
           let t = pick_inserted (index_under_way k B.sent) D.under_way p h in
-          subst (λ (b : List ℕ). answer_to image B b (parse b) ≡ Accepted) (item_is p q) (
-          let back : parse (bytes_of p.item) ≡ Whole (message_of p.item) = read_back rs L D O I p.item t in
+          subst (λ (b : List ℕ). answer_to image B b (parse b) ≡ Ok tt) (item_is p q) (
+          let back : parse (bytes_of p.item) ≡ Some (message_of p.item) = read_back rs L D O I p.item t in
           ap (answer_to image B (bytes_of p.item)) back ∙ message_taken p.item t back)
         where
-          item_is : (p : Picked R.Message) → picked_of bytes_of (some p) ≡ brought_with (some g.bytes) (A.under_way (A.mark k B.sent)) → bytes_of p.item ≡ g.bytes
+          item_is : (p : Picked R.Message) → picked_of bytes_of (Some p) ≡ brought_with (Some g.bytes) (A.under_way (A.mark k B.sent)) → bytes_of p.item ≡ g.bytes
           item_is p q = unfold picked_of brought_with in (
               let z : ◌≡◌ {A = Picked (List ℕ)} (record { item = bytes_of p.item; rest = map bytes_of p.rest }) (record { item = g.bytes; rest = A.under_way (A.mark k B.sent) }) = cc in
               ap (λ (x : Picked (List ℕ)). x.item) z)
@@ -226,7 +222,7 @@ module _ (image : List ℕ) (plan : IsPlan image) (L : Laws (plan_of (records_of
   pub progress_same : P.Progress (plan_of rs) D → Progress image B
   unfolding picked_of
   progress_same (P.by_delivery j q e a ch) =
-      let f : pick j (A.under_way B.sent) ≡ some (record { item = bytes_of q.item; rest = map bytes_of q.rest }) = ap (pick j) s.wire ∙ pick_map bytes_of j D.under_way ∙ ap (picked_of bytes_of) e in
+      let f : pick j (A.under_way B.sent) ≡ Some (record { item = bytes_of q.item; rest = map bytes_of q.rest }) = ap (pick j) s.wire ∙ pick_map bytes_of j D.under_way ∙ ap (picked_of bytes_of) e in
       let r = index_sent B.sent j (record { item = bytes_of q.item; rest = map bytes_of q.rest }) f in
       let c : Changes image B (A.step image B (A.deliver r.0)) = delivery_changes r.0 j r.1 ch in
       let g = changing image B r.0 c in

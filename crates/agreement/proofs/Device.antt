@@ -1,9 +1,9 @@
 -- The one-device calls do what the rules of one device do.
+use Rattle.std.specs.Prelude.{Option, Some, None, Result, Ok, ⊤, unwrap_or}
+use Rattle.refusal.specs.declared.Refusal.{Refusal}
 use mathlib.Core.Path.{◌≡◌, refl, sym, ap, ap₂, ◌∙◌, subst}
 use mathlib.Core.Bool.{Bool, true, false, cond}
 use mathlib.Core.List.{List}
-use mathlib.Core.Option
-use mathlib.Core.Option.{Option, none, some}
 use Prim.Native.Nat.{ℕ, zero, suc, ◌+◌, ◌≤◌, ◌<◌}
 use native.Mathlib.Decide.{ℕ_discrete}
 use native.Mathlib.Omega.{arith}
@@ -17,19 +17,14 @@ use Rattle.bits.specs.Bit.{all_below}
 use Rattle.bits.proofs.Laws.{all_at, all_of}
 use Rattle.records.specs.declared.Record.{Record}
 use Rattle.rules.specs.LookUp.{modules_of, supervisors_of, supervisor_state}
-use Rattle.rules.specs.declared.Verdict.{Verdict}
-use Rattle.rules.specs.declared.Verdict.TheVariants.{Accepted}
 use Rattle.plan.specs.Plan.{supervisor_move, state_or, supervisor_after, shown, in_alphabet}
 use Rattle.modules.specs.declared.Own.{Own}
-use Rattle.modules.specs.declared.Turn.{Turn}
-use Rattle.modules.specs.declared.Turn.TheVariants.{Event, Nothing}
 use Rattle.modules.specs.declared.Turned.{Turned}
 use Rattle.modules.specs.declared.Replied.{Replied}
 use Rattle.modules.specs.Procedure.{called_by}
 use Rattle.modules.specs.Turn.{turn_of, empty_own}
 use Rattle.modules.specs.Fits.{own_fits, own_empty}
 use Rattle.device_states.specs.declared.Device.{Device}
-use Rattle.device.specs.declared.Turning.TheVariants.{Done as TurnDone}
 use Rattle.words.specs.Lists.{list_from}
 use Rattle.device_states.specs.States.{own_at, state_at, own_slot_fits, state_slot_fits, device_fits, shown_by, state_after_turn, with_own}
 use Rattle.words.proofs.Lists.{from_at}
@@ -73,7 +68,7 @@ unfolding device_fits own_slot_fits state_slot_fits
 state_slot rs d h v l = is _ (all_at (StateSlot rs d) 32 (and_r (all_below (OwnSlot rs d) 16) (all_below (StateSlot rs d) 32) (held h)) v l)
 
 module _ (rs : List Record) (few_modules : modules_of rs ≤ 16) (few : supervisors_of rs ≤ 32) (watched : (v e : ℕ) → in_alphabet rs v e ≡ true → v < supervisors_of rs)
-    (kept : (v x e y : ℕ) → supervisor_move rs v x e ≡ some y → supervisor_state rs v y ≡ true) where
+    (kept : (v x e y : ℕ) → supervisor_move rs v x e ≡ Some y → supervisor_state rs v y ≡ true) where
   -- the masks shown
   shown_same : (d : Device) (O : R.OneDevice) → Same rs d O → (n : ℕ) → n ≤ supervisors_of rs → shown_by rs (state_at d) n ≡ R.shown_below (plan_of rs) O.states n
   unfolding shown_by R.shown_below plan_of
@@ -81,35 +76,35 @@ module _ (rs : List Record) (few_modules : modules_of rs ≤ 16) (few : supervis
   shown_same d O S (suc n) h = ap₂ bit_or (shown_same d O S n (omega arith)) (ap (shown rs n) (S.states n (omega arith)))
 
   -- where firing leads a supervisor
-  led_same : (v x : ℕ) (t : Turn) → state_after_turn rs v x t ≡ R.state_after (plan_of rs) v x t
+  led_same : (v x : ℕ) (t : Option ℕ) → state_after_turn rs v x t ≡ R.state_after (plan_of rs) v x t
   unfolding state_after_turn supervisor_after R.state_after plan_of state_or
-  led_same v x (Event e) = ap (λ (y : ℕ). cond (in_alphabet rs v e) y x) (go (supervisor_move rs v x e))
+  led_same v x (Some e) = ap (λ (y : ℕ). cond (in_alphabet rs v e) y x) (go (supervisor_move rs v x e))
     where
-      go : (o : Option ℕ) → state_or o x ≡ Option.get_or o x
-      go none = unfold state_or in refl
-      go (some y) = unfold state_or in refl
-  led_same v x Nothing = refl
+      go : (o : Option ℕ) → state_or o x ≡ unwrap_or o x
+      go None = unfold state_or in refl
+      go (Some y) = unfold state_or in refl
+  led_same v x None = refl
 
   -- a state stays fit
-  led_fits : (v x : ℕ) (t : Turn) → supervisor_state rs v x ≡ true → supervisor_state rs v (state_after_turn rs v x t) ≡ true
+  led_fits : (v x : ℕ) (t : Option ℕ) → supervisor_state rs v x ≡ true → supervisor_state rs v (state_after_turn rs v x t) ≡ true
   unfolding state_after_turn supervisor_after state_or
-  led_fits v x (Event e) h = go (in_alphabet rs v e) (supervisor_move rs v x e) refl
+  led_fits v x (Some e) h = go (in_alphabet rs v e) (supervisor_move rs v x e) refl
     where
       go : (b : Bool) (o : Option ℕ) → supervisor_move rs v x e ≡ o → supervisor_state rs v (cond b (state_or o x) x) ≡ true
-      go true none q = unfold state_or in h
-      go true (some y) q = unfold state_or in (kept v x e y q)
+      go true None q = unfold state_or in h
+      go true (Some y) q = unfold state_or in (kept v x e y q)
       go false o q = h
-  led_fits v x Nothing h = h
+  led_fits v x None h = h
 
   -- a supervisor that the plan lacks stays
-  led_stays : (v x : ℕ) (t : Turn) → supervisors_of rs ≤ v → state_after_turn rs v x t ≡ x
+  led_stays : (v x : ℕ) (t : Option ℕ) → supervisors_of rs ≤ v → state_after_turn rs v x t ≡ x
   unfolding state_after_turn supervisor_after
-  led_stays v x (Event e) h = go (in_alphabet rs v e) refl
+  led_stays v x (Some e) h = go (in_alphabet rs v e) refl
     where
       go : (b : Bool) → in_alphabet rs v e ≡ b → cond b (state_or (supervisor_move rs v x e) x) x ≡ x
       go true q = let l : v < supervisors_of rs = watched v e q in absurd (omega arith)
       go false q = refl
-  led_stays v x Nothing h = refl
+  led_stays v x None h = refl
 
   -- one module's own part changed
   own_after : (d : Device) (O : R.OneDevice) (m : ℕ) (own : Own) → Same rs d O → m < modules_of rs → (j : ℕ) → j < modules_of rs
@@ -142,10 +137,10 @@ module _ (rs : List Record) (few_modules : modules_of rs ≤ 16) (few : supervis
     fits = fits_of rs (with_own d m own) (slot_after d O m own d.supervisors S l f) (state_slot rs d S.fits);
   }
 
-  state_after_lem : (d : Device) (t : Turn) (v : ℕ) → v < 32 → get_or (list_from (λ w. state_after_turn rs w (state_at d w) t) 0 32) v 0 ≡ state_after_turn rs v (state_at d v) t
+  state_after_lem : (d : Device) (t : Option ℕ) (v : ℕ) → v < 32 → get_or (list_from (λ w. state_after_turn rs w (state_at d w) t) 0 32) v 0 ≡ state_after_turn rs v (state_at d v) t
   state_after_lem d t v l = from_at (λ w. state_after_turn rs w (state_at d w) t) 0 32 v 0 l ∙ ap (λ (w : ℕ). state_after_turn rs w (state_at d w) t) (let e : 0 + v ≡ v = omega arith in e)
 
-  states_fit : (d : Device) (t : Turn) (ms : List Own) → device_fits rs d ≡ true → (v : ℕ) → v < 32
+  states_fit : (d : Device) (t : Option ℕ) (ms : List Own) → device_fits rs d ≡ true → (v : ℕ) → v < 32
       → StateSlot rs (record { modules = ms; supervisors = list_from (λ w. state_after_turn rs w (state_at d w) t) 0 32 }) v ≡ true
   states_fit d t ms h v l = ap (λ (x : ℕ). cond (ltb v (supervisors_of rs)) (supervisor_state rs v x) (eqb x 0)) (state_after_lem d t v l) ∙ go (ltb v (supervisors_of rs)) refl (state_slot rs d h v l)
     where
@@ -173,12 +168,12 @@ module _ (rs : List Record) (few_modules : modules_of rs ≤ 16) (few : supervis
   number_none : (d : Device) (m : ℕ) → device_fits rs d ≡ true → m < modules_of rs → device_number rs d m ≡ 0
   number_none d m h l = ap₂ (λ (a b : Bool). cond a (cond b 0 11) 9) h (lt-ltb m (modules_of rs) l)
 
-  pub turn_call : (v : Verdict) (d : Device) (m : ℕ) → v ≡ Accepted → device_fits rs d ≡ true → m < modules_of rs
-      → turn_by v rs d m ≡ record { answer = TurnDone (turned rs d m).turn; device = after_turn rs d m (turned rs d m) }
+  pub turn_call : (v : Result ⊤ Refusal) (d : Device) (m : ℕ) → v ≡ Ok tt → device_fits rs d ≡ true → m < modules_of rs
+      → turn_by v rs d m ≡ record { answer = Ok (turned rs d m).turn; device = after_turn rs d m (turned rs d m) }
   turn_call v d m a h l =
-      ap (λ (w : Verdict). turn_by w rs d m) a ∙ (unfold turn_by in (ap (turn_in rs d m) (number_none d m h l) ∙ (unfold turn_in in refl)))
+      ap (λ (w : Result ⊤ Refusal). turn_by w rs d m) a ∙ (unfold turn_by in (ap (turn_in rs d m) (number_none d m h l) ∙ (unfold turn_in in refl)))
 
-  pub reply_call : (v : Verdict) (d : Device) (m : ℕ) (r : Replied) → v ≡ Accepted → device_fits rs d ≡ true → m < modules_of rs
+  pub reply_call : (v : Result ⊤ Refusal) (d : Device) (m : ℕ) (r : Replied) → v ≡ Ok tt → device_fits rs d ≡ true → m < modules_of rs
       → reply_by v rs d m r ≡ record { answer = called_by r.reply; device = with_own d m r.own }
   reply_call v d m r a h l =
-      ap (λ (w : Verdict). reply_by w rs d m r) a ∙ (unfold reply_by in (ap (λ (n : ℕ). reply_in d m n r) (number_none d m h l) ∙ (unfold reply_in in refl)))
+      ap (λ (w : Result ⊤ Refusal). reply_by w rs d m r) a ∙ (unfold reply_by in (ap (λ (n : ℕ). reply_in d m n r) (number_none d m h l) ∙ (unfold reply_in in refl)))

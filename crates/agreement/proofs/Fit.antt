@@ -1,12 +1,12 @@
 -- The states of the calls and of the rules: what makes them the same, and that they fit.
+use Rattle.std.specs.Prelude.{Option, Some, None, is_some}
 use mathlib.Core.Path.{◌≡◌, refl, sym, ap, ◌∙◌, subst}
 use mathlib.Core.Bool.{Bool, true, false, not, ◌&&◌, ◌||◌, false≢true}
 use mathlib.Core.List.{List}
-use mathlib.Core.Option.{Option, none, some}
 use Prim.Native.Nat.{ℕ, ◌≤◌, ◌<◌}
 use lib.Dec.{eqb}
 use borrow.Author.Tests.{lt-ltb, eq-eqb, eqb-true}
-use Rattle.bits.specs.Bit.{bit, all_below, is_some}
+use Rattle.bits.specs.Bit.{bit, all_below}
 use denote.Floats.{is_true, passes as holds}
 use Rattle.bits.proofs.Laws.{all_of}
 use Rattle.records.specs.declared.Record.{Record}
@@ -80,8 +80,8 @@ module _ (rs : List Record) (L : Laws (plan_of rs)) where
         (λ n. (I.modules m).lowest v w h k (sym (neighbour_bit rs few watched m w) ∙ n))))))))))
 
     missing_some : (m : ℕ) (o : Option ℕ) → (D.module_at m).outstanding ≡ o → is_some o ≡ true → is_some (M.missing rs m (D.module_at m).held) ≡ true
-    missing_some m none e h = absurd (false≢true h)
-    missing_some m (some v) e h = ap is_some (missing_same rs few watched m (D.module_at m).held ∙ (I.modules m).bid_lowest v e)
+    missing_some m None e h = absurd (false≢true h)
+    missing_some m (Some v) e h = ap is_some (missing_same rs few watched m (D.module_at m).held ∙ (I.modules m).bid_lowest v e)
 
     pub module_fits_lem : (m : ℕ) (x : Module) → m < modules_of rs → SameModule x (D.module_at m) → M.module_fits rs m x ≡ true
     unfolding M.fits_in

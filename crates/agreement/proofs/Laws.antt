@@ -1,4 +1,5 @@
 -- The plan of an accepted image has the laws that the rules of permits ask.
+use Rattle.std.specs.Prelude.{Option, Some, None}
 use mathlib.Core.Path.{◌≡◌, sym, ap, ◌∙◌}
 use mathlib.Core.Bool.{Bool, true, cond}
 use mathlib.Core.List.{List}
@@ -8,8 +9,6 @@ use Rattle.records.specs.declared.Record.{Record}
 use Rattle.rules.specs.LookUp.{modules_of, supervisors_of, supervisor_state}
 use Rattle.plan.specs.Plan.{supervisor_initial}
 use Rattle.modules.specs.declared.Own.{Own}
-use Rattle.modules.specs.declared.Turn.{Turn}
-use Rattle.modules.specs.declared.Turn.TheVariants.{Event, Nothing}
 use Rattle.modules.specs.Turn.{turn_of, start_own}
 use Rattle.modules.specs.Fits.{own_fits}
 use Rattle.turn_laws.specs.Laws.{TurnLaws, own_fits_at, state_fits_at, Did}
@@ -24,10 +23,10 @@ module _ (rs : List Record) (T : TurnLaws rs) where
   there : (v st : ℕ) → v < supervisors_of rs → state_fits_at rs v st ≡ supervisor_state rs v st
   there v st l = ap (λ (b : Bool). cond b (supervisor_state rs v st) true) (lt-ltb v (supervisors_of rs) l)
 
-  turn_law : (m k : ℕ) (own after : Own) (t : Turn) → Did rs m k own t after → TurnLaw (plan_of rs) m k own t after
+  turn_law : (m k : ℕ) (own after : Own) (t : Option ℕ) → Did rs m k own t after → TurnLaw (plan_of rs) m k own t after
   unfolding plan_of
-  turn_law m k own after (Event e) d = record { listed = d.moved; free = d.free }
-  turn_law m k own after Nothing d = d
+  turn_law m k own after (Some e) d = record { listed = d.moved; free = d.free }
+  turn_law m k own after None d = d
 
   own_laws : (m : ℕ) (own : Own) → m < modules_of rs → own_fits rs m own ≡ true → OwnLaws (plan_of rs) m own
   unfolding plan_of

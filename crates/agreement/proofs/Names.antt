@@ -1,14 +1,14 @@
 -- The calls' masks and messages say what the rules of permits say of the plan.
+use Rattle.std.specs.Prelude.{Option, Some, None, is_some}
 use mathlib.Core.Path.{◌≡◌, refl, sym, ap, ap₂, ◌∙◌}
 use mathlib.Core.Bool.{Bool, true, false, cond, not, ◌&&◌, ◌||◌, and-false, true≢false}
 use mathlib.Core.List.{List, [], ◌∷◌, ◌++◌, map, append-nil}
-use mathlib.Core.Option.{Option, none, some}
 use Prim.Native.Nat.{ℕ, zero, suc, ◌+◌, ◌-◌, ◌≤◌, ◌<◌}
 use native.Mathlib.Omega.{arith}
 use lib.Dec.{eqb, ltb}
 use lib.Pow.{pow_pos}
 use borrow.Author.Tests.{lt-ltb, ltb-true, ltb-false, eq-eqb, ne_eqb}
-use Rattle.bits.specs.Bit.{bit, least, is_some, some_below}
+use Rattle.bits.specs.Bit.{bit, least, some_below}
 use Rattle.bits.proofs.Laws.{bit_ext, bit_none}
 use Rattle.bits.proofs.Least.{least_none, least_some, least_same, least_more, some_least}
 use Rattle.bits.proofs.Mask.{mask_bit, mask_small}
@@ -16,8 +16,6 @@ use Rattle.records.specs.declared.Record.{Record}
 use Rattle.rules.specs.LookUp.{supervisors_of, events_of, owner_of}
 use Rattle.plan.specs.Plan.{in_alphabet, neighbour, neighbours}
 use Rattle.modules.specs.Turn.{wish}
-use Rattle.modules.specs.declared.Turn.{Turn}
-use Rattle.modules.specs.declared.Turn.TheVariants.{Event, Nothing}
 use Rattle.messages.specs.Message.{no_event}
 use Rattle.messages.specs.declared.Message.{Message}
 use Rattle.messages.specs.declared.Message.TheVariants.{Bid, Permit, Release}
@@ -28,8 +26,8 @@ use Rattle.agreement.specs.PlanOf.{plan_of}
 
 -- a rule's message as a message of the calls
 unfoldable pub event_byte : Option ℕ → ℕ
-event_byte none = no_event
-event_byte (some e) = e
+event_byte None = no_event
+event_byte (Some e) = e
 
 unfoldable pub message_of : R.Message → Message
 message_of (R.bid m v) = Bid m v
@@ -105,24 +103,24 @@ module _ (rs : List Record) (few : supervisors_of rs ≤ 32) (watched : (v e : �
       counted : is_some (least (R.neighbour (plan_of rs) m) (supervisors_of rs)) ≡ is_some (least (R.neighbour (plan_of rs) m) (plan_of rs).supervisors)
       counted = unfold plan_of in refl
 
-      empty : least (R.neighbour (plan_of rs) m) (supervisors_of rs) ≡ none → neighbours rs m ≡ 0
+      empty : least (R.neighbour (plan_of rs) m) (supervisors_of rs) ≡ None → neighbours rs m ≡ 0
       empty e =
           bit_ext 32 (neighbours rs m) 0 (mask_small (λ w. ltb w (supervisors_of rs) && neighbour rs m w) 32 32 (omega arith)) (pow_pos 32)
           (λ v l. neighbour_bit m v ∙ each v (ltb v (supervisors_of rs)) refl e ∙ sym (bit_none v))
         where
-          each : (v : ℕ) (b : Bool) → ltb v (supervisors_of rs) ≡ b → least (R.neighbour (plan_of rs) m) (supervisors_of rs) ≡ none → R.neighbour (plan_of rs) m v ≡ false
+          each : (v : ℕ) (b : Bool) → ltb v (supervisors_of rs) ≡ b → least (R.neighbour (plan_of rs) m) (supervisors_of rs) ≡ None → R.neighbour (plan_of rs) m v ≡ false
           each v true q e = least_none (R.neighbour (plan_of rs) m) (supervisors_of rs) e v (ltb-true v (supervisors_of rs) q)
           each v false q e = neighbour_none m v (ltb-false v (supervisors_of rs) q)
 
-      full : (v : ℕ) → least (R.neighbour (plan_of rs) m) (supervisors_of rs) ≡ some v → neighbours rs m ≡ 0 → ⊥
+      full : (v : ℕ) → least (R.neighbour (plan_of rs) m) (supervisors_of rs) ≡ Some v → neighbours rs m ≡ 0 → ⊥
       full v e z =
           let l = least_some (R.neighbour (plan_of rs) m) (supervisors_of rs) v e in
           let t : true ≡ false = sym l.passes ∙ sym (neighbour_bit m v) ∙ ap (λ (k : ℕ). bit k v) z ∙ bit_none v in
           true≢false t
 
       go : (o : Option ℕ) → least (R.neighbour (plan_of rs) m) (supervisors_of rs) ≡ o → not (eqb (neighbours rs m) 0) ≡ is_some (least (R.neighbour (plan_of rs) m) (supervisors_of rs))
-      go none e = ap not (eq-eqb (neighbours rs m) 0 (empty e)) ∙ sym (ap is_some e)
-      go (some v) e = ap not (ne_eqb (neighbours rs m) 0 (full v e)) ∙ sym (ap is_some e)
+      go None e = ap not (eq-eqb (neighbours rs m) 0 (empty e)) ∙ sym (ap is_some e)
+      go (Some v) e = ap not (ne_eqb (neighbours rs m) 0 (full v e)) ∙ sym (ap is_some e)
 
   -- the choice of a module step
   pub choice_same : (m : ℕ) (x : Module) (y : R.ModuleState) → x.own ≡ y.own → x.held ≡ y.held → x.bid ≡ is_some y.outstanding
@@ -139,29 +137,29 @@ module _ (rs : List Record) (few : supervisors_of rs ≤ 32) (watched : (v e : �
       args p q r s t = λ i. M.choice_on (p i) (q i) (r i) (s i) (t i)
 
       choice_on_lem : (a : Option ℕ) (n : Bool) (o : Option ℕ) (h w : Bool) → M.choice_on a n (is_some o) h w ≡ choice_of (R.choice_on a n o h w)
-      choice_on_lem none true o h w = unfold M.choice_on R.choice_on choice_of in refl
-      choice_on_lem none false o h true = unfold M.choice_on R.choice_on choice_of in refl
-      choice_on_lem none false o h false = unfold M.choice_on R.choice_on choice_of in refl
-      choice_on_lem (some v) n (some b) h w = unfold M.choice_on R.choice_on choice_of in refl
-      choice_on_lem (some v) n none true w = unfold M.choice_on R.choice_on choice_of in refl
-      choice_on_lem (some v) n none false true = unfold M.choice_on R.choice_on choice_of in refl
-      choice_on_lem (some v) n none false false = unfold M.choice_on R.choice_on choice_of in refl
+      choice_on_lem None true o h w = unfold M.choice_on R.choice_on choice_of in refl
+      choice_on_lem None false o h true = unfold M.choice_on R.choice_on choice_of in refl
+      choice_on_lem None false o h false = unfold M.choice_on R.choice_on choice_of in refl
+      choice_on_lem (Some v) n (Some b) h w = unfold M.choice_on R.choice_on choice_of in refl
+      choice_on_lem (Some v) n None true w = unfold M.choice_on R.choice_on choice_of in refl
+      choice_on_lem (Some v) n None false true = unfold M.choice_on R.choice_on choice_of in refl
+      choice_on_lem (Some v) n None false false = unfold M.choice_on R.choice_on choice_of in refl
 
   -- the releases of a turn
-  event_same : (v : ℕ) (t : Turn) → M.event_for rs v t ≡ event_byte (R.event_for (plan_of rs) v t)
+  event_same : (v : ℕ) (t : Option ℕ) → M.event_for rs v t ≡ event_byte (R.event_for (plan_of rs) v t)
   unfolding M.event_for R.event_for event_byte plan_of
-  event_same v (Event e) = go (in_alphabet rs v e)
+  event_same v (Some e) = go (in_alphabet rs v e)
     where
-      go : (b : Bool) → cond b e no_event ≡ event_byte (cond b (some e) none)
+      go : (b : Bool) → cond b e no_event ≡ event_byte (cond b (Some e) None)
       go true = unfold event_byte in refl
       go false = unfold event_byte in refl
-  event_same v Nothing = refl
+  event_same v None = refl
 
   map_append : (f : R.Message → Message) (l r : List R.Message) → map f (l ++ r) ≡ map f l ++ map f r
   map_append f [] r = refl
   map_append f (a ∷ l) r = ap (λ (t : List Message). f a ∷ t) (map_append f l r)
 
-  releases_to : (m : ℕ) (t : Turn) (n : ℕ) → M.releases rs m t n ≡ map message_of (R.releases (plan_of rs) m t n)
+  releases_to : (m : ℕ) (t : Option ℕ) (n : ℕ) → M.releases rs m t n ≡ map message_of (R.releases (plan_of rs) m t n)
   unfolding M.releases_in R.releases
   releases_to m t zero = refl
   releases_to m t (suc n) =
@@ -172,7 +170,7 @@ module _ (rs : List Record) (few : supervisors_of rs ≤ 32) (watched : (v e : �
       go true = unfold message_of in refl
       go false = refl
 
-  none_more : (m : ℕ) (t : Turn) (k : ℕ) → R.releases (plan_of rs) m t (k + supervisors_of rs) ≡ R.releases (plan_of rs) m t (supervisors_of rs)
+  none_more : (m : ℕ) (t : Option ℕ) (k : ℕ) → R.releases (plan_of rs) m t (k + supervisors_of rs) ≡ R.releases (plan_of rs) m t (supervisors_of rs)
   none_more m t zero = ap (R.releases (plan_of rs) m t) (let e : 0 + supervisors_of rs ≡ supervisors_of rs = omega arith in e)
   none_more m t (suc k) =
       ap (R.releases (plan_of rs) m t) (let e : suc k + supervisors_of rs ≡ suc (k + supervisors_of rs) = omega arith in e) ∙ one ∙ none_more m t k
@@ -183,7 +181,7 @@ module _ (rs : List Record) (few : supervisors_of rs ≤ 32) (watched : (v e : �
           (neighbour_none m (k + supervisors_of rs) (omega arith))
           ∙ append-nil (R.releases (plan_of rs) m t (k + supervisors_of rs)))
 
-  pub releases_same : (m : ℕ) (t : Turn) → M.releases rs m t 32 ≡ map message_of (R.releases (plan_of rs) m t (plan_of rs).supervisors)
+  pub releases_same : (m : ℕ) (t : Option ℕ) → M.releases rs m t 32 ≡ map message_of (R.releases (plan_of rs) m t (plan_of rs).supervisors)
   releases_same m t =
       releases_to m t 32
       ∙ ap (map message_of) (ap (R.releases (plan_of rs) m t) (let e : 32 ≡ (32 - supervisors_of rs) + supervisors_of rs = omega arith in e) ∙ none_more m t (32 - supervisors_of rs) ∙ counted)

@@ -1,8 +1,9 @@
 -- A supervisor's state tells where its permit is: out from the step that sends it until its release is accepted.
+use Rattle.std.specs.Prelude.{Option, Some, None, Result, Ok, Err, ⊤}
+use Rattle.refusal.specs.declared.Refusal.{Refusal}
 use mathlib.Core.Path.{◌≡◌, refl, sym, ap, ◌∙◌, subst}
 use mathlib.Core.Bool.{Bool, true, false, cond, not, ◌&&◌}
 use mathlib.Core.List.{List, [], ◌∷◌}
-use mathlib.Core.Option.{Option, none, some}
 use Prim.Native.Nat.{ℕ}
 use lib.Dec.{eqb, ltb}
 use lib.ListN.{length}
@@ -12,14 +13,9 @@ use Rattle.records.specs.declared.Record.{Record}
 use Rattle.reader.specs.Walk.{records_of}
 use Rattle.rules.specs.LookUp.{supervisors_of}
 use Rattle.rules.specs.Check.{verdict_of}
-use Rattle.rules.specs.declared.Verdict.{Verdict}
-use Rattle.rules.specs.declared.Verdict.TheVariants.{Accepted, Refused}
-use Rattle.modules.specs.declared.Called.TheVariants.{Done}
 use Rattle.messages.specs.Message.{parse}
 use Rattle.messages.specs.declared.Message.{Message}
 use Rattle.messages.specs.declared.Message.TheVariants.{Bid, Permit, Release}
-use Rattle.messages.specs.declared.Parsed.{Parsed}
-use Rattle.messages.specs.declared.Parsed.TheVariants.{Whole, Misshapen}
 use Rattle.permits.specs.Names.{named}
 use Rattle.permits.specs.declared.Supervisor.{Supervisor}
 use Rattle.permits.specs.declared.SupervisorCalled.{SupervisorCalled}
@@ -38,46 +34,46 @@ module _ (rs : List Record) (v : ℕ) (y : Supervisor) where
   abbrev Serves : S.ServeCall → Type 0
   Serves c = C.after_serving c.answer (out_to y.holder) ≡ out_to c.state.holder
 
-  serve_holder : (w : Verdict) (b : List ℕ) → Serves (S.step_by w rs v y b)
+  serve_holder : (w : Result ⊤ Refusal) (b : List ℕ) → Serves (S.step_by w rs v y b)
   unfolding S.step_by S.step_in S.answer_by S.state_by C.after_serving out_to
-  serve_holder (Refused n o) b = refl
-  serve_holder Accepted b =
+  serve_holder (Err e) b = refl
+  serve_holder (Ok u) b =
       either Serves (ltb v (supervisors_of rs)) _ _
       (either Serves (S.supervisor_fits rs v y) _ _ (go (S.served y)) refl)
       refl
     where
       go : (t : Option ℕ) → Serves (S.step_in rs v y b t)
-      go none = either Serves (ltb (length b) (length (S.step_bytes rs v y none))) _ _ refl refl
-      go (some m) = either Serves (ltb (length b) (length (S.step_bytes rs v y (some m)))) _ _ refl refl
+      go None = either Serves (ltb (length b) (length (S.step_bytes rs v y None))) _ _ refl refl
+      go (Some m) = either Serves (ltb (length b) (length (S.step_bytes rs v y (Some m)))) _ _ refl refl
 
   -- a claim of every refusal and of what an accepted message does holds of the call
-  delivers : (Q : SupervisorCalled → Type 0) (g : Message) → ((n o : ℕ) → Q (S.call_refused y n o)) → Q (S.taken_by rs v y g) → (w : Verdict)
-      → Q (S.deliver_by w rs v y (Whole g))
+  delivers : (Q : SupervisorCalled → Type 0) (g : Message) → ((n o : ℕ) → Q (S.call_refused y n o)) → Q (S.taken_by rs v y g) → (w : Result ⊤ Refusal)
+      → Q (S.deliver_by w rs v y (Some g))
   unfolding S.deliver_by S.deliver_in S.absent
-  delivers Q g r t (Refused n o) = r n o
-  delivers Q g r t Accepted =
-      either Q (ltb v (supervisors_of rs)) (cond (S.supervisor_fits rs v y) (S.deliver_in rs v y (Whole g)) (S.call_refused y 9 0)) (S.absent y (Whole g))
-      (either Q (S.supervisor_fits rs v y) (S.deliver_in rs v y (Whole g)) (S.call_refused y 9 0)
+  delivers Q g r t (Err e) = r e.number e.offset
+  delivers Q g r t (Ok u) =
+      either Q (ltb v (supervisors_of rs)) (cond (S.supervisor_fits rs v y) (S.deliver_in rs v y (Some g)) (S.call_refused y 9 0)) (S.absent y (Some g))
+      (either Q (S.supervisor_fits rs v y) (S.deliver_in rs v y (Some g)) (S.call_refused y 9 0)
       (either Q (named rs g) (S.taken_by rs v y g) (S.call_refused y 11 0) t (r 11 0)) (r 9 0))
       (r 11 0)
 
   abbrev Keeps : SupervisorCalled → Type 0
   Keeps c = c.state.holder ≡ y.holder
 
-  bid_holder : (w : Verdict) (m s : ℕ) → Keeps (S.deliver_by w rs v y (Whole (Bid m s)))
+  bid_holder : (w : Result ⊤ Refusal) (m s : ℕ) → Keeps (S.deliver_by w rs v y (Some (Bid m s)))
   unfolding S.taken_by
   bid_holder w m s =
       delivers Keeps (Bid m s) (λ n o. refl)
-      (either Keeps (eqb s v && not (bit y.noted m)) (record { answer = Done; state = S.after_note y m }) (S.call_refused y 12 0) refl refl) w
+      (either Keeps (eqb s v && not (bit y.noted m)) (record { answer = Ok tt; state = S.after_note y m }) (S.call_refused y 12 0) refl refl) w
 
   abbrev Releases : SupervisorCalled → Type 0
   Releases c = C.after_release c.answer (out_to y.holder) ≡ out_to c.state.holder
 
-  release_holder : (w : Verdict) (m s e : ℕ) → Releases (S.deliver_by w rs v y (Whole (Release m s e)))
+  release_holder : (w : Result ⊤ Refusal) (m s e : ℕ) → Releases (S.deliver_by w rs v y (Some (Release m s e)))
   unfolding S.taken_by C.after_release out_to
   release_holder w m s e =
       delivers Releases (Release m s e) (λ n o. refl)
-      (either Releases (eqb s v && S.held_by y.holder m) (record { answer = Done; state = S.after_release rs v y e }) (S.call_refused y 12 0) refl refl) w
+      (either Releases (eqb s v && S.held_by y.holder m) (record { answer = Ok tt; state = S.after_release rs v y e }) (S.call_refused y 12 0) refl refl) w
 
 -- one supervisor's state changed
 abbrev out : A.System → ℕ → Option ℕ
@@ -101,18 +97,18 @@ kept_at D w v y k = go (eqb w v) refl
     go false e = refl
 
 module _ (image : List ℕ) (v : ℕ) where
-  message_holder : (D : A.System) (bytes : List ℕ) (rest : List A.Sent) (g : Parsed) → parse bytes ≡ g
+  message_holder : (D : A.System) (bytes : List ℕ) (rest : List A.Sent) (g : Option Message) → parse bytes ≡ g
       → C.after_message image D v bytes g (out D v) ≡ out (A.delivered image D bytes rest g) v
   unfolding C.after_message A.delivered
-  message_holder D bytes rest (Whole (Bid m w)) e =
-      kept_at D w v _ (ap (λ (g : Parsed). (S.deliver_by (verdict_of image) (records_of image) w (D.supervisor_at w) g).state.holder) e
+  message_holder D bytes rest (Some (Bid m w)) e =
+      kept_at D w v _ (ap (λ (g : Option Message). (S.deliver_by (verdict_of image) (records_of image) w (D.supervisor_at w) g).state.holder) e
       ∙ bid_holder (records_of image) w (D.supervisor_at w) (verdict_of image) m w)
-  message_holder D bytes rest (Whole (Permit w m k)) e = refl
-  message_holder D bytes rest (Whole (Release m w x)) e =
+  message_holder D bytes rest (Some (Permit w m k)) e = refl
+  message_holder D bytes rest (Some (Release m w x)) e =
       holder_at D w v _ _ (λ i. ap (λ (n : ℕ). C.after_release (S.supervisor_deliver image w (D.supervisor_at w) bytes).answer (out D n)) (sym i)
-      ∙ subst (λ (g : Parsed). Releases (records_of image) w (D.supervisor_at w) (S.deliver_by (verdict_of image) (records_of image) w (D.supervisor_at w) g)) (sym e)
+      ∙ subst (λ (g : Option Message). Releases (records_of image) w (D.supervisor_at w) (S.deliver_by (verdict_of image) (records_of image) w (D.supervisor_at w) g)) (sym e)
       (release_holder (records_of image) w (D.supervisor_at w) (verdict_of image) m w x))
-  message_holder D bytes rest Misshapen e = refl
+  message_holder D bytes rest None e = refl
 
   act_holder : (D : A.System) (a : A.Act) → C.act_permit image D v a (out D v) ≡ out (A.step image D a) v
   unfolding C.act_permit A.step
@@ -123,8 +119,8 @@ module _ (image : List ℕ) (v : ℕ) where
   act_holder D (A.deliver k) = go (A.brought k D.sent)
     where
       go : (o : Option (List ℕ)) → C.after_delivery image D v o (out D v) ≡ out (A.delivered_at image D k o) v
-      go none = unfold C.after_delivery A.delivered_at in refl
-      go (some bytes) = unfold C.after_delivery A.delivered_at in (message_holder D bytes (A.mark k D.sent) (parse bytes) refl)
+      go None = unfold C.after_delivery A.delivered_at in refl
+      go (Some bytes) = unfold C.after_delivery A.delivered_at in (message_holder D bytes (A.mark k D.sent) (parse bytes) refl)
   act_holder D (A.respond m e) = refl
   act_holder D (A.tick m f) = refl
 
@@ -134,11 +130,11 @@ module _ (image : List ℕ) (v : ℕ) where
   permit_holder D (a ∷ l) = ap (C.permit_after image (A.step image D a) v l) (act_holder D a) ∙ permit_holder (A.step image D a) l
 
 -- ---- the start
-home_at : (rs : List Record) (v : ℕ) (w : Verdict) → out_to (S.start_by w rs v).state.holder ≡ none
+home_at : (rs : List Record) (v : ℕ) (w : Result ⊤ Refusal) → out_to (S.start_by w rs v).state.holder ≡ None
 unfolding S.start_by out_to
-home_at rs v (Refused n o) = refl
-home_at rs v Accepted = either (λ (c : SupervisorCalled). out_to c.state.holder ≡ none) (ltb v (supervisors_of rs)) _ _ refl refl
+home_at rs v (Err e) = refl
+home_at rs v (Ok u) = either (λ (c : SupervisorCalled). out_to c.state.holder ≡ None) (ltb v (supervisors_of rs)) _ _ refl refl
 
-pub start_home : (image : List ℕ) (v : ℕ) → out_to ((A.start image).supervisor_at v).holder ≡ none
+pub start_home : (image : List ℕ) (v : ℕ) → out_to ((A.start image).supervisor_at v).holder ≡ None
 unfolding A.start
 start_home image v = home_at (records_of image) v (verdict_of image)

@@ -1,8 +1,9 @@
 -- Each call does what one act of the rules does.
+use Rattle.std.specs.Prelude.{Option, Some, None}
+use Rattle.messages.specs.declared.Message.{Message}
 use mathlib.Core.Path.{◌≡◌, refl, sym, ap, ap₂, ◌∙◌, subst}
 use mathlib.Core.Bool.{Bool, true, false, cond}
 use mathlib.Core.List.{List, [], ◌∷◌, ◌++◌, map, append-nil}
-use mathlib.Core.Option.{Option, none, some}
 use Prim.Native.Nat.{ℕ, zero, suc, ◌≤◌, ◌<◌}
 use native.Mathlib.Decide.{ℕ_discrete}
 use native.Mathlib.Omega.{arith}
@@ -19,8 +20,6 @@ use Rattle.modules.specs.declared.Replied.{Replied}
 use Rattle.modules.specs.Procedure.{called_by, tick_of, respond_of}
 use Rattle.messages.specs.Message.{buffer_length, message_bytes, parse, written}
 use Rattle.messages.specs.declared.Message.TheVariants.{Bid, Permit, Release}
-use Rattle.messages.specs.declared.Parsed.{Parsed}
-use Rattle.messages.specs.declared.Parsed.TheVariants.{Whole}
 use Rattle.permits.specs.declared.Module.{Module}
 use Rattle.permits.specs.declared.Supervisor.{Supervisor}
 use Rattle.permits.specs.Module as M
@@ -86,8 +85,8 @@ map_append f (a ∷ l) r = ap (λ t. f a ∷ t) (map_append f l r)
 
 -- the member at an index of a mapped list
 unfoldable pub picked_of : {A B : Type 0} → (A → B) → Option (Picked A) → Option (Picked B)
-picked_of f none = none
-picked_of f (some q) = some (record { item = f q.item; rest = map f q.rest })
+picked_of f None = None
+picked_of f (Some q) = Some (record { item = f q.item; rest = map f q.rest })
 
 pub pick_map : {A B : Type 0} (f : A → B) (k : ℕ) (l : List A) → pick k (map f l) ≡ picked_of f (pick k l)
 unfolding pick picked_of
@@ -96,8 +95,8 @@ pick_map f zero (a ∷ l) = refl
 pick_map f (suc k) (a ∷ l) = ap (behind (f a)) (pick_map f k l) ∙ go (pick k l)
   where
     go : (o : Option (Picked _)) → behind (f a) (picked_of f o) ≡ picked_of f (behind a o)
-    go none = unfold behind picked_of in refl
-    go (some q) = unfold behind picked_of in refl
+    go None = unfold behind picked_of in refl
+    go (Some q) = unfold behind picked_of in refl
 
 -- ---- all messages sent and those under way
 
@@ -117,25 +116,25 @@ under_way_send (g ∷ w) l = go g.delivered (under_way_send w l)
 
 -- what a delivery brings, with those under way after it
 unfoldable pub brought_with : Option (List ℕ) → List (List ℕ) → Option (Picked (List ℕ))
-brought_with none r = none
-brought_with (some b) r = some (record { item = b; rest = r })
+brought_with None r = None
+brought_with (Some b) r = Some (record { item = b; rest = r })
 
-pick_past : (l : List (List ℕ)) → pick (length l) l ≡ none
+pick_past : (l : List (List ℕ)) → pick (length l) l ≡ None
 unfolding pick
 pick_past [] = refl
 pick_past (b ∷ l) = ap (behind b) (pick_past l) ∙ (unfold behind in refl)
 
 pub behind_brought : (b : List ℕ) (o : Option (List ℕ)) (r : List (List ℕ)) → behind b (brought_with o r) ≡ brought_with o (b ∷ r)
 unfolding behind brought_with
-behind_brought b none r = refl
-behind_brought b (some c) r = refl
+behind_brought b None r = refl
+behind_brought b (Some c) r = refl
 
 pub pick_index : (k : ℕ) (w : List A.Sent) → pick (index_under_way k w) (A.under_way w) ≡ brought_with (A.once (A.at k w)) (A.under_way (A.mark k w))
 unfolding index_under_way A.at A.mark A.under_way A.once
 pick_index k [] = unfold pick brought_with in refl
 pick_index zero (g ∷ l) = go g.delivered
   where
-    go : (d : Bool) → pick (cond d (length (A.under_way l)) 0) (cond d (A.under_way l) (g.bytes ∷ A.under_way l)) ≡ brought_with (cond d none (some g.bytes)) (A.under_way l)
+    go : (d : Bool) → pick (cond d (length (A.under_way l)) 0) (cond d (A.under_way l) (g.bytes ∷ A.under_way l)) ≡ brought_with (cond d None (Some g.bytes)) (A.under_way l)
     go true = pick_past (A.under_way l) ∙ (unfold brought_with in refl)
     go false = unfold pick brought_with in refl
 pick_index (suc k) (g ∷ l) = go g.delivered (pick_index k l)
@@ -270,11 +269,11 @@ module _ (image : List ℕ) (plan : IsPlan image) (L : Laws (plan_of (records_of
   supervisor_sim : (v : ℕ) (t : Option ℕ) → v < supervisors_of rs
       → Sim rs (A.with_supervisor B v (S.state_by (B.supervisor_at v) t) (A.send B.sent (map message_bytes (S.sent_to rs v (B.supervisor_at v) t)))) (P.after_supervisor_step (plan_of rs) D v t)
   unfolding P.after_supervisor_step
-  supervisor_sim v (some m) l = with_supervisor_lem rs B D s v _ _ _ _ (unfold after_serving in (serving_is rs v (B.supervisor_at v) (D.supervisor_at v) (s.supervisors v l) (some m))) (unfold permit_of in (supervisor_wire v (some m) l))
-  supervisor_sim v none l =
-      subst (λ (w : List A.Sent). Sim rs (A.with_supervisor B v (S.state_by (B.supervisor_at v) none) w) D) (sym none_sent) (unfold S.state_by in (still_supervisor rs B D s v))
+  supervisor_sim v (Some m) l = with_supervisor_lem rs B D s v _ _ _ _ (unfold after_serving in (serving_is rs v (B.supervisor_at v) (D.supervisor_at v) (s.supervisors v l) (Some m))) (unfold permit_of in (supervisor_wire v (Some m) l))
+  supervisor_sim v None l =
+      subst (λ (w : List A.Sent). Sim rs (A.with_supervisor B v (S.state_by (B.supervisor_at v) None) w) D) (sym none_sent) (unfold S.state_by in (still_supervisor rs B D s v))
     where
-      none_sent : A.send B.sent (map message_bytes (S.sent_to rs v (B.supervisor_at v) none)) ≡ B.sent
+      none_sent : A.send B.sent (map message_bytes (S.sent_to rs v (B.supervisor_at v) None)) ≡ B.sent
       none_sent = unfold S.sent_to in (append-nil B.sent)
 
   pub supervisor_call : (v : ℕ) (b : List ℕ) → v < supervisors_of rs → length b ≡ buffer_length
@@ -356,34 +355,34 @@ module _ (image : List ℕ) (plan : IsPlan image) (L : Laws (plan_of (records_of
   -- ---- a delivery
   -- the calls on the party that a message names are the rules' options
   pub bid_here : (m v : ℕ) → R.neighbour (plan_of rs) m v ≡ true
-      → SupervisorTakes (B.supervisor_at v) (R.take_bid (D.supervisor_at v) m) (S.deliver_by (verdict_of image) rs v (B.supervisor_at v) (Whole (Bid m v)))
+      → SupervisorTakes (B.supervisor_at v) (R.take_bid (D.supervisor_at v) m) (S.deliver_by (verdict_of image) rs v (B.supervisor_at v) (Some (Bid m v)))
   bid_here m v n =
       let l : v < supervisors_of rs = near_supervisor rs L m v n in
       bid_call rs L m v (B.supervisor_at v) (D.supervisor_at v) n (supervisor_fits_lem rs L D O I v (B.supervisor_at v) l (s.supervisors v l)) (s.supervisors v l) (verdict_of image) plan
 
   pub permit_here : (v m k : ℕ) → R.neighbour (plan_of rs) m v ≡ true
-      → ModuleTakes (B.module_at m) (R.take_permit (D.module_at m) v k) (M.deliver_by (verdict_of image) rs m (B.module_at m) (Whole (Permit v m k)))
+      → ModuleTakes (B.module_at m) (R.take_permit (D.module_at m) v k) (M.deliver_by (verdict_of image) rs m (B.module_at m) (Some (Permit v m k)))
   permit_here v m k n =
       let l : m < modules_of rs = near_module rs L m v n in
       permit_call rs L v m k (B.module_at m) (D.module_at m) n (module_fits_lem rs L D O I m (B.module_at m) l (s.modules m l)) (s.modules m l)
       (λ u e. ap (M.missing rs m) (s.modules m l).held ∙ missing_same rs (few rs L) (watched rs L) m (D.module_at m).held ∙ (I.modules m).bid_lowest u e) (verdict_of image) plan
 
   pub release_here : (m v : ℕ) (e : Option ℕ) → ReleaseNames (plan_of rs) m v e
-      → SupervisorTakes (B.supervisor_at v) (R.take_release (plan_of rs) v (D.supervisor_at v) m e) (S.deliver_by (verdict_of image) rs v (B.supervisor_at v) (Whole (Release m v (event_byte e))))
+      → SupervisorTakes (B.supervisor_at v) (R.take_release (plan_of rs) v (D.supervisor_at v) m e) (S.deliver_by (verdict_of image) rs v (B.supervisor_at v) (Some (Release m v (event_byte e))))
   release_here m v e n =
       let l : v < supervisors_of rs = near_supervisor rs L m v n.neighbours in
       release_call rs L m v e (B.supervisor_at v) (D.supervisor_at v) n (supervisor_fits_lem rs L D O I v (B.supervisor_at v) l (s.supervisors v l)) (s.supervisors v l) (verdict_of image) plan
 
   -- whether it is taken or not, the systems stay the same
-  message_sim : (g : R.Message) (w : List A.Sent) (r : List R.Message) → Names (plan_of rs) g → parse (bytes_of g) ≡ Whole (message_of g) → A.under_way w ≡ map bytes_of r
-      → Sim rs (A.delivered image B (bytes_of g) w (Whole (message_of g))) (P.after_message (plan_of rs) D r g)
+  message_sim : (g : R.Message) (w : List A.Sent) (r : List R.Message) → Names (plan_of rs) g → parse (bytes_of g) ≡ Some (message_of g) → A.under_way w ≡ map bytes_of r
+      → Sim rs (A.delivered image B (bytes_of g) w (Some (message_of g))) (P.after_message (plan_of rs) D r g)
   unfolding A.delivered message_of P.after_message
   message_sim (R.bid m v) w r n e f =
-      rw e (with_supervisor_lem rs B D s v _ _ w r (supervisor_after (B.supervisor_at v) (D.supervisor_at v) (R.take_bid (D.supervisor_at v) m) (S.deliver_by (verdict_of image) rs v (B.supervisor_at v) (Whole (Bid m v))) (s.supervisors v (near_supervisor rs L m v n)) (bid_here m v n)) f)
+      rw e (with_supervisor_lem rs B D s v _ _ w r (supervisor_after (B.supervisor_at v) (D.supervisor_at v) (R.take_bid (D.supervisor_at v) m) (S.deliver_by (verdict_of image) rs v (B.supervisor_at v) (Some (Bid m v))) (s.supervisors v (near_supervisor rs L m v n)) (bid_here m v n)) f)
   message_sim (R.permit v m k) w r n e f =
-      rw e (with_module_lem rs B D s m _ _ w r (module_after (B.module_at m) (D.module_at m) (R.take_permit (D.module_at m) v k) (M.deliver_by (verdict_of image) rs m (B.module_at m) (Whole (Permit v m k))) (s.modules m (near_module rs L m v n)) (permit_here v m k n)) f)
+      rw e (with_module_lem rs B D s m _ _ w r (module_after (B.module_at m) (D.module_at m) (R.take_permit (D.module_at m) v k) (M.deliver_by (verdict_of image) rs m (B.module_at m) (Some (Permit v m k))) (s.modules m (near_module rs L m v n)) (permit_here v m k n)) f)
   message_sim (R.release m v o) w r n e f =
-      rw e (with_supervisor_lem rs B D s v _ _ w r (supervisor_after (B.supervisor_at v) (D.supervisor_at v) (R.take_release (plan_of rs) v (D.supervisor_at v) m o) (S.deliver_by (verdict_of image) rs v (B.supervisor_at v) (Whole (Release m v (event_byte o)))) (s.supervisors v (near_supervisor rs L m v n.neighbours)) (release_here m v o n)) f)
+      rw e (with_supervisor_lem rs B D s v _ _ w r (supervisor_after (B.supervisor_at v) (D.supervisor_at v) (R.take_release (plan_of rs) v (D.supervisor_at v) m o) (S.deliver_by (verdict_of image) rs v (B.supervisor_at v) (Some (Release m v (event_byte o)))) (s.supervisors v (near_supervisor rs L m v n.neighbours)) (release_here m v o n)) f)
 
   -- what a delivery brings is the message of the rules at its index
   pub brought_is : (k : ℕ) → picked_of bytes_of (pick (index_under_way k B.sent) D.under_way) ≡ brought_with (A.brought k B.sent) (A.under_way (A.mark k B.sent))
@@ -392,15 +391,15 @@ module _ (image : List ℕ) (plan : IsPlan image) (L : Laws (plan_of (records_of
   delivery_sim : (k : ℕ) (o : Option (Picked R.Message)) (b : Option (List ℕ)) → pick (index_under_way k B.sent) D.under_way ≡ o
       → picked_of bytes_of o ≡ brought_with b (A.under_way (A.mark k B.sent)) → Sim rs (A.delivered_at image B k b) (P.after_delivery (plan_of rs) D o)
   unfolding A.delivered_at picked_of P.after_delivery brought_with
-  delivery_sim k none none e f = s
-  delivery_sim k none (some b) e f = let z : ◌≡◌ {A = ℕ} 0 1 = cc in absurd (omega arith)
-  delivery_sim k (some q) none e f = let z : ◌≡◌ {A = ℕ} 0 1 = cc in absurd (omega arith)
-  delivery_sim k (some q) (some b) e f =
+  delivery_sim k None None e f = s
+  delivery_sim k None (Some b) e f = let z : ◌≡◌ {A = ℕ} 0 1 = cc in absurd (omega arith)
+  delivery_sim k (Some q) None e f = let z : ◌≡◌ {A = ℕ} 0 1 = cc in absurd (omega arith)
+  delivery_sim k (Some q) (Some b) e f =
       let t = pick_inserted (index_under_way k B.sent) D.under_way q e in
       let z : ◌≡◌ {A = Picked (List ℕ)} (record { item = bytes_of q.item; rest = map bytes_of q.rest }) (record { item = b; rest = A.under_way (A.mark k B.sent) }) = cc in
-      let back : parse (bytes_of q.item) ≡ Whole (message_of q.item) = read_back rs L D O I q.item t in
+      let back : parse (bytes_of q.item) ≡ Some (message_of q.item) = read_back rs L D O I q.item t in
       subst (λ (c : List ℕ). Sim rs (A.delivered image B c (A.mark k B.sent) (parse c)) (P.after_message (plan_of rs) D q.rest q.item)) (ap (λ (x : Picked (List ℕ)). x.item) z)
-      (subst (λ (g : Parsed). Sim rs (A.delivered image B (bytes_of q.item) (A.mark k B.sent) g) (P.after_message (plan_of rs) D q.rest q.item)) (sym back)
+      (subst (λ (g : Option Message). Sim rs (A.delivered image B (bytes_of q.item) (A.mark k B.sent) g) (P.after_message (plan_of rs) D q.rest q.item)) (sym back)
       (message_sim q.item (A.mark k B.sent) q.rest (inserted_all t I.names).0 back (sym (ap (λ (x : Picked (List ℕ)). x.rest) z))))
 
   pub deliver_done : (k : ℕ) → Done image B D (A.deliver k)

@@ -1,9 +1,9 @@
 -- Module and supervisor steps do what the rules say, in states that fit and with the buffer lent.
+use Rattle.std.specs.Prelude.{Option, Some, None, Result, Ok, ⊤, option_map}
+use Rattle.refusal.specs.declared.Refusal.{Refusal}
 use mathlib.Core.Path.{◌≡◌, refl, ap, ap₂, ◌∙◌}
 use mathlib.Core.Bool.{Bool, true, false, cond}
 use mathlib.Core.List.{List, [], ◌∷◌, ◌++◌, map, append-nil}
-use mathlib.Core.Option
-use mathlib.Core.Option.{Option, none, some}
 use Prim.Native.Nat.{ℕ, zero, suc, ◌+◌, ◌/◌, ◌%◌, ◌≤◌, ◌<◌}
 use native.Mathlib.Omega.{arith}
 use lib.ListN.{length, drop, length-append}
@@ -14,10 +14,7 @@ use Rattle.bits.specs.Bit.{bit, least, module_after, put_bit}
 use Rattle.words.proofs.Laws.{length_word}
 use Rattle.records.specs.declared.Record.{Record}
 use Rattle.rules.specs.LookUp.{modules_of, supervisors_of}
-use Rattle.rules.specs.declared.Verdict.{Verdict}
-use Rattle.rules.specs.declared.Verdict.TheVariants.{Accepted}
 use Rattle.plan.specs.Plan.{neighbours, shown}
-use Rattle.modules.specs.declared.Turn.{Turn}
 use Rattle.modules.specs.Turn.{turn_of}
 use Rattle.messages.specs.Message.{release_size, buffer_length, message_bytes, written, pieces}
 use Rattle.messages.specs.declared.Message.{Message}
@@ -45,7 +42,7 @@ as_append : (l r : List Message) → AsReleases l → AsReleases r → AsRelease
 as_append [] r h k = k
 as_append (g ∷ l) r h k = (h.0, as_append l r h.1 k)
 
-pub releases_as : (rs : List Record) (m : ℕ) (t : Turn) (n : ℕ) → AsReleases (M.releases rs m t n)
+pub releases_as : (rs : List Record) (m : ℕ) (t : Option ℕ) (n : ℕ) → AsReleases (M.releases rs m t n)
 unfolding M.releases_in
 releases_as rs m t zero = tt
 releases_as rs m t (suc n) = as_append (M.releases rs m t n) _ (releases_as rs m t n) (one (bit (neighbours rs m) n))
@@ -54,7 +51,7 @@ releases_as rs m t (suc n) = as_append (M.releases rs m t n) _ (releases_as rs m
     one true = unfold message_bytes in (refl, tt)
     one false = tt
 
-pub releases_most : (rs : List Record) (m : ℕ) (t : Turn) (n : ℕ) → length (M.releases rs m t n) ≤ n
+pub releases_most : (rs : List Record) (m : ℕ) (t : Option ℕ) (n : ℕ) → length (M.releases rs m t n) ≤ n
 unfolding M.releases_in
 releases_most rs m t zero = omega arith
 releases_most rs m t (suc n) = omega (arith, releases_most rs m t n, length-append (M.releases rs m t n) (cond (bit (neighbours rs m) n) (Release m n (M.event_for rs n t) ∷ []) []), one (bit (neighbours rs m) n))
@@ -74,7 +71,7 @@ module _ (rs : List Record) (m : ℕ) (x : Module) where
   step_room (M.bids_to v) = unfold bytes_of_messages message_bytes in (omega arith)
 
   -- the whole answer of an accepted step
-  pub step_is : (w : Verdict) (b : List ℕ) → w ≡ Accepted → m < modules_of rs → M.module_fits rs m x ≡ true → length b ≡ buffer_length
+  pub step_is : (w : Result ⊤ Refusal) (b : List ℕ) → w ≡ Ok tt → m < modules_of rs → M.module_fits rs m x ≡ true → length b ≡ buffer_length
       → M.step_by w rs m x b
       ≡ record { answer = M.answer_by rs m x (M.choice rs m x); state = M.state_by rs m x (M.choice rs m x); buffer = written (M.step_bytes rs m x (M.choice rs m x)) b }
   unfolding M.step_by M.step_in
@@ -82,9 +79,9 @@ module _ (rs : List Record) (m : ℕ) (x : Module) where
       let r : ltb (length b) (length (M.step_bytes rs m x (M.choice rs m x))) ≡ false = le-ltb (length b) (length (M.step_bytes rs m x (M.choice rs m x))) (omega (arith, step_room (M.choice rs m x))) in
       rw (a, lt-ltb m (modules_of rs) l, f, r)
 
-  pub step_absent : (w : Verdict) (b : List ℕ) → w ≡ Accepted → modules_of rs ≤ m → M.step_by w rs m x b ≡ M.step_refused x b 11 0
+  pub step_absent : (w : Result ⊤ Refusal) (b : List ℕ) → w ≡ Ok tt → modules_of rs ≤ m → M.step_by w rs m x b ≡ M.step_refused x b 11 0
   step_absent w b a l =
-      ap (λ (v : Verdict). M.step_by v rs m x b) a
+      ap (λ (v : Result ⊤ Refusal). M.step_by v rs m x b) a
       ∙ (unfold M.step_by in (ap (λ (p : Bool). cond p (cond (M.module_fits rs m x) (M.step_in rs m x b (M.choice rs m x)) (M.step_refused x b 9 0)) (M.step_refused x b 11 0)) (le-ltb m (modules_of rs) l)))
 
   -- what it wrote is its messages
@@ -133,10 +130,10 @@ module _ (rs : List Record) (L : Laws (plan_of rs)) (m : ℕ) (x : Module) (y : 
 module _ (rs : List Record) (v : ℕ) (x : Supervisor) where
   serve_room : (t : Option ℕ) → length (S.step_bytes rs v x t) ≤ buffer_length
   unfolding bytes_of_messages S.sent_to message_bytes
-  serve_room none = omega arith
-  serve_room (some m) = omega (arith, ap length (bytes_one (Permit v m (shown rs v x.state))), length_word (shown rs v x.state))
+  serve_room None = omega arith
+  serve_room (Some m) = omega (arith, ap length (bytes_one (Permit v m (shown rs v x.state))), length_word (shown rs v x.state))
 
-  pub serve_is : (w : Verdict) (b : List ℕ) → w ≡ Accepted → v < supervisors_of rs → S.supervisor_fits rs v x ≡ true → length b ≡ buffer_length
+  pub serve_is : (w : Result ⊤ Refusal) (b : List ℕ) → w ≡ Ok tt → v < supervisors_of rs → S.supervisor_fits rs v x ≡ true → length b ≡ buffer_length
       → S.step_by w rs v x b
       ≡ record { answer = S.answer_by (S.step_bytes rs v x (S.served x)) (S.served x); state = S.state_by x (S.served x); buffer = written (S.step_bytes rs v x (S.served x)) b }
   unfolding S.step_by S.step_in
@@ -144,34 +141,34 @@ module _ (rs : List Record) (v : ℕ) (x : Supervisor) where
       let r : ltb (length b) (length (S.step_bytes rs v x (S.served x))) ≡ false = le-ltb (length b) (length (S.step_bytes rs v x (S.served x))) (omega (arith, serve_room (S.served x))) in
       rw (a, lt-ltb v (supervisors_of rs) l, f, r)
 
-  pub serve_absent : (w : Verdict) (b : List ℕ) → w ≡ Accepted → supervisors_of rs ≤ v → S.step_by w rs v x b ≡ S.step_refused x b 11 0
+  pub serve_absent : (w : Result ⊤ Refusal) (b : List ℕ) → w ≡ Ok tt → supervisors_of rs ≤ v → S.step_by w rs v x b ≡ S.step_refused x b 11 0
   serve_absent w b a l =
-      ap (λ (z : Verdict). S.step_by z rs v x b) a
+      ap (λ (z : Result ⊤ Refusal). S.step_by z rs v x b) a
       ∙ (unfold S.step_by in (ap (λ (p : Bool). cond p (cond (S.supervisor_fits rs v x) (S.step_in rs v x b (S.served x)) (S.step_refused x b 9 0)) (S.step_refused x b 11 0)) (le-ltb v (supervisors_of rs) l)))
 
   pub served_bytes : (t : Option ℕ) (b : List ℕ) → wrote_out (S.answer_by (S.step_bytes rs v x t) t) (written (S.step_bytes rs v x t) b) ≡ map message_bytes (S.sent_to rs v x t)
   unfolding S.sent_to S.answer_by wrote_out
-  served_bytes none b = refl
-  served_bytes (some m) b = ap (λ (l : List ℕ). l ∷ []) (take_at (S.step_bytes rs v x (some m)) (drop (length (S.step_bytes rs v x (some m))) b) (length (S.step_bytes rs v x (some m))) refl ∙ bytes_one (Permit v m (shown rs v x.state)))
+  served_bytes None b = refl
+  served_bytes (Some m) b = ap (λ (l : List ℕ). l ∷ []) (take_at (S.step_bytes rs v x (Some m)) (drop (length (S.step_bytes rs v x (Some m))) b) (length (S.step_bytes rs v x (Some m))) refl ∙ bytes_one (Permit v m (shown rs v x.state)))
 
 unfoldable pub permit_of : Plan → ℕ → R.SupervisorState → Option ℕ → List R.Message
-permit_of P v y none = []
-permit_of P v y (some m) = R.permit v m (P.shown v y.state) ∷ []
+permit_of P v y None = []
+permit_of P v y (Some m) = R.permit v m (P.shown v y.state) ∷ []
 
 unfoldable pub after_serving : R.SupervisorState → Option ℕ → R.SupervisorState
-after_serving y none = y
-after_serving y (some m) = R.after_sending y m
+after_serving y None = y
+after_serving y (Some m) = R.after_sending y m
 
 module _ (rs : List Record) (v : ℕ) (x : Supervisor) (y : R.SupervisorState) (s : SameSupervisor x y) where
-  next_is : (o : Option ℕ) → S.next_noted x o ≡ Option.map (module_after y.last_served) o
+  next_is : (o : Option ℕ) → S.next_noted x o ≡ option_map (module_after y.last_served) o
   unfolding S.next_noted module_after
-  next_is none = refl
-  next_is (some k) = ap (λ (l : ℕ). some ((l + suc k) % 16)) s.last
+  next_is None = refl
+  next_is (Some k) = ap (λ (l : ℕ). Some ((l + suc k) % 16)) s.last
 
   first_is : S.next_noted x (least (λ k. bit x.noted (module_after x.last k)) 16) ≡ R.first_noted y
   first_is =
       next_is (least (λ k. bit x.noted (module_after x.last k)) 16)
-      ∙ ap (Option.map (module_after y.last_served)) (ap₂ (λ (n l : ℕ). least (λ k. bit n (module_after l k)) 16) s.noted s.last)
+      ∙ ap (option_map (module_after y.last_served)) (ap₂ (λ (n l : ℕ). least (λ k. bit n (module_after l k)) 16) s.noted s.last)
       ∙ (unfold R.first_noted in refl)
 
   pub served_is : S.served x ≡ R.served y
@@ -184,10 +181,10 @@ module _ (rs : List Record) (v : ℕ) (x : Supervisor) (y : R.SupervisorState) (
 
   pub permit_is : (t : Option ℕ) → S.sent_to rs v x t ≡ map message_of (permit_of (plan_of rs) v y t)
   unfolding S.sent_to permit_of
-  permit_is none = refl
-  permit_is (some m) = ap (λ (z : ℕ). Permit v m (shown rs v z) ∷ []) s.state ∙ (unfold plan_of message_of in refl)
+  permit_is None = refl
+  permit_is (Some m) = ap (λ (z : ℕ). Permit v m (shown rs v z) ∷ []) s.state ∙ (unfold plan_of message_of in refl)
 
   pub serving_is : (t : Option ℕ) → SameSupervisor (S.state_by x t) (after_serving y t)
   unfolding S.state_by after_serving R.after_sending
-  serving_is none = s
-  serving_is (some m) = record { state = s.state; noted = ap (λ (n : ℕ). put_bit n m false) s.noted; holder = (unfold out_to in refl); last = refl }
+  serving_is None = s
+  serving_is (Some m) = record { state = s.state; noted = ap (λ (n : ℕ). put_bit n m false) s.noted; holder = (unfold out_to in refl); last = refl }

@@ -1,9 +1,9 @@
 -- Whole lists of calls, and demand 3.
+use Rattle.std.specs.Prelude.{Some, Ok}
 use mathlib.Core.Path.{◌≡◌, refl, sym, ap, ap₂, ◌∙◌, subst}
 use mathlib.Core.Logic.{◌⊎◌, inl, inr}
 use mathlib.Core.Bool.{Bool, true, false, cond}
 use mathlib.Core.List.{List, [], ◌∷◌, ◌++◌, map}
-use mathlib.Core.Option.{some}
 use Prim.Native.Nat.{ℕ, ◌<◌}
 use lib.Dec.{ltb}
 use borrow.Author.Tests.{ltb-true}
@@ -17,7 +17,6 @@ use Rattle.modules.specs.declared.Replied.{Replied}
 use Rattle.modules.specs.Procedure.{called_by, respond_of, tick_of}
 use Rattle.modules.specs.Fits.{own_fits}
 use Rattle.device_states.specs.declared.Device.{Device}
-use Rattle.device.specs.declared.Turning.TheVariants.{Done as TurnDone}
 use Rattle.device_states.specs.States as States
 use Rattle.device.specs.Device as Dev
 use Rattle.protocol.specs.Plan.{Plan, Laws}
@@ -90,7 +89,7 @@ module _ (image : List ℕ) (plan : IsPlan image) (L : Laws (plan_of (records_of
   abbrev rs : List Record
   rs = records_of image
 
-  kept : (v x e y : ℕ) → supervisor_move rs v x e ≡ some y → supervisor_state rs v y ≡ true
+  kept : (v x e y : ℕ) → supervisor_move rs v x e ≡ Some y → supervisor_state rs v y ≡ true
   kept v x e y h = unfold plan_of in (L.supervisor_moves v x e y h)
 
   -- what one act of the one device gives
@@ -123,10 +122,10 @@ module _ (image : List ℕ) (plan : IsPlan image) (L : Laws (plan_of (records_of
     turned_is : Dev.turned rs d m ≡ R.device_turn (plan_of rs) O m
     turned_is = turn_same rs (few_modules rs L) (few rs L) (watched rs L) kept d O m s l
 
-    call_is : Dev.turn_by (verdict_of image) rs d m ≡ record { answer = TurnDone (R.device_turn (plan_of rs) O m).turn; device = Dev.after_turn rs d m (R.device_turn (plan_of rs) O m) }
+    call_is : Dev.turn_by (verdict_of image) rs d m ≡ record { answer = Ok (R.device_turn (plan_of rs) O m).turn; device = Dev.after_turn rs d m (R.device_turn (plan_of rs) O m) }
     call_is =
         turn_call rs (few_modules rs L) (few rs L) (watched rs L) kept (verdict_of image) d m plan s.fits l
-        ∙ ap (λ t. record { answer = TurnDone t.turn; device = Dev.after_turn rs d m t }) turned_is
+        ∙ ap (λ t. record { answer = Ok t.turn; device = Dev.after_turn rs d m t }) turned_is
 
     turn_after : Same rs (Dev.after_turn rs d m (R.device_turn (plan_of rs) O m)) after
     turn_after = after_same rs (few_modules rs L) (few rs L) (watched rs L) kept d O m (R.device_turn (plan_of rs) O m) s l f

@@ -1,29 +1,23 @@
 -- Document 01, "What demand 3 compares": what is taken from a list of calls, and what from the one-device controller.
-use Rattle.std.specs.Prelude.{ℕ, List, [], ◌∷◌, ◌++◌, cond, eqb, ltb}
-use Rattle.std.proofs.Math.Option.{Option, none, some}
+use Rattle.refusal.specs.declared.Refusal.{Refusal}
+use Rattle.messages.specs.declared.Message.{Message}
+use Rattle.std.specs.Prelude.{ℕ, List, [], ◌∷◌, ◌++◌, cond, eqb, ltb, Option, Some, None, Result, Ok, Err, ⊤}
 use Rattle.records.specs.declared.Record.{Record}
 use Rattle.reader.specs.Walk.{records_of}
 use Rattle.rules.specs.LookUp.{modules_of}
 use Rattle.water.specs.declared.Flow.{Flow}
 use Rattle.modules.specs.declared.Own.{Own}
-use Rattle.modules.specs.declared.Turn.{Turn}
-use Rattle.modules.specs.declared.Called.{Called}
-use Rattle.modules.specs.declared.Called.TheVariants.{Done, Refused as CallRefused}
 use Rattle.device_states.specs.States.{own_at}
 use Rattle.device.specs.Device.{turn_call, respond_call, tick_call}
 use Rattle.device_states.specs.declared.Device.{Device}
-use Rattle.device.specs.declared.Turning.{Turning}
-use Rattle.device.specs.declared.Turning.TheVariants.{Done as TurnDone, Refused as DeviceRefused}
 use Rattle.permits.specs.declared.Stepped.{Stepped}
-use Rattle.permits.specs.declared.Stepped.TheVariants.{Turns, Bids, Waits, Refused}
+use Rattle.permits.specs.declared.Stepped.TheVariants.{Turns, Bids, Waits}
 use Rattle.permits.specs.declared.Served.{Served}
-use Rattle.permits.specs.declared.Served.TheVariants.{Sends, Waits as SupervisorWaits, Refused as SupervisorRefused}
+use Rattle.permits.specs.declared.Served.TheVariants.{Sends, Waits as SupervisorWaits}
 use Rattle.permits.specs.declared.Holder.{Holder}
 use Rattle.permits.specs.declared.Holder.TheVariants.{Home, Out}
 use Rattle.messages.specs.Message.{parse}
 use Rattle.messages.specs.declared.Message.TheVariants.{Bid, Permit, Release}
-use Rattle.messages.specs.declared.Parsed.{Parsed}
-use Rattle.messages.specs.declared.Parsed.TheVariants.{Whole, Misshapen}
 use Rattle.permits.specs.Module as M
 use Rattle.permits.specs.Supervisor as S
 use Rattle.protocol.specs.System.{turn_events}
@@ -32,15 +26,15 @@ use Rattle.agreement.specs.System.{System, Act, module_step, supervisor_step, de
 -- "Equal are a turn's event .. or none, any refusal's number, and after each the module's state, queue, procedure, water and outputs." Document 02,
 -- 2.5: "The comparison with one device is made with this turn on both sides."
 pub data Seen : Type 0 where
-  turn_seen : ℕ → Turn → Own → Seen
+  turn_seen : ℕ → Option ℕ → Own → Seen
   refusal_seen : ℕ → ℕ → Own → Seen
-  call_seen : ℕ → Called → Own → Seen
+  call_seen : ℕ → Result ⊤ Refusal → Own → Seen
 
-unfoldable pub step_seen : ℕ → Stepped → Own → List Seen
-step_seen m (Turns t n) own = turn_seen m t own ∷ []
-step_seen m (Bids v n) own = []
-step_seen m Waits own = []
-step_seen m (Refused n o) own = []
+unfoldable pub step_seen : ℕ → Result Stepped Refusal → Own → List Seen
+step_seen m (Ok (Turns t n)) own = turn_seen m t own ∷ []
+step_seen m (Ok (Bids v n)) own = []
+step_seen m (Ok Waits) own = []
+step_seen m (Err e) own = []
 
 -- "Calls for a party that the plan lacks are merely refused, their numbers not compared."
 unfoldable pub act_seen : List ℕ → System → Act → List Seen
@@ -88,9 +82,9 @@ unfoldable pub device_run : List ℕ → Device → List DeviceAct → Device
 device_run image d [] = d
 device_run image d (a ∷ l) = device_run image (device_step image d a) l
 
-unfoldable pub turning_seen : ℕ → Turning → Own → Seen
-turning_seen m (TurnDone t) own = turn_seen m t own
-turning_seen m (DeviceRefused n o) own = refusal_seen m n own
+unfoldable pub turning_seen : ℕ → Result (Option ℕ) Refusal → Own → Seen
+turning_seen m (Ok t) own = turn_seen m t own
+turning_seen m (Err e) own = refusal_seen m e.number own
 
 unfoldable pub device_act_seen : List ℕ → Device → DeviceAct → Seen
 device_act_seen image d (device_turn m) = let c = turn_call image d m in turning_seen m c.answer (own_at c.device m)
@@ -110,24 +104,24 @@ record_of_events (call_seen m r own ∷ l) = record_of_events l
 
 -- document 01's terms "out" and "home": "A permit is out from the step that sends it until its release is accepted, else home.": the module that
 -- supervisor v's permit is out to, none while it is home, by the answers of the calls
-unfoldable pub after_serving : Served → Option ℕ → Option ℕ
-after_serving (Sends m n) h = some m
-after_serving SupervisorWaits h = h
-after_serving (SupervisorRefused n o) h = h
+unfoldable pub after_serving : Result Served Refusal → Option ℕ → Option ℕ
+after_serving (Ok (Sends m n)) h = Some m
+after_serving (Ok SupervisorWaits) h = h
+after_serving (Err e) h = h
 
-unfoldable pub after_release : Called → Option ℕ → Option ℕ
-after_release Done h = none
-after_release (CallRefused n o) h = h
+unfoldable pub after_release : Result ⊤ Refusal → Option ℕ → Option ℕ
+after_release (Ok u) h = None
+after_release (Err e) h = h
 
-unfoldable pub after_message : List ℕ → System → ℕ → List ℕ → Parsed → Option ℕ → Option ℕ
-after_message image D v bytes (Whole (Bid m w)) h = h
-after_message image D v bytes (Whole (Permit w m k)) h = h
-after_message image D v bytes (Whole (Release m w e)) h = cond (eqb w v) (after_release (S.supervisor_deliver image w (D.supervisor_at w) bytes).answer h) h
-after_message image D v bytes Misshapen h = h
+unfoldable pub after_message : List ℕ → System → ℕ → List ℕ → Option Message → Option ℕ → Option ℕ
+after_message image D v bytes (Some (Bid m w)) h = h
+after_message image D v bytes (Some (Permit w m k)) h = h
+after_message image D v bytes (Some (Release m w e)) h = cond (eqb w v) (after_release (S.supervisor_deliver image w (D.supervisor_at w) bytes).answer h) h
+after_message image D v bytes None h = h
 
 unfoldable pub after_delivery : List ℕ → System → ℕ → Option (List ℕ) → Option ℕ → Option ℕ
-after_delivery image D v none h = h
-after_delivery image D v (some bytes) h = after_message image D v bytes (parse bytes) h
+after_delivery image D v None h = h
+after_delivery image D v (Some bytes) h = after_message image D v bytes (parse bytes) h
 
 unfoldable pub act_permit : List ℕ → System → ℕ → Act → Option ℕ → Option ℕ
 act_permit image D v (module_step m b) h = h
@@ -142,8 +136,8 @@ permit_after image D v (a ∷ l) h = permit_after image (step image D a) v l (ac
 
 -- the same as a supervisor's state has it
 unfoldable pub out_to : Holder → Option ℕ
-out_to Home = none
-out_to (Out m) = some m
+out_to Home = None
+out_to (Out m) = Some m
 
 -- and after a list of calls: at its beginning the permits are where the states have them, at the start home
 abbrev pub permit_of : List ℕ → System → List Act → ℕ → Option ℕ

@@ -1,25 +1,21 @@
 -- Demand 3, of the calls on a plan image: "one claim over every whole list, not one per call". The statement is `Demand`, at the end of this file; its
 -- sentence is quoted part by part. To trust the proof one has to read this statement and the definitions that it names, and no step of the proof.
 -- The clauses speak of a list from any system, one-device controller and position of the replay on; demand 3 is their instance from the start.
-use Rattle.std.specs.Prelude.{ℕ, ◌≤◌, ◌<◌, ◌≡◌, ◌≢◌, true, false, List, length, get_or}
-use Rattle.std.proofs.Math.Option.{Option, none, some}
+use Rattle.refusal.specs.Refusal.{refusal}
+use Rattle.refusal.specs.declared.Refusal.{Refusal}
+use Rattle.messages.specs.declared.Message.{Message}
+use Rattle.std.specs.Prelude.{ℕ, ◌≤◌, ◌<◌, ◌≡◌, ◌≢◌, true, false, List, length, get_or, Option, Some, None, Result, Ok, Err, ⊤}
 use Rattle.reader.specs.Walk.{records_of}
 use Rattle.rules.specs.LookUp.{modules_of, supervisors_of}
 use Rattle.rules.specs.Check.{IsPlan}
 use Rattle.water.specs.declared.Flow.{Flow}
-use Rattle.modules.specs.declared.Called.{Called}
-use Rattle.modules.specs.declared.Called.TheVariants.{Done, Refused as CallRefused}
 use Rattle.device_states.specs.States.{device_fits}
 use Rattle.device_states.specs.declared.Device.{Device}
 use Rattle.device.specs.Device.{start_call}
 use Rattle.messages.specs.Message.{parse, parsed_number}
 use Rattle.messages.specs.declared.Message.TheVariants.{Bid, Permit, Release}
-use Rattle.messages.specs.declared.Parsed.{Parsed}
-use Rattle.messages.specs.declared.Parsed.TheVariants.{Whole, Misshapen}
 use Rattle.permits.specs.declared.Module.{Module}
 use Rattle.permits.specs.declared.Supervisor.{Supervisor}
-use Rattle.permits.specs.declared.Stepped.TheVariants.{Refused}
-use Rattle.permits.specs.declared.Served.TheVariants.{Refused as SupervisorRefused}
 use Rattle.permits.specs.Module as M
 use Rattle.permits.specs.Supervisor as S
 use Rattle.protocol.specs.Plan.{Plan}
@@ -49,11 +45,11 @@ abbrev pub LacksSupervisor : List ℕ → ℕ → Type 0
 LacksSupervisor image v = supervisors_of (records_of image) ≤ v
 
 -- what the party that a message names answers to it
-unfoldable pub answer_to : List ℕ → System → List ℕ → Parsed → Called
-answer_to image D bytes (Whole (Bid m v)) = (S.supervisor_deliver image v (D.supervisor_at v) bytes).answer
-answer_to image D bytes (Whole (Permit v m k)) = (M.module_deliver image m (D.module_at m) bytes).answer
-answer_to image D bytes (Whole (Release m v e)) = (S.supervisor_deliver image v (D.supervisor_at v) bytes).answer
-answer_to image D bytes Misshapen = CallRefused (parsed_number Misshapen) 0
+unfoldable pub answer_to : List ℕ → System → List ℕ → Option Message → Result ⊤ Refusal
+answer_to image D bytes (Some (Bid m v)) = (S.supervisor_deliver image v (D.supervisor_at v) bytes).answer
+answer_to image D bytes (Some (Permit v m k)) = (M.module_deliver image m (D.module_at m) bytes).answer
+answer_to image D bytes (Some (Release m v e)) = (S.supervisor_deliver image v (D.supervisor_at v) bytes).answer
+answer_to image D bytes None = Err (refusal (parsed_number None) 0)
 
 -- another state of a module or a supervisor of the plan
 pub data Changes (image : List ℕ) (D D' : System) : Type 0 where
@@ -62,7 +58,7 @@ pub data Changes (image : List ℕ) (D D' : System) : Type 0 where
 
 -- "some message under way would be accepted or some module or supervisor step would change a state": the delivery, too, would change one
 pub data Progress (image : List ℕ) (D : System) : Type 0 where
-  by_delivery : (k : ℕ) (g : Sent) → at k D.sent ≡ some g → g.delivered ≡ false → answer_to image D g.bytes (parse g.bytes) ≡ Done
+  by_delivery : (k : ℕ) (g : Sent) → at k D.sent ≡ Some g → g.delivered ≡ false → answer_to image D g.bytes (parse g.bytes) ≡ Ok tt
       → Changes image D (step image D (deliver k)) → Progress image D
   by_module_step : (m : ℕ) (b : List ℕ) → HasModule image m → length b ≡ buffer_length
       → (M.module_step image m (D.module_at m) b).state ≢ D.module_at m → Progress image D
@@ -127,10 +123,10 @@ module _ (image : List ℕ) (D : System) (d : Device) (p : Position) (acts : Lis
     -- "every event of the record is a listed move of its module, and no supervisor, led along that record, disables it there"
     pub legal : Legal (image_plan image) p list_record
     -- "at the list's end every supervisor with its permit at home stands exactly where the record's replay puts it"
-    pub home : (v : ℕ) → HasSupervisor image v → permit_at_end v ≡ none
+    pub home : (v : ℕ) → HasSupervisor image v → permit_at_end v ≡ None
         → (supervisor_at_end v).state ≡ (replay (image_plan image) p list_record).supervisor_states v
     -- "if any permit is out, some message under way would be accepted or some module or supervisor step would change a state"
-    pub out : (v m : ℕ) → HasSupervisor image v → permit_at_end v ≡ some m → Progress image at_end
+    pub out : (v m : ℕ) → HasSupervisor image v → permit_at_end v ≡ Some m → Progress image at_end
 
   -- ---- what is proved besides, which demand 3 does not ask for
   pub record Besides : Type 0 where
@@ -139,21 +135,21 @@ module _ (image : List ℕ) (D : System) (d : Device) (p : Position) (acts : Lis
     -- the supervisor's state tells where its permit is
     pub holder : (v : ℕ) → permit_at_end v ≡ out_to (supervisor_at_end v).holder
     -- no delivery of a message under way is refused
-    pub taken : (k : ℕ) (g : Sent) → at k at_end.sent ≡ some g → g.delivered ≡ false
-        → answer_to image at_end g.bytes (parse g.bytes) ≡ Done
+    pub taken : (k : ℕ) (g : Sent) → at k at_end.sent ≡ Some g → g.delivered ≡ false
+        → answer_to image at_end g.bytes (parse g.bytes) ≡ Ok tt
     -- every reached state fits
     pub module_fits_lem : (m : ℕ) → HasModule image m → M.module_fits (records_of image) m (module_at_end m) ≡ true
     pub supervisor_fits_lem : (v : ℕ) → HasSupervisor image v → S.supervisor_fits (records_of image) v (supervisor_at_end v) ≡ true
     pub device_fits_lem : device_fits (records_of image) one_device_at_end ≡ true
     -- no step of a module or a supervisor of the plan is refused
     pub module_steps : (m : ℕ) (b : List ℕ) (n o : ℕ) → HasModule image m → length b ≡ buffer_length
-        → (M.module_step image m (module_at_end m) b).answer ≢ Refused n o
+        → (M.module_step image m (module_at_end m) b).answer ≢ Err (refusal n o)
     pub supervisor_steps : (v : ℕ) (b : List ℕ) (n o : ℕ) → HasSupervisor image v → length b ≡ buffer_length
-        → (S.supervisor_step image v (supervisor_at_end v) b).answer ≢ SupervisorRefused n o
+        → (S.supervisor_step image v (supervisor_at_end v) b).answer ≢ Err (refusal n o)
 
 -- "begun at the starting state", which also is where the one-device controller and the replay begin. Document 01 of it: "permits are home".
 pub record FromStart (image : List ℕ) (acts : List Act) : Type 0 where
-  pub permits_home : (v : ℕ) → out_to ((start image).supervisor_at v).holder ≡ none
+  pub permits_home : (v : ℕ) → out_to ((start image).supervisor_at v).holder ≡ None
   pub demand : Demand3 image (start image) (start_call image).device (start_position (image_plan image)) acts
   pub besides : Besides image (start image) (start_call image).device (start_position (image_plan image)) acts
 

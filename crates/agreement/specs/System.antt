@@ -1,18 +1,17 @@
 -- Document 01, "What demand 3 compares": lists of calls over one plan image. "Each call gets the state that the last call on its module or
 -- supervisor left, at first the starting state; nobody else writes states or image."
-use Rattle.std.specs.Prelude.{ℕ, zero, suc, ◌/◌, Bool, true, false, cond, ◌≡◌, List, [], ◌∷◌, ◌++◌, map, length, take}
-use Rattle.std.proofs.Math.Option.{Option, none, some}
+use Rattle.refusal.specs.declared.Refusal.{Refusal}
+use Rattle.messages.specs.declared.Message.{Message}
+use Rattle.std.specs.Prelude.{ℕ, zero, suc, ◌/◌, Bool, true, false, cond, ◌≡◌, List, [], ◌∷◌, ◌++◌, map, length, take, Option, Some, None, Result, Ok, Err}
 use Rattle.water.specs.declared.Flow.{Flow}
 use Rattle.messages.specs.Message.{parse, release_size}
 use Rattle.messages.specs.declared.Message.TheVariants.{Bid, Permit, Release}
-use Rattle.messages.specs.declared.Parsed.{Parsed}
-use Rattle.messages.specs.declared.Parsed.TheVariants.{Whole, Misshapen}
 use Rattle.permits.specs.declared.Module.{Module}
 use Rattle.permits.specs.declared.Supervisor.{Supervisor}
 use Rattle.permits.specs.declared.Stepped.{Stepped}
-use Rattle.permits.specs.declared.Stepped.TheVariants.{Turns, Bids, Waits, Refused}
+use Rattle.permits.specs.declared.Stepped.TheVariants.{Turns, Bids, Waits}
 use Rattle.permits.specs.declared.Served.{Served}
-use Rattle.permits.specs.declared.Served.TheVariants.{Sends, Waits as SupervisorWaits, Refused as SupervisorRefused}
+use Rattle.permits.specs.declared.Served.TheVariants.{Sends, Waits as SupervisorWaits}
 use Rattle.permits.specs.Module as M
 use Rattle.permits.specs.Supervisor as S
 use Rattle.protocol.specs.Generic.{update}
@@ -51,16 +50,16 @@ AllLent [] = Unit {0}
 AllLent (a ∷ l) = Lent a × AllLent l
 
 -- "A message is sent by the accepted step that writes it"; "each release is sent as a message by itself"
-unfoldable pub wrote : Stepped → List ℕ → List (List ℕ)
-wrote (Turns t n) b = pieces release_size (n / release_size) b
-wrote (Bids v n) b = take n b ∷ []
-wrote Waits b = []
-wrote (Refused n o) b = []
+unfoldable pub wrote : Result Stepped Refusal → List ℕ → List (List ℕ)
+wrote (Ok (Turns t n)) b = pieces release_size (n / release_size) b
+wrote (Ok (Bids v n)) b = take n b ∷ []
+wrote (Ok Waits) b = []
+wrote (Err e) b = []
 
-unfoldable pub wrote_out : Served → List ℕ → List (List ℕ)
-wrote_out (Sends m n) b = take n b ∷ []
-wrote_out SupervisorWaits b = []
-wrote_out (SupervisorRefused n o) b = []
+unfoldable pub wrote_out : Result Served Refusal → List ℕ → List (List ℕ)
+wrote_out (Ok (Sends m n)) b = take n b ∷ []
+wrote_out (Ok SupervisorWaits) b = []
+wrote_out (Err e) b = []
 
 -- put behind those sent before, not delivered yet
 abbrev pub fresh : List ℕ → Sent
@@ -71,8 +70,8 @@ send w l = w ++ map fresh l
 
 -- the message with an index among those sent
 unfoldable pub at : ℕ → List Sent → Option Sent
-at k [] = none
-at zero (g ∷ l) = some g
+at k [] = None
+at zero (g ∷ l) = Some g
 at (suc k) (g ∷ l) = at k l
 
 -- the messages sent, with the one at an index delivered
@@ -88,8 +87,8 @@ under_way (g ∷ l) = cond g.delivered (under_way l) (g.bytes ∷ under_way l)
 
 -- "at most once": the bytes that a delivery of a message brings to its party, none where it has been delivered, or where no message is
 unfoldable pub once : Option Sent → Option (List ℕ)
-once none = none
-once (some g) = cond g.delivered none (some g.bytes)
+once None = None
+once (Some g) = cond g.delivered None (Some g.bytes)
 
 abbrev pub brought : ℕ → List Sent → Option (List ℕ)
 brought k w = once (at k w)
@@ -101,16 +100,16 @@ abbrev pub with_supervisor : System → ℕ → Supervisor → List Sent → Sys
 with_supervisor D v y w = record { module_at = D.module_at; supervisor_at = update D.supervisor_at v y; sent = w }
 
 -- a delivery "to the party it names that takes its kind", the messages sent being w after it
-unfoldable pub delivered : List ℕ → System → List ℕ → List Sent → Parsed → System
-delivered image D bytes w (Whole (Bid m v)) = with_supervisor D v (S.supervisor_deliver image v (D.supervisor_at v) bytes).state w
-delivered image D bytes w (Whole (Permit v m k)) = with_module D m (M.module_deliver image m (D.module_at m) bytes).state w
-delivered image D bytes w (Whole (Release m v e)) = with_supervisor D v (S.supervisor_deliver image v (D.supervisor_at v) bytes).state w
-delivered image D bytes w Misshapen = record { module_at = D.module_at; supervisor_at = D.supervisor_at; sent = w }
+unfoldable pub delivered : List ℕ → System → List ℕ → List Sent → Option Message → System
+delivered image D bytes w (Some (Bid m v)) = with_supervisor D v (S.supervisor_deliver image v (D.supervisor_at v) bytes).state w
+delivered image D bytes w (Some (Permit v m k)) = with_module D m (M.module_deliver image m (D.module_at m) bytes).state w
+delivered image D bytes w (Some (Release m v e)) = with_supervisor D v (S.supervisor_deliver image v (D.supervisor_at v) bytes).state w
+delivered image D bytes w None = record { module_at = D.module_at; supervisor_at = D.supervisor_at; sent = w }
 
 -- where nothing is brought, nothing is called
 unfoldable pub delivered_at : List ℕ → System → ℕ → Option (List ℕ) → System
-delivered_at image D k none = D
-delivered_at image D k (some bytes) = delivered image D bytes (mark k D.sent) (parse bytes)
+delivered_at image D k None = D
+delivered_at image D k (Some bytes) = delivered image D bytes (mark k D.sent) (parse bytes)
 
 unfoldable pub step : List ℕ → System → Act → System
 step image D (module_step m b) =

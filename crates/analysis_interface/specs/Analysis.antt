@@ -1,21 +1,19 @@
 -- Document 02, 2.1, over lent bytes. The quotations are from include/pewterslug.h.
-use Rattle.std.specs.Prelude.{ℕ, ◌≡◌, List}
+use Rattle.refusal.specs.declared.Refusal.{Refusal}
+use Rattle.std.specs.Prelude.{ℕ, ◌≡◌, List, Option, Some, None, Result, Ok, Err}
 use Rattle.blocking.specs.Blocking.{Told}
-use Rattle.blocking.specs.Numbers.{blocking_number, blocking_offset}
-use Rattle.blocking.specs.declared.Blocking.{Blocking}
-use Rattle.blocking.specs.declared.Blocking.TheVariants.{Free, Stuck, Refused}
 use Rattle.packing.specs.Answer.{refused, done}
 
 -- PEWTERSLUG_FREE, 7: "find_stuck: the plan never gets stuck"; PEWTERSLUG_STUCK, 8: "find_stuck: it may; the word that leads there and the state
 -- are written"
-unfoldable pub blocking_answer : Blocking → ℕ
-blocking_answer Free = done 7 0 0
-blocking_answer (Stuck n) = done 8 0 n
-blocking_answer (Refused n o) = refused (blocking_number (Refused n o)) (blocking_offset (Refused n o))
+unfoldable pub blocking_answer : Result (Option ℕ) Refusal → ℕ
+blocking_answer (Ok None) = done 7 0 0
+blocking_answer (Ok (Some n)) = done 8 0 n
+blocking_answer (Err e) = refused e.number e.offset
 
 -- the image s, the buffer b, the answer r, and the buffer afterwards: r stands for an answer that `Told` allows
 pub record FoundBytes (s b : List ℕ) (r : ℕ) (after : List ℕ) : Type 0 where
-  pub answer : Blocking
+  pub answer : Result (Option ℕ) Refusal
   pub told : Told s b answer after
   pub packed : r ≡ blocking_answer answer
 

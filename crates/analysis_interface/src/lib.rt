@@ -1,21 +1,21 @@
 // The analyses of a plan over lent bytes: specs/Analysis.antt, specs/Counts.antt.
 #![tactic(auto)]
 
+ghost use Rattle.packing.specs.Answer.{length_answer};
 ghost use Rattle.analysis_interface.specs.Analysis.{blocking_answer, FoundBytes};
-ghost use Rattle.analysis_interface.specs.Counts.{counting_answer, CountedBytes};
+ghost use Rattle.analysis_interface.specs.Counts.{CountedBytes};
 ghost use Rattle.std.specs.Prelude.{◌≡◌};
 
-use blocking::Blocking;
-use counting::Counting;
+use refusal::Refusal;
 
 // An answer as one number.
-fn found(a: Blocking) -> u64
+fn found(a: Result<Option<usize>, Refusal>) -> u64
     ensures { result ≡ blocking_answer a }
 {
     match a {
-        Blocking::Free => packing::pack(0, 7, 0, 0),
-        Blocking::Stuck(n) => packing::pack(0, 8, 0, n),
-        Blocking::Refused(n, o) => packing::pack(n, 0, 0, o),
+        Ok(None) => packing::pack(0, 7, 0, 0),
+        Ok(Some(n)) => packing::pack(0, 8, 0, n),
+        Err(e) => packing::pack(e.number, 0, 0, e.offset),
     }
 }
 
@@ -26,19 +26,9 @@ pub fn find_stuck(image: &[u8], buffer: &mut [u8]) -> u64
     found(blocking::find_stuck(image, buffer))
 }
 
-// An answer of `count_words` as one number.
-fn counted(a: Counting) -> u64
-    ensures { result ≡ counting_answer a }
-{
-    match a {
-        Counting::Printed(n) => packing::pack(0, 0, 0, n),
-        Counting::Refused(n, o) => packing::pack(n, 0, 0, o),
-    }
-}
-
 // How many words of a length lead to each joint state of a plan.
 pub fn count_words(image: &[u8], length: u64, buffer: &mut [u8]) -> u64
     ensures { CountedBytes image.now length buffer.old result buffer.new }
 {
-    counted(counting::count_words(image, length, buffer))
+    packing::written(counting::count_words(image, length, buffer))
 }

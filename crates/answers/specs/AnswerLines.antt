@@ -1,14 +1,9 @@
 -- The line that the simulation prints of what a line of its script got.
-use Rattle.std.specs.Prelude.{ℕ, ◌+◌, ◌≡◌, ◌≢◌, List, Bool, cond, set, replicate, leb, ltb}
-use Rattle.bits.specs.declared.Maybe.{Maybe}
-use Rattle.bits.specs.declared.Maybe.TheVariants.{Just, Nothing}
+use Rattle.refusal.specs.Refusal.{refusal, refused_number}
+use Rattle.refusal.specs.declared.Refusal.{Refusal}
+use Rattle.std.specs.Prelude.{ℕ, ◌+◌, ◌≡◌, ◌≢◌, List, Bool, cond, set, replicate, leb, ltb, Option, Some, None, Result, Ok, Err, ⊤}
 use Rattle.records.specs.declared.Record.{Record}
 use Rattle.rules.specs.LookUp.{controllable}
-use Rattle.modules.specs.declared.Turn.{Turn}
-use Rattle.modules.specs.declared.Turn.TheVariants.{Event, Nothing as NoTurn}
-use Rattle.modules.specs.declared.Called.{Called}
-use Rattle.modules.specs.declared.Called.TheVariants.{Done, Refused}
-use Rattle.modules.specs.Numbers.{called_number}
 use Rattle.messages.specs.Message.{message_bytes}
 use Rattle.messages.specs.declared.Message.{Message}
 use Rattle.texts.specs.declared.Text.{Text}
@@ -16,15 +11,15 @@ use Rattle.texts.specs.Text.{text_of}
 use Rattle.script.specs.Answers.{refused_line, response_line}
 use Rattle.script.specs.SimulationLines.{delivered_line, stepped_line, served_line, tick_line, nothing_line}
 use Rattle.permits.specs.declared.Stepped.{Stepped}
-use Rattle.permits.specs.declared.Stepped.TheVariants.{Turns, Bids, Waits, Refused as StepRefused}
+use Rattle.permits.specs.declared.Stepped.TheVariants.{Turns, Bids, Waits}
 use Rattle.simulation.specs.declared.Answer.{Answer}
 use Rattle.simulation.specs.declared.Answer.TheVariants.{Module, Supervisor, Delivery, NoMessage, Response, Tick, Misshapen}
 use Rattle.simulation.specs.Numbers.{answer_number}
 use Rattle.answers.specs.declared.Row.{Row}
 
-unfoldable pub delivery_line : Message → Called → List ℕ
-delivery_line g Done = delivered_line (message_bytes g)
-delivery_line g (Refused n o) = refused_line (called_number (Refused n o))
+unfoldable pub delivery_line : Message → Result ⊤ Refusal → List ℕ
+delivery_line g (Ok u) = delivered_line (message_bytes g)
+delivery_line g (Err e) = refused_line e.number
 
 unfoldable pub answer_line : Answer → List ℕ
 answer_line (Module m a) = stepped_line m a
@@ -41,31 +36,27 @@ pub record PrintedAs (a : Answer) (t : Text) : Type 0 where
   pub refused : answer_number a ≢ 0 → t ≡ text_of (refused_line (answer_number a))
 
 -- "The record lists the events fired, in order"
-unfoldable pub event_of : Turn → Maybe
-event_of (Event e) = Just e
-event_of NoTurn = Nothing
+unfoldable pub step_event : Result Stepped Refusal → Option ℕ
+step_event (Ok (Turns t n)) = t
+step_event (Ok (Bids v n)) = None
+step_event (Ok Waits) = None
+step_event (Err e) = None
 
-unfoldable pub step_event : Stepped → Maybe
-step_event (Turns t n) = event_of t
-step_event (Bids v n) = Nothing
-step_event Waits = Nothing
-step_event (StepRefused n o) = Nothing
-
-unfoldable pub fired : Answer → Maybe
+unfoldable pub fired : Answer → Option ℕ
 fired (Module m a) = step_event a
-fired (Supervisor v a) = Nothing
-fired (Delivery g a) = Nothing
-fired NoMessage = Nothing
-fired (Response m e a) = Nothing
-fired (Tick m a) = Nothing
-fired Misshapen = Nothing
+fired (Supervisor v a) = None
+fired (Delivery g a) = None
+fired NoMessage = None
+fired (Response m e a) = None
+fired (Tick m a) = None
+fired Misshapen = None
 
 -- "commands are its controllable ones"
-unfoldable pub command_of : List Record → Maybe → Maybe
-command_of rs (Just e) = cond (controllable rs e) (Just e) Nothing
-command_of rs Nothing = Nothing
+unfoldable pub command_of : List Record → Option ℕ → Option ℕ
+command_of rs (Some e) = cond (controllable rs e) (Some e) None
+command_of rs None = None
 
-abbrev pub command : List Record → Answer → Maybe
+abbrev pub command : List Record → Answer → Option ℕ
 command rs a = command_of rs (fired a)
 
 -- a row of events, at most 1024 to a line

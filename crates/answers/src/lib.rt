@@ -8,11 +8,10 @@ ghost use Rattle.texts.specs.Text.{text_of};
 ghost use Rattle.script.specs.SimulationLines.{sent_line, delivered_line};
 ghost use Rattle.answers.specs.AnswerLines.{delivery_line, PrintedAs, fired, command, no_row, row_full, with_number};
 
-use bits::Maybe;
 use messages::Message;
-use modules::{Called, Turn};
 use permits::Stepped;
 use places::Places;
+use refusal::Refusal;
 use simulation::Answer;
 use texts::Text;
 
@@ -44,12 +43,12 @@ fn delivered_line(g: Message) -> Text
     script::delivered_line(&bytes[..n])
 }
 
-fn delivery_line(g: Message, a: Called) -> Text
+fn delivery_line(g: Message, a: Result<(), Refusal>) -> Text
     ensures { result ≡ text_of (delivery_line g a) }
 {
     match a {
-        Called::Done => delivered_line(g),
-        Called::Refused(n, _) => script::refused_line(n),
+        Ok(()) => delivered_line(g),
+        Err(e) => script::refused_line(e.number),
     }
 }
 
@@ -69,32 +68,29 @@ pub fn answer_line(a: Answer) -> Text
 }
 
 // The event that fired, if one did.
-pub fn fired(a: Answer) -> Maybe
+pub fn fired(a: Answer) -> Option<u8>
     ensures { result ≡ fired a }
 {
     let Answer::Module(_, s) = a else {
-        return Maybe::Nothing;
+        return None;
     };
-    let Stepped::Turns(t, _) = s else {
-        return Maybe::Nothing;
-    };
-    let Turn::Event(e) = t else {
-        return Maybe::Nothing;
-    };
-    Maybe::Just(e)
+    match s {
+        Ok(Stepped::Turns(event, _)) => event,
+        Ok(Stepped::Bids(_, _)) => None,
+        Ok(Stepped::Waits) => None,
+        Err(_) => None,
+    }
 }
 
 // The command, if the event that fired is one.
-pub fn command(image: &[u8], places: Places, a: Answer) -> Maybe
+pub fn command(image: &[u8], places: Places, a: Answer) -> Option<u8>
     ensures { result ≡ command (records_by image.now places) a }
 {
-    let Maybe::Just(e) = fired(a) else {
-        return Maybe::Nothing;
-    };
+    let e = fired(a)?;
     if plan::controllable(image, places, e) {
-        Maybe::Just(e)
+        Some(e)
     } else {
-        Maybe::Nothing
+        None
     }
 }
 

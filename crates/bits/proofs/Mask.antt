@@ -1,7 +1,7 @@
 -- The mask of the numbers that pass a test.
+use Rattle.std.specs.Prelude.{Option, Some, None, is_some}
 use mathlib.Core.Path.{◌≡◌, refl, sym, ap, ap₂, ◌∙◌}
 use mathlib.Core.Bool.{Bool, true, false, cond, not, ◌&&◌, ◌||◌, true≢false, or-false, and-true}
-use mathlib.Core.Option.{Option, none, some}
 use Prim.Native.Nat.{ℕ, zero, suc, ◌≤◌, ◌<◌, ◌^◌}
 use native.Mathlib.Omega.{arith}
 use native.Mathlib.Nat.{lt_of_le_of_lt}
@@ -9,7 +9,7 @@ use lib.Bits.{bit_and, bit_or, or_lt, and_le_l}
 use lib.Pow.{pow-lt, pow_pos}
 use lib.Dec.{eqb, ltb}
 use borrow.Author.Tests.{lt-ltb, le-ltb, ltb-true, ltb-false, eqb-true, eqb-false, eq-eqb, ne_eqb}
-use Rattle.bits.specs.Bit.{bit, mask_of, least, some_below, is_some}
+use Rattle.bits.specs.Bit.{bit, mask_of, least, some_below}
 use Rattle.bits.proofs.Laws.{bit_or_lem, bit_and_lem, bit_pow, bit_none, bit_above, bit_ext}
 use Rattle.bits.proofs.Least.{least_none, least_some, some_least}
 
@@ -78,7 +78,7 @@ common_is p k n a h = go (least (in_both p a) n) refl ∙ sym (some_least (in_bo
     off true true true false f = refl
     off true true true true f = f refl
 
-    empty : least (in_both p a) n ≡ none → common p k n a ≡ 0
+    empty : least (in_both p a) n ≡ None → common p k n a ≡ 0
     empty s =
         bit_ext k (common p k n a) 0 (lt_of_le_of_lt (and_le_l a (mask_of (λ e. ltb e n && p e) k)) h) (pow_pos k)
         (λ e l. at e ∙ off (bit a e) (ltb e k) (ltb e n) (p e) (λ t. least_none (in_both p a) n s e (ltb-true e n t)) ∙ sym (bit_none e))
@@ -93,7 +93,7 @@ common_is p k n a h = go (least (in_both p a) n) refl ∙ sym (some_least (in_bo
     hit i false b u v w l = absurd (true≢false (sym w))
 
     go : (o : Option ℕ) → least (in_both p a) n ≡ o → not (eqb (common p k n a) 0) ≡ is_some (least (in_both p a) n)
-    go none s = ap not (eq-eqb (common p k n a) 0 (empty s)) ∙ sym (ap is_some s)
-    go (some i) s =
+    go None s = ap not (eq-eqb (common p k n a) 0 (empty s)) ∙ sym (ap is_some s)
+    go (Some i) s =
         let l = least_some (in_both p a) n i s in
         ap not (ne_eqb (common p k n a) 0 (λ z. true≢false (sym (hit i (p i) (bit a i) refl refl l.passes (lt-ltb i n l.below)) ∙ ap (λ (y : ℕ). bit y i) z ∙ bit_none i))) ∙ sym (ap is_some s)

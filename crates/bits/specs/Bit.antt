@@ -1,9 +1,6 @@
 -- Masks of events and of modules. Document 01, "Plan records": "Bit e of a mask stands for event e."
-use Rattle.std.specs.Prelude.{ℕ, zero, suc, ◌+◌, ◌-◌, ◌/◌, ◌%◌, ◌^◌, Bool, true, false, cond, not, ◌&&◌, ◌||◌, eqb, ltb}
-use Rattle.std.proofs.Math.Option.{Option, none, some}
+use Rattle.std.specs.Prelude.{ℕ, zero, suc, ◌+◌, ◌-◌, ◌/◌, ◌%◌, ◌^◌, Bool, true, false, cond, not, ◌&&◌, ◌||◌, eqb, ltb, Option, Some, None}
 use Rattle.std.specs.Int.Bits.{bit_and, bit_or}
-use Rattle.bits.specs.declared.Maybe.{Maybe}
-use Rattle.bits.specs.declared.Maybe.TheVariants.{Just, Nothing}
 
 -- bit e of the mask m
 unfoldable pub bit : ℕ → ℕ → Bool
@@ -24,28 +21,18 @@ put_bit m e on = cond (ltb e 64) (cond on (bit_or m (2 ^ e)) (bit_and m (2 ^ 64 
 
 -- what was found, or else n where the test is passed there
 unfoldable pub or_else : Option ℕ → Bool → ℕ → Option ℕ
-or_else (some i) t n = some i
-or_else none true n = some n
-or_else none false n = none
+or_else (Some i) t n = Some i
+or_else None true n = Some n
+or_else None false n = None
 
 -- the lowest number below n that passes the test p
 unfoldable pub least : (ℕ → Bool) → ℕ → Option ℕ
-least p zero = none
+least p zero = None
 least p (suc n) = or_else (least p n) (p n) n
 
 -- "cyclically after the last served": the k-th of the 16 modules after it, counted from 0
 unfoldable pub module_after : ℕ → ℕ → ℕ
 module_after last k = (last + suc k) % 16
-
--- an answer of the code that is a number or none
-abbrev pub option_of : Maybe → Option ℕ
-option_of (Just i) = some i
-option_of Nothing = none
-
--- a number is there
-abbrev pub is_some : Option ℕ → Bool
-is_some none = false
-is_some (some i) = true
 
 -- some number below n passes the test p
 unfoldable pub some_below : (ℕ → Bool) → ℕ → Bool

@@ -2,14 +2,7 @@
 #![tactic(auto)]
 
 ghost use Rattle.std.specs.Prelude.{◌≡◌};
-ghost use Rattle.bits.specs.Bit.{bit, all_below, every_event, put_bit, least, option_of};
-
-// A number, or that there is none.
-#[derive(Clone, Copy)]
-pub enum Maybe {
-    Just(u8),
-    Nothing,
-}
+ghost use Rattle.bits.specs.Bit.{bit, all_below, every_event, put_bit, least};
 
 // Whether a mask has a bit. No mask has one at 64 or above.
 pub fn has(m: u64, e: u8) -> bool
@@ -54,14 +47,14 @@ pub fn has_below(m: u64, n: u8) -> bool
 }
 
 // The lowest bit of a mask.
-pub fn lowest(m: u64) -> Maybe
-    ensures { option_of result ≡ least (bit m) 64 }
+pub fn lowest(m: u64) -> Option<u8>
+    ensures { result ≡ least (bit m) 64 }
 {
     let e = u64::trailing_zeros(m);
     if e < 64 {
         let n = e as u8;
-        Maybe::Just(n)
+        Some(n)
     } else {
-        Maybe::Nothing
+        None
     }
 }

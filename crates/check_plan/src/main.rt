@@ -2,7 +2,6 @@
 #![tactic(auto)]
 
 use pieces::CheckState;
-use rules::Verdict;
 use std::io;
 use std::io::Read;
 use texts::Text;
@@ -37,7 +36,7 @@ fn main(rt: HostRuntime) -> io::Result<()> {
         return print(&rt, texts::word(b"not read\n"));
     };
     match pieces::verdict(state) {
-        Verdict::Accepted => print(&rt, texts::word(b"accepted\n")),
-        Verdict::Refused(n, at) => print(&rt, script::plan_refused_line(n, at)),
+        Ok(()) => print(&rt, texts::word(b"accepted\n")),
+        Err(e) => print(&rt, script::plan_refused_line(e.number, e.offset)),
     }
 }

@@ -1,4 +1,5 @@
 -- How far the check goes in the bytes of a state, from how far its stretches go.
+use Rattle.std.specs.Prelude.{Result, Ok, Err}
 use Rattle.std.proofs.Common.{◌≡◌, ℕ, ◌+◌, ◌<◌, ◌≤◌, Bool, true, false, cond, not, ◌&&◌, eqb, List, ◌++◌, length, get_or, take, drop, sym, refl, ap, ◌∙◌, subst, inl, append-nil, arith, lit≤, drop_of_length-le, length-take-le, drop_at}
 use lib.Seq.{sets, length-sets}
 use Rattle.words.specs.Word.{put_at}
@@ -7,9 +8,7 @@ use Rattle.records.specs.Kinds.{kind_of}
 use Rattle.records.specs.declared.Record.{Record}
 use Rattle.reader.specs.Read.{read_at}
 use Rattle.reader.specs.Walk.{Walk, more, stop, walk_from}
-use Rattle.reader.specs.declared.Read.{Read}
-use Rattle.reader.specs.declared.Read.TheVariants.{Whole}
-use Rattle.reader.proofs.Reading.{next}
+use Rattle.reader.specs.declared.NoRecord.{NoRecord}
 use Rattle.roundtrip.specs.Fits.{Bytes}
 use Rattle.fields.specs.Fields.{bytes_from, flag_byte, is_flag}
 use Rattle.fields.proofs.Back.{from_add, from_all}
@@ -18,7 +17,7 @@ use Rattle.context.specs.declared.Context.{Context}
 use Rattle.judge.specs.Judge.{judge_by}
 use Rattle.judge.specs.Past.{past_by, past_from}
 use Rattle.judge.specs.declared.Past.{Past}
-use Rattle.judge.proofs.Passing.{cut_by, unknown_by, first_by}
+use Rattle.judge.proofs.Passing.{stops_by, first_by}
 use Rattle.context_bytes.specs.Encoding.{context_bytes, context_at, ContextEncodable}
 use Rattle.context_bytes.proofs.Reading.{part_of}
 use Rattle.context_bytes.proofs.Regions.{same_bytes, sets_apart}
@@ -92,11 +91,8 @@ module _ (s b : List ℕ) (i : ℕ) (x : List ℕ) (j : ℕ) (g : AfterRecord b)
       let flag : is_flag (get_or x 23 0) ≡ true = ap is_flag (h.front 23 (lit≤ tt) ∙ g.1) in
       (written_back b x g.0 h.size (λ n l. h.front n (omega arith)) f flag ∙ ap (λ (p : Past). put_at (context_bytes p.context) 23 b) e, ap (λ (p : Past). p.next) e)
 
-  pub stops_cut : {r y : Read} → Bytes x → r ≡ read_at s j → r ≡ y → next s j y ≡ stop 3 j → (x ≡ past_bytes s i b) × (j ≡ (past_in s i b).next)
-  stops_cut f e q w = stops f (cut_by s (context_at b) (context_at x) i j (past_same s b i x j h) e q w)
-
-  pub stops_unknown : {r y : Read} → Bytes x → r ≡ read_at s j → r ≡ y → next s j y ≡ stop 2 j → (x ≡ past_bytes s i b) × (j ≡ (past_in s i b).next)
-  stops_unknown f e q w = stops f (unknown_by s (context_at b) (context_at x) i j (past_same s b i x j h) e q w)
+  pub stops_at : (why : NoRecord) {r : Result (Record × ℕ) NoRecord} → Bytes x → r ≡ read_at s j → r ≡ Err why → (x ≡ past_bytes s i b) × (j ≡ (past_in s i b).next)
+  stops_at why f e q = stops f (stops_by s (context_at b) (context_at x) i j (past_same s b i x j h) why e q)
 
   -- or one by one from there
   pub goes_on : {y : List ℕ} {k : ℕ} → Bytes s → Bytes x → (y ≡ past_bytes s j x) × (k ≡ (past_in s j x).next) → (y ≡ past_bytes s i b) × (k ≡ (past_in s i b).next)
@@ -109,7 +105,7 @@ module _ (s b : List ℕ) (i : ℕ) (x : List ℕ) (j : ℕ) (g : AfterRecord b)
 
 -- ---- past the first record, by value
 
-module _ (s b : List ℕ) (i : ℕ) (n : length b ≡ 495) (a : Bytes s) (f : Bytes b) (c d : Context) (r : Record) (m : ℕ) (c1 : c ≡ context_at b) (e : Whole r m ≡ read_at s i)
+module _ (s b : List ℕ) (i : ℕ) (n : length b ≡ 495) (a : Bytes s) (f : Bytes b) (c d : Context) (r : Record) (m : ℕ) (c1 : c ≡ context_at b) (e : Ok (r, m) ≡ read_at s i)
     (d1 : d ≡ with_record c r) (x : List ℕ) (p : x ≡ put_at (context_bytes d) 23 b) where
   encodable : ContextEncodable d
   encodable =
@@ -147,5 +143,5 @@ module _ (s b : List ℕ) (i : ℕ) (n : length b ≡ 495) (a : Bytes s) (f : By
       )
 
 -- what was read, by its case
-pub whole_by : (s : List ℕ) (i : ℕ) (r : Record) (n : ℕ) {x : Read} → x ≡ read_at s i → x ≡ Whole r n → Whole r n ≡ read_at s i
+pub whole_by : (s : List ℕ) (i : ℕ) (r : Record) (n : ℕ) {x : Result (Record × ℕ) NoRecord} → x ≡ read_at s i → x ≡ Ok (r, n) → Ok (r, n) ≡ read_at s i
 whole_by s i r n e w = sym w ∙ e

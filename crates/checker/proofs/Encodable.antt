@@ -1,4 +1,5 @@
 -- What is remembered past whole records can be encoded, where it could be before them.
+use Rattle.std.specs.Prelude.{Result, Ok, Err}
 use Rattle.std.proofs.Common.{◌≡◌, ℕ, zero, suc, ◌+◌, ◌-◌, ◌<◌, ◌≤◌, Bool, true, false, eqb, List, length, get_or, drop, sym, refl, subst, arith, length-drop, get_or-drop, eqb-true}
 use borrow.Author.Tests.{eqb-false}
 use Rattle.roundtrip.specs.Fits.{Bytes, Fits}
@@ -6,20 +7,19 @@ use Rattle.roundtrip.proofs.Shape.{same}
 use Rattle.records.specs.Kinds.{body_len, kind_of}
 use Rattle.records.specs.declared.Record.{Record}
 use Rattle.reader.specs.Read.{read_at}
-use Rattle.reader.specs.declared.Read.{Read}
-use Rattle.reader.specs.declared.Read.TheVariants.{Nothing, Cut, Unknown, Whole}
+use Rattle.reader.specs.declared.NoRecord.{NoRecord}
 use Rattle.reader.proofs.Reading.{told_by}
 use Rattle.context.specs.Context.{with_record}
 use Rattle.context.specs.declared.Context.{Context}
 use Rattle.judge.specs.Judge.{judge_by}
 use Rattle.judge.specs.Past.{past_from}
 use Rattle.judge.specs.declared.Past.{Past}
-use Rattle.judge.proofs.Passing.{cut_by, unknown_by, faulty_by, end_by, first_by}
+use Rattle.judge.proofs.Passing.{stops_by, faulty_by, end_by, first_by}
 use Rattle.context_bytes.specs.Encoding.{ContextEncodable}
 use Rattle.context_bytes.proofs.Contexts.{record_encodable}
 
 -- a record that is read whole
-pub read_fits : (s : List ℕ) (i : ℕ) {r : Record} {n : ℕ} → Bytes s → Whole r n ≡ read_at s i → Fits r
+pub read_fits : (s : List ℕ) (i : ℕ) {r : Record} {n : ℕ} → Bytes s → Ok (r, n) ≡ read_at s i → Fits r
 read_fits s i {r} {n} g e =
     let o = told_by s i e refl in
     let a : i < length s = o.inside in
@@ -39,11 +39,9 @@ module _ (s : List ℕ) (g : Bytes s) (m i : ℕ) (c : Context) (f : Remembers s
   unfolding Remembers
   remembers_by = go (read_at s i) refl
     where
-      go : (x : Read) → x ≡ read_at s i → ContextEncodable (past_from s i c).context
-      go Nothing e = stays (cut_by s c c i i refl e refl refl)
-      go Cut e = stays (cut_by s c c i i refl e refl refl)
-      go Unknown e = stays (unknown_by s c c i i refl e refl refl)
-      go (Whole r n) e = cases (eqb (judge_by c r) 0) (eqb (kind_of r) 0x1f) refl refl
+      go : (x : Result (Record × ℕ) NoRecord) → x ≡ read_at s i → ContextEncodable (past_from s i c).context
+      go (Err why) e = stays (stops_by s c c i i refl why e refl)
+      go (Ok (r, n)) e = cases (eqb (judge_by c r) 0) (eqb (kind_of r) 0x1f) refl refl
         where
           cases : (a d : Bool) → eqb (judge_by c r) 0 ≡ a → eqb (kind_of r) 0x1f ≡ d → ContextEncodable (past_from s i c).context
           cases false d p q = stays (faulty_by s c c i i refl e refl refl (eqb-false _ _ p))

@@ -1,4 +1,7 @@
 -- One step of the check by what it remembers, by what stands at an offset.
+use Rattle.std.specs.Prelude.{Result, Ok, Err}
+use Rattle.refusal.specs.Refusal.{refusal}
+use Rattle.refusal.specs.declared.Refusal.{Refusal}
 use Rattle.std.proofs.Common.{◌≡◌, ℕ, suc, ◌+◌, ◌<◌, ◌≤◌, Bool, true, false, cond, not, ◌&&◌, eqb, List, [], length, replicate, sym, refl, ap, ◌∙◌, subst, zero-add, arith, drop_of_length-le, le-ltb, lt-ltb, ne_eqb, eqb-true}
 use Rattle.bits.specs.Bit.{bit, all_below}
 use Rattle.records.specs.Kinds.{kind_of, body_len, size_by}
@@ -8,15 +11,14 @@ use Rattle.records.specs.declared.Record.{Record}
 use Rattle.records.specs.declared.Record.TheVariants.{Head, End}
 use Rattle.records.specs.declared.RecordKey.{RecordKey}
 use Rattle.records.proofs.Order.{key_kind}
-use Rattle.reader.specs.Read.{read_at, record_of}
+use Rattle.reader.specs.Read.{read_at, record_of, stop_number}
 use Rattle.reader.specs.Walk.{Walk, more, stop, walk_of, walk_from}
-use Rattle.reader.specs.declared.Read.{Read}
-use Rattle.reader.specs.declared.Read.TheVariants.{Whole}
+use Rattle.reader.specs.declared.NoRecord.{NoRecord}
+use Rattle.reader.specs.declared.NoRecord.TheVariants.{Unknown, Cut, Nothing}
 use Rattle.reader.proofs.Reading.{next, walks_by, told_by}
 use Rattle.places.specs.Places.{nowhere, place_by, noted_at, noted_in, places_of}
 use Rattle.places.specs.declared.Places.{Places}
 use Rattle.rules.specs.Check.{end_at, check_walk, verdict_of, limit}
-use Rattle.rules.specs.declared.Verdict.TheVariants.{Accepted as VerdictAccepted, Refused as VerdictRefused}
 use Rattle.words.specs.Word.{word_at}
 use Rattle.context_bytes.specs.Encoding.{words_from, alphabets}
 use Rattle.context.specs.declared.Counts.{Counts}
@@ -30,8 +32,6 @@ use Rattle.judge.specs.Represents.{check_by}
 use Rattle.judge.proofs.Represents.{checks}
 use Rattle.record_tests.specs.declared.Fields.{Fields}
 use Rattle.record_tests.specs.Tests.{end_kept, stands_at, fields_at}
-use Rattle.checker.specs.declared.Examined.{Examined}
-use Rattle.checker.specs.declared.Examined.TheVariants.{Accepted, Refused}
 use Rattle.checker.specs.Examined.{examined_by, examined_of}
 use Rattle.checker.specs.Stretch.{Reached, headed}
 use Rattle.checker.specs.Stretch.{Rest, rest_of, Stretch, Span, Passed, noted_past, context_by, events_by, modules_by, supervisors_by}
@@ -46,33 +46,38 @@ begins s {c} {p} e f h =
     record {
       checked =
           ap (λ (d : Context). check_by (length s) d (walk_from s 0)) e ∙ checks (length s) (walk_from s 0)
-          ∙ sym (ap (λ (b : Bool). cond b (VerdictRefused 1 0) (check_walk (length s) [] (walk_from s 0))) (le-ltb limit (length s) (omega arith)));
+          ∙ sym (ap (λ (b : Bool). cond b (Err (refusal 1 0)) (check_walk (length s) [] (walk_from s 0))) (le-ltb limit (length s) (omega arith)));
       noted = ap (λ (q : Places). noted_in q c.last.kind (walk_from s 0)) f ∙ ap (λ (d : Context). noted_in nowhere d.last.kind (walk_from s 0)) e;
     }
 
 -- ---- the answer
 
-refuses : (s : List ℕ) (k i : ℕ) → verdict_of s ≡ VerdictRefused k i → Refused k i ≡ examined_of s
+refuses : (s : List ℕ) (k i : ℕ) → verdict_of s ≡ Err (refusal k i) → Err (refusal k i) ≡ examined_of s
 unfolding examined_of examined_by
 refuses s k i e = sym (ap (examined_by (places_of s)) e)
 
-pub too_long : (s : List ℕ) → limit < length s → Refused 1 0 ≡ examined_of s
+pub too_long : (s : List ℕ) → limit < length s → Err (refusal 1 0) ≡ examined_of s
 unfolding verdict_of
-too_long s h = refuses s 1 0 (ap (λ (b : Bool). cond b (VerdictRefused 1 0) (check_walk (length s) [] (walk_from s 0))) (lt-ltb limit (length s) h))
+too_long s h = refuses s 1 0 (ap (λ (b : Bool). cond b (Err (refusal 1 0)) (check_walk (length s) [] (walk_from s 0))) (lt-ltb limit (length s) h))
 
 -- each way on from an offset, with every fact as a premise
 module _ (s : List ℕ) (c : Context) (i : ℕ) (p : Places) where
-  pub stopped_by : (k : ℕ) {x y : Read} → x ≡ read_at s i → x ≡ y → next s i y ≡ stop k i → Reached s c i p → Refused k i ≡ examined_of s
+  stops : (k : ℕ) {x y : Result (Record × ℕ) NoRecord} → x ≡ read_at s i → x ≡ y → next s i y ≡ stop k i → Reached s c i p → Err (refusal k i) ≡ examined_of s
   unfolding check_by
-  stopped_by k e g w h = refuses s k i (sym h.checked ∙ ap (check_by (length s) c) (walks_by s i e g ∙ w))
+  stops k e g w h = refuses s k i (sym h.checked ∙ ap (check_by (length s) c) (walks_by s i e g ∙ w))
 
-  pub refused_by : (num : ℕ) {x : Read} {r : Record} {n : ℕ} → x ≡ read_at s i → x ≡ Whole r n → num ≡ judge_by c r → (num ≡ 0 → ⊥) → Reached s c i p
-      → Refused num i ≡ examined_of s
+  pub stopped_by : {k : ℕ} (why : NoRecord) {x : Result (Record × ℕ) NoRecord} → x ≡ read_at s i → x ≡ Err why → k ≡ stop_number why → Reached s c i p → Err (refusal k i) ≡ examined_of s
+  stopped_by Unknown e g n h = ap (λ (k : ℕ). Err (refusal k i)) n ∙ stops 2 e g refl h
+  stopped_by Cut e g n h = ap (λ (k : ℕ). Err (refusal k i)) n ∙ stops 3 e g refl h
+  stopped_by Nothing e g n h = ap (λ (k : ℕ). Err (refusal k i)) n ∙ stops 3 e g refl h
+
+  pub refused_by : (num : ℕ) {x : Result (Record × ℕ) NoRecord} {r : Record} {n : ℕ} → x ≡ read_at s i → x ≡ Ok (r, n) → num ≡ judge_by c r → (num ≡ 0 → ⊥) → Reached s c i p
+      → Err (refusal num i) ≡ examined_of s
   unfolding check_by
   refused_by num e g j z h = refuses s num i (sym h.checked ∙ ap (check_by (length s) c) (walks_by s i e g) ∙ simp (← j, ne_eqb num 0 z))
 
   -- past a faultless record
-  module _ {x : Read} {r : Record} {n no k : ℕ} {q : Places} (e : x ≡ read_at s i) (g : x ≡ Whole r n) (j : no ≡ judge_by c r) (z : no ≡ 0) (f : k ≡ kind_of r)
+  module _ {x : Result (Record × ℕ) NoRecord} {r : Record} {n no k : ℕ} {q : Places} (e : x ≡ read_at s i) (g : x ≡ Ok (r, n)) (j : no ≡ judge_by c r) (z : no ≡ 0) (f : k ≡ kind_of r)
       (t : q ≡ noted_at p c.last.kind k i) (h : Reached s c i p) where
     noted_on : noted_in q (kind_of r) (walk_from s n) ≡ places_of s
     unfolding noted_in
@@ -84,18 +89,18 @@ module _ (s : List ℕ) (c : Context) (i : ℕ) (p : Places) where
     unfolding check_by
     ends l = sym (ap (check_by (length s) c) (walks_by s i e g) ∙ simp (← j, z, ← f, l)) ∙ h.checked
 
-    pub ended_by : k ≡ 0x1f → {u : Examined} → u ≡ examined_by q (end_at (length s) i) → u ≡ examined_of s
+    pub ended_by : k ≡ 0x1f → {u : Result Places Refusal} → u ≡ examined_by q (end_at (length s) i) → u ≡ examined_of s
     unfolding examined_of examined_by noted_in walk_of
     ended_by l v = v ∙ go (eqb (suc i) (length s)) refl (ends l)
       where
-        go : (b : Bool) → eqb (suc i) (length s) ≡ b → cond b VerdictAccepted (VerdictRefused 4 (suc i)) ≡ verdict_of s
-            → examined_by q (cond b VerdictAccepted (VerdictRefused 4 (suc i))) ≡ examined_of s
+        go : (b : Bool) → eqb (suc i) (length s) ≡ b → cond b (Ok tt) (Err (refusal 4 (suc i))) ≡ verdict_of s
+            → examined_by q (cond b (Ok tt) (Err (refusal 4 (suc i)))) ≡ examined_of s
         go true m w =
             let a = told_by s i e g in
             let y : suc i ≡ length s = eqb-true _ _ m in
             let b : length s ≤ n = omega arith in
             let d : q ≡ places_of s = sym (ap (λ (l : List ℕ). noted_in q (kind_of r) (walk_of 0 n l)) (drop_of_length-le s b)) ∙ noted_on in
-            ap Accepted d ∙ ap (examined_by (places_of s)) w
+            ap Ok d ∙ ap (examined_by (places_of s)) w
         go false m w = ap (examined_by (places_of s)) w
 
     goes_on : (k ≡ 0x1f → ⊥) → Reached s (with_record c r) n q
@@ -107,7 +112,7 @@ module _ (s : List ℕ) (c : Context) (i : ℕ) (p : Places) where
         }
 
 -- the same, its premises in an order that tells what they speak of
-pub goes_on_by : (s : List ℕ) (c : Context) (i : ℕ) (p : Places) (d : Context) {x : Read} {r : Record} {n no k : ℕ} {q : Places} → d ≡ with_record c r → x ≡ Whole r n
+pub goes_on_by : (s : List ℕ) (c : Context) (i : ℕ) (p : Places) (d : Context) {x : Result (Record × ℕ) NoRecord} {r : Record} {n no k : ℕ} {q : Places} → d ≡ with_record c r → x ≡ Ok (r, n)
     → x ≡ read_at s i → q ≡ noted_at p c.last.kind k i → k ≡ kind_of r → (k ≡ 0x1f → ⊥) → no ≡ judge_by c r → no ≡ 0 → Reached s c i p → Reached s d n q
 goes_on_by s c i p d {n = n} {q = q} w g e t f l j z h = subst (λ (a : Context). Reached s a n q) (sym w) (goes_on s c i p e g j z f t h l)
 
@@ -132,7 +137,7 @@ checks_rest n c (more o r w) = go (eqb (judge_by c r) 0) (eqb (kind_of r) 0x1f) 
     go : (a b : Bool) → eqb (judge_by c r) 0 ≡ a → eqb (kind_of r) 0x1f ≡ b
         → check_by n (rest_of (with_record c r) w).context (rest_of (with_record c r) w).walk ≡ check_by n (with_record c r) w
         → (let t : Rest = cond (a && not b) (rest_of (with_record c r) w) (record { context = c; walk = more o r w }) in check_by n t.context t.walk)
-        ≡ cond a (cond b (end_at n o) (check_by n (with_record c r) w)) (VerdictRefused (judge_by c r) o)
+        ≡ cond a (cond b (end_at n o) (check_by n (with_record c r) w)) (Err (refusal (judge_by c r) o))
     go true true x y f = simp (x, y)
     go true false x y f = f
     go false b x y f = simp (x)
@@ -227,9 +232,9 @@ module _ (s : List ℕ) (q : RecordKey) (n : Counts) (ev : Events) (ms : Modules
       let b = both (stands_at s i 0x1f (size_by 0x1f) && precedes q (key_by 0x1f 0 0 0)) declared (sym e ∙ h) in
       simp ((both (stands_at s i 0x1f (size_by 0x1f)) (precedes q (key_by 0x1f 0 0 0)) b.0).1, b.1)
 
-  pub end_by : {p p' : Places} {u : Examined} → Reached s (context_by q n ev ms vs) i p → p' ≡ noted_at p q.kind 0x1f i → u ≡ examined_by p' (end_at (length s) i) → u ≡ examined_of s
+  pub end_by : {p p' : Places} {u : Result Places Refusal} → Reached s (context_by q n ev ms vs) i p → p' ≡ noted_at p q.kind 0x1f i → u ≡ examined_by p' (end_at (length s) i) → u ≡ examined_of s
   unfolding record_of body_len kind_of
   end_by {p} r g u =
       let w = stands_there s i 0x1f (size_by 0x1f) (end_stands s i q n ms.known vs.known ev.known e h) in
-      let d : read_at s i ≡ Whole End (i + 1) = reads_whole s i 0x1f (size_by 0x1f) w (λ z. absurd (omega arith)) refl in
+      let d : read_at s i ≡ (Ok (End, i + 1)) = reads_whole s i 0x1f (size_by 0x1f) w (λ z. absurd (omega arith)) refl in
       ended_by s (context_by q n ev ms vs) i p refl d (sym end_judged) refl refl g r refl u

@@ -1,4 +1,5 @@
 -- A stretch of records of one kind: each record that is passed is whole and not faulty.
+use Rattle.std.specs.Prelude.{Ok}
 use Rattle.std.proofs.Common.{◌≡◌, ℕ, ◌+◌, ◌-◌, ◌*◌, ◌%◌, ◌^◌, ◌<◌, ◌≤◌, Bool, true, false, cond, not, ◌&&◌, ◌||◌, eqb, ltb, leb, ◌⊎◌, List, length, get_or, drop, set, sym, refl, ap, ◌∙◌, subst, inl, inr, le_refl, lt_of_le_of_lt, mod-eq_of_lt, arith, leb→le, get_or-drop, ltb-false, ltb-true, lt-ltb, eq-eqb, ne_eqb, eqb-true, leb-true}
 use mathlib.Core.Bool.{false≢true, and-true, and-false}
 use lib.Seq.{sets}
@@ -18,7 +19,6 @@ use Rattle.records.specs.declared.Record.TheVariants.{Head, Event, Module, Modul
 use Rattle.records.specs.declared.RecordKey.{RecordKey}
 use Rattle.reader.specs.Read.{record_of, read_at}
 use Rattle.reader.specs.Walk.{walk_from}
-use Rattle.reader.specs.declared.Read.TheVariants.{Whole}
 use Rattle.reader.proofs.Reading.{walks_by, shapes_whole, reads_by}
 use Rattle.places.specs.Places.{place_by, noted_at, noted_in}
 use Rattle.places.specs.declared.Places.{Places}
@@ -97,14 +97,14 @@ module _ (s : List ℕ) (i n : ℕ) {t : Bool} (e : t ≡ stands_at s i 0x18 n) 
   marking_fits l = let b : i + m < length s = marking_inside in let t : i + m ≤ length s = omega arith in lt_of_le_of_lt t l
 
 pub reads_whole : (s : List ℕ) (i k n : ℕ) → Whole-there s i k n → (body_len k ≡ no_len → ⊥) → n ≡ size_by k
-    → read_at s i ≡ Whole (record_of k (drop (i + 1) s)) (i + n)
+    → read_at s i ≡ Ok (record_of k (drop (i + 1) s), i + n)
 reads_whole s i k n w u e =
     let g : get_or s i 0 ≡ k = w.kind in
     let f : i + n ≤ length s = w.fits in
     let h : body_len (get_or s i 0) ≤ length s - (i + 1) = subst (λ (x : ℕ). body_len x ≤ length s - (i + 1)) (sym g) (omega arith) in
     reads_by s i (sym (shapes_whole s i w.inside (subst (λ (x : ℕ). body_len x ≡ no_len → ⊥) (sym g) u) h))
-    ∙ ap (λ (x : ℕ). Whole (record_of x (drop (i + 1) s)) (i + 1 + body_len x)) g
-    ∙ ap (λ (x : ℕ). Whole (record_of k (drop (i + 1) s)) x) (omega arith)
+    ∙ ap (λ (x : ℕ). (Ok (record_of x (drop (i + 1) s), i + 1 + body_len x))) g
+    ∙ ap (λ (x : ℕ). (Ok (record_of k (drop (i + 1) s), x))) (omega arith)
 
 field_at : (s : List ℕ) (j a b : ℕ) → b ≡ 1 + a → get_or (drop (j + 1) s) a 0 ≡ get_or s (j + b) 0
 field_at s j a b e = get_or-drop (j + 1) s a 0 ∙ ap (λ (x : ℕ). get_or s x 0) (omega arith)
@@ -114,63 +114,63 @@ word_at_lem s j a b e = word_drop (j + 1) s a ∙ ap (word_at s) (omega arith)
 
 -- the record of each kind, by its fields
 module _ (s : List ℕ) (j : ℕ) {f : Fields} (g : f ≡ fields_at s j) where
-  pub reads_head : {n : ℕ} → n ≡ size_by 0x10 → Whole-there s j 0x10 n → read_at s j ≡ Whole (Head f.first f.second f.third) (j + n)
+  pub reads_head : {n : ℕ} → n ≡ size_by 0x10 → Whole-there s j 0x10 n → read_at s j ≡ Ok (Head f.first f.second f.third, j + n)
   unfolding record_of body_len
   reads_head {n} z w =
       reads_whole s j 0x10 n w (λ q. absurd (omega arith)) z
       ∙ simp (field_at s j 0 1 refl, field_at s j 1 2 refl, field_at s j 2 3 refl)
-      (ap (λ (x : Fields). Whole (Head x.first x.second x.third) (j + n)) (sym g))
+      (ap (λ (x : Fields). (Ok (Head x.first x.second x.third, j + n))) (sym g))
 
-  reads_event : {n : ℕ} → n ≡ size_by 0x11 → Whole-there s j 0x11 n → read_at s j ≡ Whole (Event f.first f.second f.third) (j + n)
+  reads_event : {n : ℕ} → n ≡ size_by 0x11 → Whole-there s j 0x11 n → read_at s j ≡ Ok (Event f.first f.second f.third, j + n)
   unfolding record_of body_len
   reads_event {n} z w =
       reads_whole s j 0x11 n w (λ q. absurd (omega arith)) z
       ∙ simp (field_at s j 0 1 refl, field_at s j 1 2 refl, field_at s j 2 3 refl)
-      (ap (λ (x : Fields). Whole (Event x.first x.second x.third) (j + n)) (sym g))
+      (ap (λ (x : Fields). (Ok (Event x.first x.second x.third, j + n))) (sym g))
 
-  reads_module : {n : ℕ} → n ≡ size_by 0x12 → Whole-there s j 0x12 n → read_at s j ≡ Whole (Module f.first f.second f.third) (j + n)
+  reads_module : {n : ℕ} → n ≡ size_by 0x12 → Whole-there s j 0x12 n → read_at s j ≡ Ok (Module f.first f.second f.third, j + n)
   unfolding record_of body_len
   reads_module {n} z w =
       reads_whole s j 0x12 n w (λ q. absurd (omega arith)) z
       ∙ simp (field_at s j 0 1 refl, field_at s j 1 2 refl, field_at s j 2 3 refl)
-      (ap (λ (x : Fields). Whole (Module x.first x.second x.third) (j + n)) (sym g))
+      (ap (λ (x : Fields). (Ok (Module x.first x.second x.third, j + n))) (sym g))
 
-  reads_module_move : {n : ℕ} → n ≡ size_by 0x13 → Whole-there s j 0x13 n → read_at s j ≡ Whole (ModuleMove f.first f.second f.third f.fourth) (j + n)
+  reads_module_move : {n : ℕ} → n ≡ size_by 0x13 → Whole-there s j 0x13 n → read_at s j ≡ Ok (ModuleMove f.first f.second f.third f.fourth, j + n)
   unfolding record_of body_len
   reads_module_move {n} z w =
       reads_whole s j 0x13 n w (λ q. absurd (omega arith)) z
       ∙ simp (field_at s j 0 1 refl, field_at s j 1 2 refl, field_at s j 2 3 refl, field_at s j 3 4 refl)
-      (ap (λ (x : Fields). Whole (ModuleMove x.first x.second x.third x.fourth) (j + n)) (sym g))
+      (ap (λ (x : Fields). (Ok (ModuleMove x.first x.second x.third x.fourth, j + n))) (sym g))
 
-  reads_supervisor : {n : ℕ} → n ≡ size_by 0x14 → Whole-there s j 0x14 n → read_at s j ≡ Whole (Supervisor f.first f.second f.third (word_at s (j + 4))) (j + n)
+  reads_supervisor : {n : ℕ} → n ≡ size_by 0x14 → Whole-there s j 0x14 n → read_at s j ≡ Ok (Supervisor f.first f.second f.third (word_at s (j + 4)), j + n)
   unfolding record_of body_len
   reads_supervisor {n} z w =
       reads_whole s j 0x14 n w (λ q. absurd (omega arith)) z
       ∙ simp (field_at s j 0 1 refl, field_at s j 1 2 refl, field_at s j 2 3 refl, word_at_lem s j 3 4 refl)
-      (ap (λ (x : Fields). Whole (Supervisor x.first x.second x.third (word_at s (j + 4))) (j + n)) (sym g))
+      (ap (λ (x : Fields). (Ok (Supervisor x.first x.second x.third (word_at s (j + 4)), j + n))) (sym g))
 
-  reads_supervisor_move : {n : ℕ} → n ≡ size_by 0x15 → Whole-there s j 0x15 n → read_at s j ≡ Whole (SupervisorMove f.first f.second f.third f.fourth) (j + n)
+  reads_supervisor_move : {n : ℕ} → n ≡ size_by 0x15 → Whole-there s j 0x15 n → read_at s j ≡ Ok (SupervisorMove f.first f.second f.third f.fourth, j + n)
   unfolding record_of body_len
   reads_supervisor_move {n} z w =
       reads_whole s j 0x15 n w (λ q. absurd (omega arith)) z
       ∙ simp (field_at s j 0 1 refl, field_at s j 1 2 refl, field_at s j 2 3 refl, field_at s j 3 4 refl)
-      (ap (λ (x : Fields). Whole (SupervisorMove x.first x.second x.third x.fourth) (j + n)) (sym g))
+      (ap (λ (x : Fields). (Ok (SupervisorMove x.first x.second x.third x.fourth, j + n))) (sym g))
 
-  reads_disabling : {n : ℕ} → n ≡ size_by 0x16 → Whole-there s j 0x16 n → read_at s j ≡ Whole (Disabling f.first f.second (word_at s (j + 3))) (j + n)
+  reads_disabling : {n : ℕ} → n ≡ size_by 0x16 → Whole-there s j 0x16 n → read_at s j ≡ Ok (Disabling f.first f.second (word_at s (j + 3)), j + n)
   unfolding record_of body_len
   reads_disabling {n} z w =
       reads_whole s j 0x16 n w (λ q. absurd (omega arith)) z
       ∙ simp (field_at s j 0 1 refl, field_at s j 1 2 refl, word_at_lem s j 2 3 refl)
-      (ap (λ (x : Fields). Whole (Disabling x.first x.second (word_at s (j + 3))) (j + n)) (sym g))
+      (ap (λ (x : Fields). (Ok (Disabling x.first x.second (word_at s (j + 3)), j + n))) (sym g))
 
-  reads_step : {n : ℕ} → n ≡ size_by 0x17 → Whole-there s j 0x17 n → read_at s j ≡ Whole (Step f.first f.second f.third (word_at s (j + 4))) (j + n)
+  reads_step : {n : ℕ} → n ≡ size_by 0x17 → Whole-there s j 0x17 n → read_at s j ≡ Ok (Step f.first f.second f.third (word_at s (j + 4)), j + n)
   unfolding record_of body_len
   reads_step {n} z w =
       reads_whole s j 0x17 n w (λ q. absurd (omega arith)) z
       ∙ simp (field_at s j 0 1 refl, field_at s j 1 2 refl, field_at s j 2 3 refl, word_at_lem s j 3 4 refl)
-      (ap (λ (x : Fields). Whole (Step x.first x.second x.third (word_at s (j + 4))) (j + n)) (sym g))
+      (ap (λ (x : Fields). (Ok (Step x.first x.second x.third (word_at s (j + 4)), j + n))) (sym g))
 
-reads_marking : (s : List ℕ) (j : ℕ) {n : ℕ} → n ≡ size_by 0x18 → Whole-there s j 0x18 n → read_at s j ≡ Whole (Marking (get_or s (j + 1) 0) (get_or s (j + 2) 0)) (j + n)
+reads_marking : (s : List ℕ) (j : ℕ) {n : ℕ} → n ≡ size_by 0x18 → Whole-there s j 0x18 n → read_at s j ≡ Ok (Marking (get_or s (j + 1) 0) (get_or s (j + 2) 0), j + n)
 unfolding record_of body_len
 reads_marking s j {n} z w = reads_whole s j 0x18 n w (λ q. absurd (omega arith)) z ∙ simp (field_at s j 0 1 refl, field_at s j 1 2 refl)
 
@@ -241,7 +241,7 @@ begins_stretch s k c i r =
     }
 
 module _ (s : List ℕ) (k : ℕ) {c d : Context} {i j : ℕ} where
-  reaches : (m : ℕ) {r : Record} → read_at s j ≡ Whole r m → j < m → judge_by d r ≡ 0 → kind_of r ≡ k → (key_of r).kind ≡ k → (k ≡ 0x1f → ⊥)
+  reaches : (m : ℕ) {r : Record} → read_at s j ≡ Ok (r, m) → j < m → judge_by d r ≡ 0 → kind_of r ≡ k → (key_of r).kind ≡ k → (k ≡ 0x1f → ⊥)
       → Stretch s k c i d j → Stretch s k c i (with_record d r) m
   unfolding rest_of noted_in
   reaches m {r} e l z f g u h =
@@ -379,7 +379,7 @@ module _ (s : List ℕ) (c : Context → Context) (i : ℕ) (n : Counts) (p : Re
       (sym n1 ∙ y.1)
       in
       let d = reaches s 0x14 (j + bytes)
-      (reads_supervisor s j g sized (stands_told s j 0x14 bytes e b1) ∙ ap (λ (y : ℕ). Whole (Supervisor f.first f.second f.third y) (j + bytes)) (sym x1)) (omega (arith, sized))
+      (reads_supervisor s j g sized (stands_told s j 0x14 bytes e b1) ∙ ap (λ (y : ℕ). (Ok (Supervisor f.first f.second f.third y, j + bytes))) (sym x1)) (omega (arith, sized))
       (simp (sym o1 ∙ q.0, m.0, m.1)) refl refl (λ z. absurd (omega arith)) (v r)
       in
       let w : with_record (at_supervisors p n events known states alphabet r) (Supervisor f.first f.second f.third x)
@@ -430,7 +430,7 @@ module _ (s : List ℕ) (c : Context → Context) (i : ℕ) (n : Counts) (p : Re
       let n2 : disabling_named f x n.supervisors known (get_or states f.first 0) events ≡ kept = cc in
       let w2 : every_event x (bit (bit_and controllable (get_or alphabet f.first 0))) ≡ w = cc in
       reaches s 0x16 (j + bytes)
-      (reads_disabling s j g sized (stands_told s j 0x16 bytes e b1) ∙ ap (λ (y : ℕ). Whole (Disabling f.first f.second y) (j + bytes)) (sym x1)) (omega (arith, sized))
+      (reads_disabling s j g sized (stands_told s j 0x16 bytes e b1) ∙ ap (λ (y : ℕ). (Ok (Disabling f.first f.second y, j + bytes))) (sym x1)) (omega (arith, sized))
       (simp (sym o1 ∙ t.0, t.1, n2 ∙ m.1, w2 ∙ q.1)) refl refl (λ z. absurd (omega arith)) (v r)
 
   pub step_step : (known controllable : ℕ) (owner counts : List ℕ) {x u : ℕ} {t kept : Bool} → bytes ≡ size_by 0x17 → b ≡ stands_at s j 0x17 bytes → b ≡ true → x ≡ word_at s (j + 4) → f.first < 64
@@ -454,7 +454,7 @@ module _ (s : List ℕ) (c : Context → Context) (i : ℕ) (n : Counts) (p : Re
       let t2 = both ranged known1 t1.0 in
       let z = respond_told n ev f.first x (eqb f.third 5) t.1 in
       let d = reaches s 0x17 (j + bytes)
-      (reads_step s j g sized (stands_told s j 0x17 bytes e b1) ∙ ap (λ (y : ℕ). Whole (Step f.first f.second f.third y) (j + bytes)) (sym x1)) (omega (arith, sized))
+      (reads_step s j g sized (stands_told s j 0x17 bytes e b1) ∙ ap (λ (y : ℕ). (Ok (Step f.first f.second f.third y, j + bytes))) (sym x1)) (omega (arith, sized))
       (simp (sym o1 ∙ m.0, w2, t2.0, t2.1, t1.1, z.0, z.1)) refl refl (λ z. absurd (omega arith)) (v r)
       in
       let g2 : with_record (at_steps p n known controllable owner counts r) (Step f.first f.second f.third x)

@@ -2,7 +2,7 @@
 // same loops from any offset, with what the bytes of a check's state remember.
 #![tactic(auto)]
 
-ghost use Rattle.std.specs.Prelude.{◌≡◌, ◌+◌, ◌%◌, ◌<◌, ◌≤◌, length, replicate, ◌==◌, slice_index};
+ghost use Rattle.std.specs.Prelude.{◌≡◌, ◌+◌, ◌%◌, ◌<◌, ◌≤◌, length, replicate, ◌==◌, slice_index, Ok};
 ghost use Rattle.rules.specs.Check.{verdict_of, end_at};
 ghost use Rattle.places.specs.Places.{nowhere};
 ghost use Rattle.checker.specs.Examined.{examined_by, examined_of, ExaminedAs};
@@ -10,7 +10,6 @@ ghost use Rattle.checker.specs.InPlace.{past_in, past_bytes};
 ghost use Rattle.checker.specs.Stretch.{AfterRecord, OnwardIn};
 ghost use Rattle.words.specs.Word.{put_at, word_at};
 ghost use Rattle.reader.specs.Read.{read_at};
-ghost use Rattle.reader.specs.declared.Read.TheVariants.{Whole};
 ghost use Rattle.context_bytes.specs.Encoding.{key_bytes};
 ghost use Rattle.checker.specs.Stretch.{Reached, Passed, noted_past, context_by, events_by, modules_by, supervisors_by, headed};
 ghost use Rattle.checker.specs.Stretch.{at_events, at_modules, at_module_moves, at_supervisors, at_disablings, at_steps};
@@ -20,20 +19,12 @@ ghost use Rattle.record_tests.specs.Tests.{fields_at};
 
 use context::{Context, Counts, Events, Modules, Supervisors};
 use places::Places;
-use reader::Read;
 use record_tests::Fields;
 use records::{Record, RecordKey};
-use rules::Verdict;
+use refusal::Refusal;
 
 // The longest image, in bytes.
 pub const LIMIT: usize = 49152;
-
-// Accepted, with the places of the plan's records, or the number and the offset.
-#[derive(Clone, Copy)]
-pub enum Examined {
-    Accepted(Places),
-    Refused(u8, usize),
-}
 
 // Where a stretch of records ends: the last record's kind and key, and the next offset.
 #[derive(Clone, Copy)]
@@ -84,7 +75,7 @@ fn below(m: u64, n: u8) -> u64
     }
 }
 
-// The eight bytes at an index as a number, as the private function of words has it, which tests no byte, so that the compiler can read them as one word.
+// The eight bytes at an index as a number. All of them are there, and no test stands between them, so that the compiler can read them as one word.
 fn word_in(s: &[u8], o: usize) -> u64
     requires { o + 8 ≤ length s.now }
     ensures { result ≡ word_at s.now o }
@@ -465,41 +456,43 @@ fn markings(
 }
 
 // A faultless end record at an offset: nothing may follow it.
-fn end_at(image: &[u8], at: usize, p: Places) -> Examined
+fn end_at(image: &[u8], at: usize, p: Places) -> Result<Places, Refusal>
     requires { at < length image.now }
     ensures { result ≡ examined_by p (end_at (length image.now) at) }
 {
     let after = at + records::size_by(0x1f);
     if after == image.len() {
-        Examined::Accepted(p)
+        Ok(p)
     } else {
-        Examined::Refused(4, after)
+        Err(Refusal {
+            number: 4,
+            offset: after,
+        })
     }
 }
 
 // Judges the records one by one, from an offset on.
-fn judged(image: &[u8], from: usize, before: Context, found: Places) -> Examined
+fn judged(image: &[u8], from: usize, before: Context, found: Places) -> Result<Places, Refusal>
     requires { Reached image.now before from found }
     ensures { result ≡ examined_of image.now }
 {
     let mut c = before;
     let mut p = found;
     let mut i = from;
+    // No `while let`: what is no record is answered with its number.
     loop {
         match reader::read_at(image, i) {
-            Read::Nothing => {
-                return Examined::Refused(3, i);
+            Err(why) => {
+                let number = reader::number_of(why);
+                return Err(Refusal { number, offset: i });
             }
-            Read::Cut => {
-                return Examined::Refused(3, i);
-            }
-            Read::Unknown => {
-                return Examined::Refused(2, i);
-            }
-            Read::Whole(r, next) => {
+            Ok((r, next)) => {
                 let n = judge::judge(c, r);
                 if n != 0 {
-                    return Examined::Refused(n, i);
+                    return Err(Refusal {
+                        number: n,
+                        offset: i,
+                    });
                 }
                 let k = records::kind_of(r);
                 let last = c.last;
@@ -537,7 +530,7 @@ fn after_modules(
     owner: &[u8; 64],
     modules: u64,
     sizes: &[u8; 16],
-) -> Examined
+) -> Result<Places, Refusal>
     requires { Reached image.now (context_by before n (events_by known controllable owner.now (replicate 64 0)) (modules_by modules sizes.now) (supervisors_by 0 (replicate 32 0) (replicate 32 0))) from found }
     ensures { result ≡ examined_of image.now }
 {
@@ -607,7 +600,7 @@ fn after_modules(
 }
 
 // After the head: the records from the events on.
-fn after_head(image: &[u8], from: usize, n: Counts) -> Examined
+fn after_head(image: &[u8], from: usize, n: Counts) -> Result<Places, Refusal>
     requires { Reached image.now (headed n) from nowhere }
     ensures { result ≡ examined_of image.now }
 {
@@ -643,11 +636,14 @@ fn after_head(image: &[u8], from: usize, n: Counts) -> Examined
 }
 
 // Accepted, with the places of the records, or the number and the offset.
-pub fn examine(image: &[u8]) -> Examined
+pub fn examine(image: &[u8]) -> Result<Places, Refusal>
     ensures { ExaminedAs image.now result }
 {
     if LIMIT < image.len() {
-        return Examined::Refused(1, 0);
+        return Err(Refusal {
+            number: 1,
+            offset: 0,
+        });
     }
     let size = records::size_by(0x10);
     if record_tests::stands(image, 0, 0x10, size) {
@@ -670,13 +666,11 @@ pub fn examine(image: &[u8]) -> Examined
 }
 
 // Accepted, or the number and the offset.
-pub fn check(image: &[u8]) -> Verdict
+pub fn check(image: &[u8]) -> Result<(), Refusal>
     ensures { result ≡ verdict_of image.now }
 {
-    match examine(image) {
-        Examined::Accepted(_) => Verdict::Accepted,
-        Examined::Refused(n, o) => Verdict::Refused(n, o),
-    }
+    examine(image)?;
+    Ok(())
 }
 
 // ---- how far the check goes without an answer, from any offset, in the bytes of a state
@@ -935,16 +929,14 @@ fn past_after(image: &[u8], from: usize, state: &mut [u8]) -> usize
     let m = past_early(image, from, &mut *state);
     let i = past_late(image, m, &mut *state);
     match reader::read_at(image, i) {
-        Read::Nothing => i,
-        Read::Cut => i,
-        Read::Unknown => i,
-        Read::Whole(_, _) => past_by_value(image, i, state),
+        Err(_) => i,
+        Ok(_) => past_by_value(image, i, state),
     }
 }
 
 // Before any record: past the whole one at an offset by value, and on.
 fn past_record(image: &[u8], from: usize, r: Record, next: usize, state: &mut [u8]) -> usize
-    requires { (length state.old ≡ 495) × (Whole r next ≡ read_at image.now from) }
+    requires { (length state.old ≡ 495) × (Ok (r, next) ≡ read_at image.now from) }
     ensures { (state.new ≡ past_bytes image.now from state.old) × (result ≡ (past_in image.now from state.old).next) }
 {
     let c = context_bytes::context_at(&state[..]);
@@ -964,10 +956,8 @@ fn past_first(image: &[u8], from: usize, state: &mut [u8]) -> usize
     ensures { (state.new ≡ past_bytes image.now from state.old) × (result ≡ (past_in image.now from state.old).next) }
 {
     match reader::read_at(image, from) {
-        Read::Nothing => past_by_value(image, from, state),
-        Read::Cut => past_by_value(image, from, state),
-        Read::Unknown => past_by_value(image, from, state),
-        Read::Whole(r, next) => past_record(image, from, r, next, state),
+        Err(_) => past_by_value(image, from, state),
+        Ok((r, next)) => past_record(image, from, r, next, state),
     }
 }
 

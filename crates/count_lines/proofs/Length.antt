@@ -1,4 +1,5 @@
 -- How long the lines are: at most 21 bytes each, and as the code finds it.
+use Rattle.std.specs.Prelude.{Option, Some, None}
 use Prim.Native.Nat.{ℕ, suc, ◌+◌, ◌-◌, ◌*◌, ◌/◌, ◌%◌, ◌≤◌, ◌<◌, zero-le}
 use mathlib.Core.Path.{◌≡◌, sym, ap, ◌∙◌}
 use mathlib.Core.List.{List, [], ◌∷◌, ◌++◌}
@@ -16,9 +17,6 @@ use Rattle.texts.specs.Ascii.{digits, decimal}
 use Rattle.texts.proofs.Texts.{decimal_small, decimal_longer, digits_most}
 use Rattle.count_lines.specs.Lines.{number_line, number_lines, lines_with_sum, by_numbers, Prints, short, printed}
 use Rattle.count_lines.specs.Post.{Measures, too_long, fitting}
-use Rattle.count_lines.specs.declared.Lines.TheVariants.{Printed, Short}
-use Rattle.count_lines.specs.declared.Measured.{Measured}
-use Rattle.count_lines.specs.declared.Measured.TheVariants.{Is, TooLong}
 
 -- ---- at most
 
@@ -102,7 +100,7 @@ module _ (counts numbers : List ℕ) (sum room : ℕ) where
     pub balance : room + length (number_lines (drop j l)) ≡ left + length (lines_with_sum l sum)
 
   module _ {last : ℕ} (e : last ≡ length (number_line sum)) where
-    pub left_none : room < last → Measures (lines_with_sum l sum) room TooLong
+    pub left_none : room < last → Measures (lines_with_sum l sum) room None
     left_none h = let t = text_is l sum in too_long (omega arith)
 
     pub left_first : last ≤ room → Left (room - last) 0
@@ -118,13 +116,13 @@ module _ (counts numbers : List ℕ) (sum room : ℕ) where
           ∙ lines_is x (drop (suc j) l)
           ∙ ap (λ (y : ℕ). y + length (number_lines (drop (suc j) l))) (sym f) ∙ ap (λ (y : ℕ). n + length (number_lines (drop y l))) i
 
-      pub left_over : left < n → Measures (lines_with_sum l sum) room TooLong
+      pub left_over : left < n → Measures (lines_with_sum l sum) room None
       left_over g = let b = L.balance in let z = here in too_long (omega arith)
 
       pub left_on : n ≤ left → Left (left - n) (j + 1)
       left_on g = let b = L.balance in let z = here in let m = L.less in record { less = omega arith; within = omega arith; balance = omega arith }
 
-    pub left_done : length numbers ≤ j → Measures (lines_with_sum l sum) room (Is (room - left))
+    pub left_done : length numbers ≤ j → Measures (lines_with_sum l sum) room (Some (room - left))
     unfolding number_lines
     left_done h =
         let b = L.balance in
@@ -135,12 +133,12 @@ module _ (counts numbers : List ℕ) (sum room : ℕ) where
 
 -- ---- the answer by what was measured
 
-module _ (text b : List ℕ) {x : Measured} (M : Measures text (length b) x) where
-  module _ {n : ℕ} (e : x ≡ Is n) where
+module _ (text b : List ℕ) {x : Option ℕ} (M : Measures text (length b) x) where
+  module _ {n : ℕ} (e : x ≡ Some n) where
     measured : (n ≡ length text) × (length text ≤ length b)
     measured = go M e
       where
-        go : {y : Measured} → Measures text (length b) y → y ≡ Is n → (n ≡ length text) × (length text ≤ length b)
+        go : {y : Option ℕ} → Measures text (length b) y → y ≡ Some n → (n ≡ length text) × (length text ≤ length b)
         go (too_long h) e = let z : ◌≡◌ {A = ℕ} 0 1 = cc in absurd (omega arith)
         go (fitting {n = m} h f) e = let z : m ≡ n = cc in (omega arith, h)
 
@@ -150,12 +148,12 @@ module _ (text b : List ℕ) {x : Measured} (M : Measures text (length b) x) whe
     pub measured_room : n ≤ length b
     measured_room = let z = measured.0 in let y = measured.1 in omega arith
 
-    pub printed_by : {b' : List ℕ} → b' ≡ written text b → Prints text b (Printed n) b'
+    pub printed_by : {b' : List ℕ} → b' ≡ written text b → Prints text b (Some n) b'
     printed_by w = printed measured.1 measured.0 w
 
-  pub short_by : x ≡ TooLong → Prints text b Short b
+  pub short_by : x ≡ None → Prints text b None b
   short_by e = go M e
     where
-      go : {y : Measured} → Measures text (length b) y → y ≡ TooLong → Prints text b Short b
+      go : {y : Option ℕ} → Measures text (length b) y → y ≡ None → Prints text b None b
       go (too_long h) e = short h
       go (fitting h f) e = let z : ◌≡◌ {A = ℕ} 0 1 = cc in absurd (omega arith)

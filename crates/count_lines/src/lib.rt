@@ -7,20 +7,6 @@ ghost use Rattle.words.specs.Word.{written};
 ghost use Rattle.count_lines.specs.Lines.{number_line, lines_with_sum, by_numbers, Prints};
 ghost use Rattle.count_lines.specs.Post.{Measures, Puts};
 
-// The bytes written, or that the buffer is shorter than the lines.
-#[derive(Clone, Copy)]
-pub enum Lines {
-    Printed(usize),
-    Short,
-}
-
-// The length of a text, or that it is longer than the room.
-#[derive(Clone, Copy)]
-enum Measured {
-    Is(usize),
-    TooLong,
-}
-
 // The count that the number at an index says; one that is missing is 0.
 fn count_at(counts: &[u64], numbers: &[u16], j: usize) -> u64
     requires { j < length numbers.now }
@@ -44,22 +30,22 @@ fn line_length(x: u64) -> usize
 }
 
 // How many bytes the text has, if there is room for them: each line is taken off the room, so that nothing overflows.
-fn measure(counts: &[u64], numbers: &[u16], sum: u64, room: usize) -> Measured
+fn measure(counts: &[u64], numbers: &[u16], sum: u64, room: usize) -> Option<usize>
     ensures { Measures (lines_with_sum (by_numbers counts.now numbers.now) sum) room result }
 {
     let last = line_length(sum);
     if room < last {
-        return Measured::TooLong;
+        return None;
     }
     let mut left = room - last;
     for j in 0..numbers.len() {
         let n = line_length(count_at(counts, numbers, j));
         if left < n {
-            return Measured::TooLong;
+            return None;
         }
         left -= n;
     }
-    Measured::Is(room - left)
+    Some(room - left)
 }
 
 // Writes a number's line so that it ends at an index. Where it begins.
@@ -91,15 +77,15 @@ fn put_text(counts: &[u64], numbers: &[u16], sum: u64, n: usize, buffer: &mut [u
     }
 }
 
-// The counts in the order that the numbers say, then the sum, one number a line.
-pub fn print(counts: &[u64], numbers: &[u16], sum: u64, buffer: &mut [u8]) -> Lines
+// The counts in the order that the numbers say, then the sum, one number a line: the bytes written, or None if the buffer is shorter than the lines.
+pub fn print(counts: &[u64], numbers: &[u16], sum: u64, buffer: &mut [u8]) -> Option<usize>
     ensures { Prints (lines_with_sum (by_numbers counts.now numbers.now) sum) buffer.old result buffer.new }
 {
     match measure(counts, numbers, sum, buffer.len()) {
-        Measured::Is(n) => {
+        Some(n) => {
             put_text(counts, numbers, sum, n, buffer);
-            Lines::Printed(n)
+            Some(n)
         }
-        Measured::TooLong => Lines::Short,
+        None => None,
     }
 }

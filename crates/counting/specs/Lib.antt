@@ -1,4 +1,3 @@
 pub mod Counting
-pub mod Numbers
 pub mod Laws
 pub mod Post

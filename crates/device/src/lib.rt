@@ -9,30 +9,23 @@ ghost use Rattle.modules.specs.Turn.{turn_of};
 ghost use Rattle.device_states.specs.States.{own_at, state_of, shown_by};
 ghost use Rattle.device.specs.Device.{turned, after_turn, device_number, turn_in, turn_call, call_refused, reply_in, respond_call, tick_call, start_call};
 
-use checker::Examined;
 use device_states::Device;
-use modules::{Called, Own, Replied, Turn, Turned};
+use modules::{Own, Replied, Turned};
 use places::Places;
+use refusal::Refusal;
 use water::Flow;
 
-// What a turn got.
-#[derive(Clone, Copy)]
-pub enum Turning {
-    Done(Turn),
-    Refused(u8, usize),
-}
-
-// A turn's answer and the state after it.
+// A turn's answer, the event that fired or none, or the number and the offset; and the state after it.
 #[derive(Clone, Copy)]
 pub struct DeviceTurned {
-    pub answer: Turning,
+    pub answer: Result<Option<u8>, Refusal>,
     pub device: Device,
 }
 
 // The answer of a start, a response or a tick, and the state after it.
 #[derive(Clone, Copy)]
 pub struct DeviceCalled {
-    pub answer: Called,
+    pub answer: Result<(), Refusal>,
     pub device: Device,
 }
 
@@ -43,7 +36,7 @@ fn after_turn(image: &[u8], places: Places, d: Device, m: u8, t: Turned) -> Devi
     let mut next = device_states::with_own(d, m, own);
     let states = d.supervisors;
     let did = t.turn;
-    let Turn::Event(e) = did else {
+    let Some(e) = did else {
         return next;
     };
     let moved = device_states::states_after(image, places, states, e);
@@ -93,12 +86,15 @@ fn turn_in(image: &[u8], places: Places, d: Device, m: u8) -> DeviceTurned
         let next = after_turn(image, places, d, m, t);
         let did = t.turn;
         DeviceTurned {
-            answer: Turning::Done(did),
+            answer: Ok(did),
             device: next,
         }
     } else {
         DeviceTurned {
-            answer: Turning::Refused(n, 0),
+            answer: Err(Refusal {
+                number: n,
+                offset: 0,
+            }),
             device: d,
         }
     }
@@ -109,20 +105,20 @@ pub fn turn(image: &[u8], d: Device, m: u8) -> DeviceTurned
     ensures { result ≡ turn_call image.now d m }
 {
     match checker::examine(image) {
-        Examined::Accepted(places) => turn_in(image, places, d, m),
-        Examined::Refused(n, o) => DeviceTurned {
-            answer: Turning::Refused(n, o),
+        Ok(places) => turn_in(image, places, d, m),
+        Err(e) => DeviceTurned {
+            answer: Err(e),
             device: d,
         },
     }
 }
 
 // The call refused, with the state as it came.
-fn refused(d: Device, n: u8, o: usize) -> DeviceCalled
-    ensures { result ≡ call_refused d n o }
+fn refused(d: Device, e: Refusal) -> DeviceCalled
+    ensures { result ≡ call_refused d e }
 {
     DeviceCalled {
-        answer: Called::Refused(n, o),
+        answer: Err(e),
         device: d,
     }
 }
@@ -148,7 +144,13 @@ fn respond_in(image: &[u8], places: Places, d: Device, m: u8, e: u8) -> DeviceCa
         let r = modules::respond(image, places, m, e, own);
         replied(d, m, r)
     } else {
-        refused(d, n, 0)
+        refused(
+            d,
+            Refusal {
+                number: n,
+                offset: 0,
+            },
+        )
     }
 }
 
@@ -157,8 +159,8 @@ pub fn respond(image: &[u8], d: Device, m: u8, e: u8) -> DeviceCalled
     ensures { result ≡ respond_call image.now d m e }
 {
     match checker::examine(image) {
-        Examined::Accepted(places) => respond_in(image, places, d, m, e),
-        Examined::Refused(n, o) => refused(d, n, o),
+        Ok(places) => respond_in(image, places, d, m, e),
+        Err(e) => refused(d, e),
     }
 }
 
@@ -171,7 +173,13 @@ fn tick_in(image: &[u8], places: Places, d: Device, m: u8, f: Flow) -> DeviceCal
         let r = modules::tick(image, places, f, own);
         replied(d, m, r)
     } else {
-        refused(d, n, 0)
+        refused(
+            d,
+            Refusal {
+                number: n,
+                offset: 0,
+            },
+        )
     }
 }
 
@@ -180,8 +188,8 @@ pub fn tick(image: &[u8], d: Device, m: u8, f: Flow) -> DeviceCalled
     ensures { result ≡ tick_call image.now d m f }
 {
     match checker::examine(image) {
-        Examined::Accepted(places) => tick_in(image, places, d, m, f),
-        Examined::Refused(n, o) => refused(d, n, o),
+        Ok(places) => tick_in(image, places, d, m, f),
+        Err(e) => refused(d, e),
     }
 }
 
@@ -190,10 +198,10 @@ pub fn start(image: &[u8]) -> DeviceCalled
     ensures { result ≡ start_call image.now }
 {
     match checker::examine(image) {
-        Examined::Accepted(places) => DeviceCalled {
-            answer: Called::Done,
+        Ok(places) => DeviceCalled {
+            answer: Ok(()),
             device: device_states::started(image, places),
         },
-        Examined::Refused(n, o) => refused(device_states::empty(), n, o),
+        Err(e) => refused(device_states::empty(), e),
     }
 }

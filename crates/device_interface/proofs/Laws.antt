@@ -1,4 +1,7 @@
 -- The calls over lent bytes, from what the code is told.
+use Rattle.std.specs.Prelude.{Some, None, Result, Ok, Err, ⊤}
+use Rattle.refusal.specs.Refusal.{refused_number}
+use Rattle.refusal.specs.declared.Refusal.{Refusal}
 use mathlib.Core.Path.{◌≡◌, refl, sym, ap, ap₂, ◌∙◌, subst}
 use mathlib.Core.List.{List, []}
 use mathlib.Core.Bool.{Bool, true, false, cond}
@@ -16,23 +19,17 @@ use Rattle.rules.specs.Check.{verdict_of}
 use Rattle.places.specs.declared.Places.{Places}
 use Rattle.places.specs.Places.{records_by}
 use Rattle.checker.specs.Examined.{examined_of}
-use Rattle.checker.specs.declared.Examined.{Examined}
-use Rattle.checker.specs.declared.Examined.TheVariants.{Accepted, Refused}
 use Rattle.checker.proofs.Examining.{refused_is}
 use Rattle.refusals.specs.Table.{check}
 use Rattle.refusals.proofs.Table.{is_refusal}
 use Rattle.refusals.proofs.Checked.{checked}
 use Rattle.messages.specs.Message.{put_at, written}
 use Rattle.water.specs.declared.Flow.{Flow}
-use Rattle.modules.specs.Numbers.{called_number}
 use Rattle.modules.specs.Procedure.{called_by, respond_of, tick_of}
 use Rattle.modules.specs.Turn.{turn_of}
 use Rattle.modules.specs.declared.Own.{Own}
-use Rattle.modules.specs.declared.Turn.TheVariants.{Event, Nothing}
 use Rattle.modules.specs.declared.Turned.{Turned}
 use Rattle.modules.specs.declared.Replied.{Replied}
-use Rattle.modules.specs.declared.Called.{Called}
-use Rattle.modules.specs.declared.Called.TheVariants.{Done, Refused as CallRefused}
 use Rattle.device.specs.Device.{turned, after_turn, device_number, turn_in, reply_in, reply_by, start_call, tick_call}
 use Rattle.device.proofs.Calls.{turn_taken_lem, reply_taken, turn_accepted, respond_accepted, tick_accepted, reply_refused, turn_numbered as turns-numbered, reply_numbered as replies-numbered, turn_refused_lem as turns-refused, after_event as turn-event, after_none as turn-none}
 use Rattle.device_states.specs.declared.Device.{Device}
@@ -40,7 +37,6 @@ use Rattle.device_states.specs.States.{own_at, state_of, device_fits, shown_by, 
 use Rattle.words.proofs.Lists.{from_length}
 use Rattle.device.specs.declared.DeviceCalled.{DeviceCalled}
 use Rattle.device.specs.declared.DeviceTurned.{DeviceTurned}
-use Rattle.device.specs.declared.Turning.TheVariants.{Done as TurnDone}
 use Rattle.device_bytes.specs.Device as bytes
 use Rattle.device_bytes.specs.Device.{slots_size, device_size, device_bytes, device_put, is_device, device_at, device_of, states_in, own_in, slot_put}
 use Rattle.device_bytes.proofs.InPlace.{device_moved, device_kept, fits_stands, states_taken, own_taken}
@@ -94,26 +90,26 @@ stands_at s d = simp d
 
 module _ (s : List ℕ) (m : ℕ) (g : Bytes s) (d : is_device s ≡ true) where
   module _ (rs : List Record) (t : Turned) (q : length t.own.queue ≡ 8) {s1 : List ℕ} (w : s1 ≡ slot_put t.own m s) where
-    pub after_event : {s2 l states : List ℕ} {e : ℕ} → t.turn ≡ Event e → states ≡ (device_at s).supervisors → l ≡ states_after rs states (Event e) → s2 ≡ put_at l slots_size s1 → s2 ≡ device_put (after_turn rs (device_at s) m t) s
+    pub after_event : {s2 l states : List ℕ} {e : ℕ} → t.turn ≡ Some e → states ≡ (device_at s).supervisors → l ≡ states_after rs states (Some e) → s2 ≡ put_at l slots_size s1 → s2 ≡ device_put (after_turn rs (device_at s) m t) s
     after_event {l = l} {states} {e} x v h k =
-        let is : l ≡ states_after rs (device_at s).supervisors (Event e) = h ∙ ap (λ (y : List ℕ). states_after rs y (Event e)) v in
-        let n : length l ≡ 32 = ap length is ∙ from_length (λ u. state_after_turn rs u (state_of (device_at s).supervisors u) (Event e)) 0 32 in
+        let is : l ≡ states_after rs (device_at s).supervisors (Some e) = h ∙ ap (λ (y : List ℕ). states_after rs y (Some e)) v in
+        let n : length l ≡ 32 = ap length is ∙ from_length (λ u. state_after_turn rs u (state_of (device_at s).supervisors u) (Some e)) 0 32 in
         k ∙ ap (put_at l slots_size) w ∙ sym (device_moved s g d m t.own q l n)
         ∙ ap (λ (y : Device). device_put y s) (turn-event rs (device_at s) m t refl x is)
 
-    pub after_none : t.turn ≡ Nothing → s1 ≡ device_put (after_turn rs (device_at s) m t) s
+    pub after_none : t.turn ≡ None → s1 ≡ device_put (after_turn rs (device_at s) m t) s
     after_none o = w ∙ sym (device_kept s g d m t.own q) ∙ ap (λ (y : Device). device_put y s) (turn-none rs (device_at s) m t refl o (from_length (bytes.state_byte s) 0 32))
 
-  module _ (x : Replied) {a : Called} (e : a ≡ called_by x.reply) {t : Bool} (z : t ≡ eqb (called_number a) 0) {r : ℕ} (v : r ≡ called_answer a) where
-    same : t ≡ eqb (called_number (called_by x.reply)) 0
-    same = z ∙ ap (λ (c : Called). eqb (called_number c) 0) e
+  module _ (x : Replied) {a : Result ⊤ Refusal} (e : a ≡ called_by x.reply) {t : Bool} (z : t ≡ eqb (refused_number a) 0) {r : ℕ} (v : r ≡ called_answer a) where
+    same : t ≡ eqb (refused_number (called_by x.reply)) 0
+    same = z ∙ ap (λ (c : Result ⊤ Refusal). eqb (refused_number c) 0) e
 
     pub keep_yes : {s1 : List ℕ} → length x.own.queue ≡ 8 → t ≡ true → s1 ≡ slot_put x.own m s → Answered (called_on (reply_in (device_at s) m 0 x) s) r s1 []
     unfolding reply_in
     keep_yes q h w =
         record {
           answer = v ∙ ap called_answer e;
-          state = w ∙ sym (device_kept s g d m x.own q) ∙ after_yes (called_number (called_by x.reply)) (device_put (with_own (device_at s) m x.own) s) s same h;
+          state = w ∙ sym (device_kept s g d m x.own q) ∙ after_yes (refused_number (called_by x.reply)) (device_put (with_own (device_at s) m x.own) s) s same h;
           buffer = refl;
         }
 
@@ -122,7 +118,7 @@ module _ (s : List ℕ) (m : ℕ) (g : Bytes s) (d : is_device s ≡ true) where
     keep_no h =
         record {
           answer = v ∙ ap called_answer e;
-          state = after_no (called_number (called_by x.reply)) (device_put (with_own (device_at s) m x.own) s) s same h;
+          state = after_no (refused_number (called_by x.reply)) (device_put (with_own (device_at s) m x.own) s) s same h;
           buffer = refl;
         }
 
@@ -139,7 +135,7 @@ module _ (rs : List Record) (s : List ℕ) (m : ℕ) {n : ℕ} (e : n ≡ device
   states_read = states_taken s stands
 
   pub turn_done : {states s1 : List ℕ} {own : Own} {t : Turned} {r : ℕ} → states ≡ states_in s → own ≡ own_in s m
-      → t ≡ turn_of rs m (shown_by rs (state_of states) (supervisors_of rs)) own → s1 ≡ device_put (after_turn rs (device_at s) m t) s → r ≡ turning_answer (TurnDone t.turn)
+      → t ≡ turn_of rs m (shown_by rs (state_of states) (supervisors_of rs)) own → s1 ≡ device_put (after_turn rs (device_at s) m t) s → r ≡ turning_answer (Ok t.turn)
       → Answered (turned_on (turn_in rs (device_of s) m (device_number rs (device_of s) m)) s) r s1 []
   turn_done {states} {s1} {own} {t} {r} u v w k a =
       let is : t ≡ turned rs (device_of s) m =
@@ -159,40 +155,40 @@ module _ (rs : List Record) (s : List ℕ) (m : ℕ) {n : ℕ} (e : n ≡ device
 
 -- ---- the image as it was examined
 
-module _ (image s : List ℕ) (m : ℕ) {v : Examined} (e : v ≡ examined_of image) where
+module _ (image s : List ℕ) (m : ℕ) {v : Result Places Refusal} (e : v ≡ examined_of image) where
   abbrev By : Places → ℕ
   By p = device_number (records_by image p) (device_of s) m
 
-  pub turn_by_lem : {p : Places} {s1 : List ℕ} {r : ℕ} → v ≡ Accepted p → Answered (turned_on (turn_in (records_by image p) (device_of s) m (By p)) s) r s1 [] → Answered (turn_bytes image s m) r s1 []
+  pub turn_by_lem : {p : Places} {s1 : List ℕ} {r : ℕ} → v ≡ Ok p → Answered (turned_on (turn_in (records_by image p) (device_of s) m (By p)) s) r s1 [] → Answered (turn_bytes image s m) r s1 []
   unfolding turn_bytes
   turn_by_lem {p} {s1} {r} q a = subst (λ (c : DeviceTurned). Answered (turned_on c s) r s1 []) (turn_accepted image e (device_of s) m q refl) a
 
-  pub respond_by : (k : ℕ) {p : Places} {s1 : List ℕ} {r : ℕ} → v ≡ Accepted p
+  pub respond_by : (k : ℕ) {p : Places} {s1 : List ℕ} {r : ℕ} → v ≡ Ok p
       → Answered (called_on (reply_in (device_of s) m (By p) (respond_of (records_by image p) m k (own_at (device_of s) m))) s) r s1 [] → Answered (respond_bytes image s m k) r s1 []
   unfolding respond_bytes
   respond_by k {p} {s1} {r} q a = subst (λ (c : DeviceCalled). Answered (called_on c s) r s1 []) (respond_accepted image e (device_of s) m k q refl) a
 
-  pub tick_by : (sensor : ℕ) (litres : Float) {f : Flow} {p : Places} {s1 : List ℕ} {r : ℕ} → f ≡ flow_of sensor litres → v ≡ Accepted p
+  pub tick_by : (sensor : ℕ) (litres : Float) {f : Flow} {p : Places} {s1 : List ℕ} {r : ℕ} → f ≡ flow_of sensor litres → v ≡ Ok p
       → Answered (called_on (reply_in (device_of s) m (By p) (tick_of (records_by image p) f (own_at (device_of s) m))) s) r s1 [] → Answered (tick_bytes image s m sensor litres) r s1 []
   unfolding tick_bytes
   tick_by sensor litres {f} {p} {s1} {r} w q a =
       subst (λ (c : DeviceCalled). Answered (called_on c s) r s1 []) (tick_accepted image e (device_of s) m f q refl ∙ ap (tick_call image (device_of s) m) w) a
 
   -- a refused image, whose number is not 0
-  refused_not : {n o : ℕ} → v ≡ Refused n o → eqb n 0 ≡ false
-  refused_not {n} {o} q = ne_eqb n 0 (is_refusal check n ((checked image).numbered n o (refused_is image e q)))
+  refused_not : {x : Refusal} → v ≡ Err x → eqb x.number 0 ≡ false
+  refused_not {x} q = ne_eqb x.number 0 (is_refusal check x.number ((checked image).numbered x (refused_is image e q)))
 
-  module _ {n o r : ℕ} (q : v ≡ Refused n o) (w : r ≡ packed n 0 0 o) where
+  module _ {x : Refusal} {r : ℕ} (q : v ≡ Err x) (w : r ≡ packed x.number 0 0 x.offset) where
     pub turn_refused_lem : Answered (turn_bytes image s m) r s []
     unfolding turn_bytes
     turn_refused_lem =
-        subst (λ (c : DeviceTurned). Answered (turned_on c s) r s []) (turns-refused image e (device_of s) m n o q)
-        (record { answer = w ∙ (unfold turning_answer in refl); state = after_no n (device_put (device_of s) s) s refl (refused_not q); buffer = refl })
+        subst (λ (c : DeviceTurned). Answered (turned_on c s) r s []) (turns-refused image e (device_of s) m q)
+        (record { answer = w ∙ (unfold turning_answer in refl); state = after_no x.number (device_put (device_of s) s) s refl (refused_not q); buffer = refl })
 
-    replied_refused : (x : Replied) → Answered (called_on (reply_by (verdict_of image) (records_of image) (device_of s) m x) s) r s []
-    replied_refused x =
-        subst (λ (c : DeviceCalled). Answered (called_on c s) r s []) (reply_refused image e (device_of s) m n o x q refl)
-        (record { answer = w ∙ (unfold called_answer in refl); state = after_no n (device_put (device_of s) s) s refl (refused_not q); buffer = refl })
+    replied_refused : (y : Replied) → Answered (called_on (reply_by (verdict_of image) (records_of image) (device_of s) m y) s) r s []
+    replied_refused y =
+        subst (λ (c : DeviceCalled). Answered (called_on c s) r s []) (reply_refused image e (device_of s) m y q refl)
+        (record { answer = w ∙ (unfold called_answer in refl); state = after_no x.number (device_put (device_of s) s) s refl (refused_not q); buffer = refl })
 
     pub respond_refused : (k : ℕ) → Answered (respond_bytes image s m k) r s []
     unfolding respond_bytes
@@ -205,18 +201,18 @@ module _ (image s : List ℕ) (m : ℕ) {v : Examined} (e : v ≡ examined_of im
 -- ---- a start
 
 module _ (c : DeviceCalled) (b : List ℕ) {r : ℕ} where
-  pub give_short : c.answer ≡ Done → length b < device_size → r ≡ packed 15 0 0 0 → Answered (start_answer device_size c.answer (device_bytes c.device) b) r [] b
+  pub give_short : c.answer ≡ Ok tt → length b < device_size → r ≡ packed 15 0 0 0 → Answered (start_answer device_size c.answer (device_bytes c.device) b) r [] b
   unfolding start_answer
   give_short e h w = rw e (simp (lt-ltb (length b) device_size h) (record { answer = w; state = refl; buffer = refl }))
 
-  pub give_done : {after : List ℕ} → c.answer ≡ Done → device_size ≤ length b → after ≡ device_put c.device b → r ≡ packed 0 0 0 device_size
+  pub give_done : {after : List ℕ} → c.answer ≡ Ok tt → device_size ≤ length b → after ≡ device_put c.device b → r ≡ packed 0 0 0 device_size
       → Answered (start_answer device_size c.answer (device_bytes c.device) b) r [] after
   unfolding start_answer device_put
   give_done e h w z =
       let put : device_put c.device b ≡ written (device_bytes c.device) b = ap (λ (y : Bool). cond y (written (device_bytes c.device) b) b) (le-leb device_size (length b) h) in
       rw e (simp (le-ltb (length b) device_size h) (record { answer = z; state = refl; buffer = w ∙ put }))
 
-  pub give_refused : {n o : ℕ} → c.answer ≡ CallRefused n o → r ≡ packed n 0 0 o → Answered (start_answer device_size c.answer (device_bytes c.device) b) r [] b
+  pub give_refused : {e : Refusal} → c.answer ≡ Err e → r ≡ packed e.number 0 0 e.offset → Answered (start_answer device_size c.answer (device_bytes c.device) b) r [] b
   unfolding start_answer
   give_refused e w = rw e (record { answer = w; state = refl; buffer = refl })
 

@@ -1,7 +1,6 @@
 -- The calls of the one-device controller over lent bytes. Each is the call of crate device on the device that the state's bytes are.
+use Rattle.refusal.specs.Refusal.{refused_number}
 use Rattle.std.specs.Prelude.{ℕ, List, [], Float}
-use Rattle.modules.specs.Numbers.{called_number}
-use Rattle.device.specs.Numbers.{turning_number}
 use Rattle.device.specs.Device.{start_call, turn_call, respond_call, tick_call}
 use Rattle.device_states.specs.declared.Device.{Device}
 use Rattle.device.specs.declared.DeviceCalled.{DeviceCalled}
@@ -15,10 +14,10 @@ abbrev pub device_bytes_after : ℕ → Device → List ℕ → List ℕ
 device_bytes_after n d s = lent_after n (device_put d s) s
 
 abbrev pub called_on : DeviceCalled → List ℕ → Answer
-called_on c s = record { number = called_answer c.answer; state = device_bytes_after (called_number c.answer) c.device s; buffer = [] }
+called_on c s = record { number = called_answer c.answer; state = device_bytes_after (refused_number c.answer) c.device s; buffer = [] }
 
 abbrev pub turned_on : DeviceTurned → List ℕ → Answer
-turned_on c s = record { number = turning_answer c.answer; state = device_bytes_after (turning_number c.answer) c.device s; buffer = [] }
+turned_on c s = record { number = turning_answer c.answer; state = device_bytes_after (refused_number c.answer) c.device s; buffer = [] }
 
 unfoldable pub start_bytes : List ℕ → List ℕ → Answer
 start_bytes image b = start_answer device_size (start_call image).answer (device_bytes (start_call image).device) b

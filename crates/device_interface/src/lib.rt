@@ -11,9 +11,8 @@ ghost use Rattle.device_bytes.specs.Device.{device_size, device_bytes, device_pu
 ghost use Rattle.packing.specs.Answer.{Answered, start_answer};
 ghost use Rattle.device_interface.specs.Calls.{called_on, turned_on, start_bytes, turn_bytes, respond_bytes, tick_bytes};
 
-use checker::Examined;
-use device::{DeviceCalled, Turning};
-use modules::{Called, Replied, Turn, Turned};
+use device::DeviceCalled;
+use modules::{Replied, Turned};
 use places::Places;
 use water::Flow;
 
@@ -40,7 +39,7 @@ fn keep_turn(image: &[u8], places: Places, state: &mut [u8], m: u8, states: [u8;
     ensures { state.new ≡ device_put (after_turn (records_by image.now places) (device_at state.old) m t) state.old }
 {
     let did = t.turn;
-    let Turn::Event(e) = did else {
+    let Some(e) = did else {
         let own = t.own;
         device_bytes::put_own(&mut *state, m, own);
         return;
@@ -64,15 +63,15 @@ fn turn_in(image: &[u8], places: Places, state: &mut [u8], m: u8) -> u64
     let t = device::turn_by(image, places, states, m, own);
     let did = t.turn;
     keep_turn(image, places, &mut *state, m, states, t);
-    packing::turning(Turning::Done(did))
+    packing::turning(Ok(did))
 }
 
 pub fn turn(image: &[u8], state: &mut [u8], m: u8) -> u64
     ensures { Answered (turn_bytes image.now state.old m) result state.new [] }
 {
     match checker::examine(image) {
-        Examined::Accepted(places) => turn_in(image, places, &mut *state, m),
-        Examined::Refused(n, o) => packing::pack(n, 0, 0, o),
+        Ok(places) => turn_in(image, places, &mut *state, m),
+        Err(e) => packing::pack(e.number, 0, 0, e.offset),
     }
 }
 
@@ -86,7 +85,7 @@ fn keep(state: &mut [u8], m: u8, r: Replied) -> u64
     let own = r.own;
     let reply = r.reply;
     let answer = modules::answer(reply);
-    if packing::is_done(answer) {
+    if packing::is_accepted(answer) {
         device_bytes::put_own(&mut *state, m, own);
         return packing::called(answer);
     }
@@ -109,8 +108,8 @@ pub fn respond(image: &[u8], state: &mut [u8], m: u8, e: u8) -> u64
     ensures { Answered (respond_bytes image.now state.old m e) result state.new [] }
 {
     match checker::examine(image) {
-        Examined::Accepted(places) => respond_in(image, places, &mut *state, m, e),
-        Examined::Refused(n, o) => packing::pack(n, 0, 0, o),
+        Ok(places) => respond_in(image, places, &mut *state, m, e),
+        Err(e) => packing::pack(e.number, 0, 0, e.offset),
     }
 }
 
@@ -132,8 +131,8 @@ pub fn tick(image: &[u8], state: &mut [u8], m: u8, sensor: u8, litres: f64) -> u
 {
     let f = packing::flow(sensor, litres);
     match checker::examine(image) {
-        Examined::Accepted(places) => tick_in(image, places, &mut *state, m, f),
-        Examined::Refused(n, o) => packing::pack(n, 0, 0, o),
+        Ok(places) => tick_in(image, places, &mut *state, m, f),
+        Err(e) => packing::pack(e.number, 0, 0, e.offset),
     }
 }
 
@@ -146,14 +145,14 @@ fn give(buffer: &mut [u8], c: DeviceCalled) -> u64
     let answer = c.answer;
     let d = c.device;
     match answer {
-        Called::Done => {
+        Ok(()) => {
             if buffer.len() < device_bytes::DEVICE_SIZE {
                 return packing::pack(15, 0, 0, 0);
             }
             device_bytes::put_device(&mut *buffer, d);
             packing::pack(0, 0, 0, device_bytes::DEVICE_SIZE)
         }
-        Called::Refused(n, o) => packing::pack(n, 0, 0, o),
+        Err(e) => packing::pack(e.number, 0, 0, e.offset),
     }
 }
 

@@ -1,4 +1,5 @@
 -- A test of every slot, as loops go through them.
+use Rattle.std.specs.Prelude.{Option, Some}
 use Prim.Native.Nat.{ℕ, suc, ◌+◌, ◌-◌, ◌≤◌, ◌<◌}
 use native.Mathlib.Nat.{add-zero, add-suc, suc-add}
 use native.Mathlib.Numerals.{add-one}
@@ -16,14 +17,12 @@ use Rattle.bits.proofs.Laws.{bit_none}
 use Rattle.bits.proofs.Below.{all_on_lem, one_fails}
 use Rattle.words.specs.Word.{all_zero}
 use Rattle.records.specs.declared.Record.{Record}
-use Rattle.reader.specs.declared.Found.{Found}
 use Rattle.places.specs.declared.Places.{Places}
 use Rattle.places.specs.Places.{count_of, numbered, records_by}
 use Rattle.places.proofs.Finding.{number_missing}
 use Rattle.plan.specs.Plan.{shown, supervisor_move, state_or, supervisor_after}
 use Rattle.rules.specs.LookUp.{word_field, field_of, modules_of, supervisors_of, supervisor_state}
 use Rattle.modules.specs.declared.Own.{Own}
-use Rattle.modules.specs.declared.Turn.TheVariants.{Event}
 use Rattle.modules.specs.Turn.{empty_own}
 use Rattle.modules.specs.Fits.{own_fits, own_empty}
 use Rattle.words.specs.Lists.{list_from, front}
@@ -122,7 +121,7 @@ module _ (rs : List Record) (states : List ℕ) where
 
   -- where the event e leads a supervisor
   abbrev pub moved : ℕ → ℕ → ℕ
-  moved e v = state_after_turn rs v (state_of states v) (Event e)
+  moved e v = state_after_turn rs v (state_of states v) (Some e)
 
   module _ (k : length states ≡ 32) (e i : ℕ) {l : List ℕ} (w : l ≡ front (moved e) i states) where
     pub moved_on : (v : ℕ) {x : ℕ} → v ≡ i → x ≡ supervisor_after rs v (state_of states i) e → i < 32 → set l i x ≡ front (moved e) (i + 1) states
@@ -144,4 +143,4 @@ unfolding state_after_turn supervisor_after field_of numbered
 stays s p states e v h =
     let st : ℕ = state_of states v in
     let by : Bool → ℕ = λ t. cond t (state_or (supervisor_move (records_by s p) v st e) st) st in
-    ap (λ (y : Found). by (bit (field_of word_field y) e)) (number_missing s p 0x14 v refl h) ∙ ap by (bit_none e)
+    ap (λ (y : Option Record). by (bit (field_of word_field y) e)) (number_missing s p 0x14 v refl h) ∙ ap by (bit_none e)

@@ -1,13 +1,11 @@
 -- Document 01, "Turns on one device": the state of the one-device controller, each module's own part and each supervisor's state.
-use Rattle.std.specs.Prelude.{ℕ, zero, suc, List, Bool, cond, ◌&&◌, get_or, set, replicate, eqb, ltb}
+use Rattle.std.specs.Prelude.{ℕ, zero, suc, List, Bool, cond, ◌&&◌, get_or, set, replicate, eqb, ltb, Option, Some, None}
 use Rattle.std.specs.Int.Bits.{bit_or}
 use Rattle.bits.specs.Bit.{all_below}
 use Rattle.records.specs.declared.Record.{Record}
 use Rattle.rules.specs.LookUp.{modules_of, supervisors_of, supervisor_state}
 use Rattle.plan.specs.Plan.{supervisor_after, supervisor_initial, shown}
 use Rattle.modules.specs.declared.Own.{Own}
-use Rattle.modules.specs.declared.Turn.{Turn}
-use Rattle.modules.specs.declared.Turn.TheVariants.{Event, Nothing}
 use Rattle.modules.specs.Turn.{start_own, empty_own}
 use Rattle.modules.specs.Fits.{own_fits, own_empty}
 use Rattle.words.specs.Lists.{list_from}
@@ -39,11 +37,11 @@ shown_by rs st zero = 0
 shown_by rs st (suc n) = bit_or (shown_by rs st n) (shown rs n (st n))
 
 -- "Firing moves the module and every supervisor with the event in its alphabet; a supervisor without a listed move stays."
-unfoldable pub state_after_turn : List Record → ℕ → ℕ → Turn → ℕ
-state_after_turn rs v st (Event e) = supervisor_after rs v st e
-state_after_turn rs v st Nothing = st
+unfoldable pub state_after_turn : List Record → ℕ → ℕ → Option ℕ → ℕ
+state_after_turn rs v st (Some e) = supervisor_after rs v st e
+state_after_turn rs v st None = st
 
-abbrev pub states_after : List Record → List ℕ → Turn → List ℕ
+abbrev pub states_after : List Record → List ℕ → Option ℕ → List ℕ
 states_after rs states t = list_from (λ v. state_after_turn rs v (state_of states v) t) 0 32
 
 abbrev pub with_own : Device → ℕ → Own → Device

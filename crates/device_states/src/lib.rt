@@ -1,11 +1,10 @@
 // The state of the one-device controller: each module's own part and each supervisor's state. specs/States.antt says what each function gives.
 #![tactic(auto)]
 
-ghost use Rattle.std.specs.Prelude.{◌≡◌, ◌<◌, cond, eqb, ltb, get_or};
+ghost use Rattle.std.specs.Prelude.{◌≡◌, ◌<◌, cond, eqb, ltb, get_or, Some};
 ghost use Rattle.bits.specs.Bit.{all_below};
 ghost use Rattle.places.specs.Places.{records_by};
 ghost use Rattle.rules.specs.LookUp.{supervisor_state};
-ghost use Rattle.modules.specs.declared.Turn.TheVariants.{Event};
 ghost use Rattle.modules.specs.Turn.{empty_own};
 ghost use Rattle.modules.specs.Fits.{own_fits, own_empty};
 ghost use Rattle.words.specs.Lists.{list_from};
@@ -123,7 +122,7 @@ pub fn shown_by(image: &[u8], places: Places, states: [u8; 32], n: u8) -> u64
 
 // The states after an event fired. Past the supervisors that are there none is found, so that the states stay.
 pub fn states_after(image: &[u8], places: Places, states: [u8; 32], e: u8) -> [u8; 32]
-    ensures { result ≡ states_after (records_by image.now places) states (Event e) }
+    ensures { result ≡ states_after (records_by image.now places) states (Some e) }
 {
     let n = places::count(image, places, 0x14);
     let mut next = states;

@@ -3,9 +3,10 @@
 // example_states the own part of a module, and crate texts makes what is printed.
 #![tactic(auto)]
 
-use device::{DeviceCalled, Turning};
+use device::DeviceCalled;
 use device_states::Device;
-use modules::{Called, Own, Turn};
+use modules::Own;
+use refusal::Refusal;
 use std::io;
 use texts::Text;
 use water::Flow;
@@ -25,10 +26,10 @@ fn print_refused(rt: &impl Print, number: u8, offset: usize) -> io::Result<()> {
     print(rt, texts::push(texts::push_spaced(t, offset), b'\n'))
 }
 
-fn print_called(rt: &impl Print, answer: Called) -> io::Result<()> {
+fn print_called(rt: &impl Print, answer: Result<(), Refusal>) -> io::Result<()> {
     match answer {
-        Called::Done => say(rt, b"done\n"),
-        Called::Refused(number, offset) => print_refused(rt, number, offset),
+        Ok(()) => say(rt, b"done\n"),
+        Err(e) => print_refused(rt, e.number, e.offset),
     }
 }
 
@@ -39,17 +40,17 @@ fn print_event(rt: &impl Print, event: u8) -> io::Result<()> {
     )
 }
 
-fn print_turn(rt: &impl Print, turn: Turn) -> io::Result<()> {
+fn print_turn(rt: &impl Print, turn: Option<u8>) -> io::Result<()> {
     match turn {
-        Turn::Event(e) => print_event(rt, e),
-        Turn::Nothing => say(rt, b"none\n"),
+        Some(e) => print_event(rt, e),
+        None => say(rt, b"none\n"),
     }
 }
 
-fn print_turning(rt: &impl Print, answer: Turning) -> io::Result<()> {
+fn print_turning(rt: &impl Print, answer: Result<Option<u8>, Refusal>) -> io::Result<()> {
     match answer {
-        Turning::Done(turn) => print_turn(rt, turn),
-        Turning::Refused(number, offset) => print_refused(rt, number, offset),
+        Ok(turn) => print_turn(rt, turn),
+        Err(e) => print_refused(rt, e.number, e.offset),
     }
 }
 

@@ -2,33 +2,24 @@
 #![tactic(auto)]
 
 ghost use Rattle.std.specs.Prelude.{◌≡◌, []};
-ghost use Rattle.packing.specs.Answer.{Answered};
-ghost use Rattle.frame_interface.specs.Frames.{framed_answer, write_frame_bytes, unframed_answer, read_frame_bytes};
+ghost use Rattle.packing.specs.Answer.{Answered, length_answer};
+ghost use Rattle.frame_interface.specs.Frames.{write_frame_bytes, unframed_answer, read_frame_bytes};
 
-use frames::{Framed, Unframed};
-
-fn framed(r: Framed) -> u64
-    ensures { result ≡ framed_answer r }
-{
-    match r {
-        Framed::Length(n) => packing::pack(0, 0, 0, n),
-        Framed::Refused(n, o) => packing::pack(n, 0, 0, o),
-    }
-}
+use refusal::Refusal;
 
 // Writes the frame of a message from the buffer's start.
 pub fn write_frame(address: u8, message: &[u8], buffer: &mut [u8]) -> u64
     ensures { Answered (write_frame_bytes address message.now buffer.old) result [] buffer.new }
 {
-    framed(frames::write(address, message, buffer))
+    packing::written(frames::write(address, message, buffer))
 }
 
-fn unframed(r: Unframed) -> u64
+fn unframed(r: Result<(u8, usize), Refusal>) -> u64
     ensures { result ≡ unframed_answer r }
 {
     match r {
-        Unframed::Message(a, n) => packing::pack(0, 0, a, n),
-        Unframed::Refused(n, o) => packing::pack(n, 0, 0, o),
+        Ok((a, n)) => packing::pack(0, 0, a, n),
+        Err(e) => packing::pack(e.number, 0, 0, e.offset),
     }
 }
 

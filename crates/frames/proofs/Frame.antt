@@ -1,4 +1,5 @@
 -- A frame put into a buffer, and the tests of one that is read, from what the code is told.
+use Rattle.std.specs.Prelude.{Option, Some, None}
 use mathlib.Core.Path.{◌≡◌, refl, sym, ap, subst, ◌∙◌}
 use mathlib.Core.List.{List, [], ◌∷◌, ◌++◌}
 use mathlib.Core.Bool.{Bool, true, false, cond, not, ◌&&◌, and-false}
@@ -16,8 +17,6 @@ use Rattle.words.proofs.Laws.{put_sets}
 use Rattle.words.proofs.Lists.{sets_append}
 use Rattle.messages.specs.Message.{parse, parsed_number, ParsedAs}
 use Rattle.messages.specs.declared.Message.{Message}
-use Rattle.messages.specs.declared.Parsed.{Parsed}
-use Rattle.messages.specs.declared.Parsed.TheVariants.{Whole, Misshapen}
 use Rattle.crc.specs.Crc.{crc_from, crc_of}
 use Rattle.frames.specs.Frame.{is_address, function, body_of, crc_bytes, frame_of, write_number, address_in, message_in, is_frame, crc_at, is_intact, read_number}
 
@@ -52,11 +51,11 @@ frame_put a g b {c} {s} {t} {u} e room p q r =
     ∙ ap (λ (j : ℕ). frame_of a g ++ drop j b) (zero-add (length (frame_of a g)))
 
 -- from what `messages::read` answers
-module _ (g : List ℕ) {x : Parsed} (e : ParsedAs g x) where
-  pub message_by : {m : Message} → x ≡ Whole m → 0 ≡ parsed_number (parse g)
+module _ (g : List ℕ) {x : Option Message} (e : ParsedAs g x) where
+  pub message_by : {m : Message} → x ≡ Some m → 0 ≡ parsed_number (parse g)
   message_by h = ap parsed_number (sym h ∙ e.answer)
 
-  pub misshapen_by : x ≡ Misshapen → 10 ≡ parsed_number (parse g)
+  pub misshapen_by : x ≡ None → 10 ≡ parsed_number (parse g)
   misshapen_by h = ap parsed_number (sym h ∙ e.answer)
 
 module _ (a : ℕ) (g : List ℕ) {t : Bool} (e : t ≡ is_address a) where

@@ -8,21 +8,7 @@ ghost use Rattle.crc.specs.Crc.{crc_of};
 ghost use Rattle.frames.specs.Frame.{is_address, body_of, frame_of, is_frame, is_intact, message_in, write_number, read_number};
 ghost use Rattle.frames.specs.Calls.{FramedAs, UnframedAs};
 
-use messages::Parsed;
-
-// What became of a message to be written: the length of its frame, or the number and the offset of the refusal.
-#[derive(Clone, Copy)]
-pub enum Framed {
-    Length(usize),
-    Refused(u8, usize),
-}
-
-// What became of a frame to be read: the address and the length of its message, or the number and the offset of the refusal.
-#[derive(Clone, Copy)]
-pub enum Unframed {
-    Message(u8, usize),
-    Refused(u8, usize),
-}
+use refusal::Refusal;
 
 fn is_address(a: u8) -> bool
     ensures { result ≡ is_address a }
@@ -34,8 +20,8 @@ fn message_number(message: &[u8]) -> u8
     ensures { result ≡ parsed_number (parse message.now) }
 {
     match messages::read(message) {
-        Parsed::Whole(_) => 0,
-        Parsed::Misshapen => 10,
+        Some(_) => 0,
+        None => 10,
     }
 }
 
@@ -71,23 +57,29 @@ fn put_frame(address: u8, message: &[u8], buffer: &mut [u8])
     words::put_bytes(&mut *buffer, n + 2, &[low, high]);
 }
 
-// Writes the frame of a message to an address from the buffer's start.
-pub fn write(address: u8, message: &[u8], buffer: &mut [u8]) -> Framed
+// Writes the frame of a message to an address from the buffer's start: the frame's length, or the number and the offset.
+pub fn write(address: u8, message: &[u8], buffer: &mut [u8]) -> Result<usize, Refusal>
     ensures { FramedAs address message.now buffer.old result buffer.new }
 {
     let number = write_number(address, message);
     if number != 0 {
-        return Framed::Refused(number, 0);
+        return Err(Refusal { number, offset: 0 });
     }
     let n = message.len();
     if buffer.len() < 4 {
-        return Framed::Refused(15, 0);
+        return Err(Refusal {
+            number: 15,
+            offset: 0,
+        });
     }
     if buffer.len() - 4 < n {
-        return Framed::Refused(15, 0);
+        return Err(Refusal {
+            number: 15,
+            offset: 0,
+        });
     }
     put_frame(address, message, &mut *buffer);
-    Framed::Length(n + 4)
+    Ok(n + 4)
 }
 
 // ---- reading
@@ -134,20 +126,23 @@ fn read_number(frame: &[u8]) -> u8
     message_number(message_in(frame))
 }
 
-// Reads a frame: its message goes to the buffer's start.
-pub fn read(frame: &[u8], buffer: &mut [u8]) -> Unframed
+// Reads a frame, whose message goes to the buffer's start: the address and the length of the message, or the number and the offset.
+pub fn read(frame: &[u8], buffer: &mut [u8]) -> Result<(u8, usize), Refusal>
     ensures { UnframedAs frame.now buffer.old result buffer.new }
 {
     let number = read_number(frame);
     if number != 0 {
-        return Unframed::Refused(number, 0);
+        return Err(Refusal { number, offset: 0 });
     }
     let address = words::byte_at(frame, 0);
     let message = message_in(frame);
     let n = message.len();
     if buffer.len() < n {
-        return Unframed::Refused(15, 0);
+        return Err(Refusal {
+            number: 15,
+            offset: 0,
+        });
     }
     words::put_bytes(&mut *buffer, 0, message);
-    Unframed::Message(address, n)
+    Ok((address, n))
 }

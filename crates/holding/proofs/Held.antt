@@ -1,4 +1,5 @@
 -- The permits held, by the mask n of a module's neighbours and the mask h of those held.
+use Rattle.std.specs.Prelude.{Option, is_some}
 use mathlib.Core.Path.{◌≡◌, refl, sym, ap, ap₂, ◌∙◌, subst}
 use mathlib.Core.List.{List}
 use mathlib.Core.Bool.{Bool, true, false, cond, not, ◌&&◌, ◌||◌, true≢false}
@@ -12,8 +13,7 @@ use lib.Dec.{T, eqb, ltb}
 use lib.Ieee.Fits.{and_l}
 use borrow.Author.Tests.{eq-eqb, ne_eqb, ltb-true, ltb-false}
 use denote.Floats.{passes as holds, is_true}
-use Rattle.bits.specs.Bit.{bit, all_below, least, some_below, is_some, option_of}
-use Rattle.bits.specs.declared.Maybe.{Maybe}
+use Rattle.bits.specs.Bit.{bit, all_below, least, some_below}
 use Rattle.bits.proofs.Laws.{bit_low, bit_up, bit_and_lem, bit_not, bit_above, shr_none, ones_in_lem, all_at, all_of, same_test}
 use Rattle.bits.proofs.Least.{least_same, least_more, some_least}
 use Rattle.records.specs.declared.Record.{Record}
@@ -29,7 +29,7 @@ use Rattle.holding.specs.Lacking.{Lacking}
 abbrev pub lack_at : ℕ → ℕ → ℕ → Bool
 lack_at n h v = bit n v && not (bit h v)
 
-pub missing_by : (n h : ℕ) (r : Maybe) → n < 2 ^ 32 → h < 2 ^ 64 → option_of r ≡ least (bit (bit_and n (2 ^ 64 - 1 - h))) 64 → option_of r ≡ missing_in n h
+pub missing_by : (n h : ℕ) (r : Option ℕ) → n < 2 ^ 32 → h < 2 ^ 64 → r ≡ least (bit (bit_and n (2 ^ 64 - 1 - h))) 64 → r ≡ missing_in n h
 unfolding missing_in
 missing_by n h r p q e =
     e ∙ least_more (bit x) 32 32 (λ j l. bit_above 32 x j (lt_of_le_of_lt (and_le_l n (2 ^ 64 - 1 - h)) p) l)

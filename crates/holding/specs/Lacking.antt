@@ -1,7 +1,6 @@
 -- Document 01, "Permits and messages": "The count of neighbours is the number of ones in the neighbour mask."
-use Rattle.std.specs.Prelude.{ℕ, ◌≡◌, Bool, true, not, eqb}
+use Rattle.std.specs.Prelude.{ℕ, ◌≡◌, Bool, true, not, eqb, is_some}
 use Rattle.std.specs.Int.Count.{ones}
-use Rattle.bits.specs.Bit.{is_some}
 use Rattle.plan.specs.Plan.{neighbour_count}
 use Rattle.permits.specs.Module.{missing_in, held_in}
 

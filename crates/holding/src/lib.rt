@@ -4,18 +4,16 @@
 
 ghost use Rattle.std.specs.Prelude.{◌≡◌};
 ghost use Rattle.places.specs.Places.{records_by};
-ghost use Rattle.bits.specs.Bit.{option_of};
 ghost use Rattle.permits.specs.Module.{missing_in, held_in, fits_in, call_refused};
 ghost use Rattle.holding.specs.Lacking.{Lacking};
 
-use bits::Maybe;
-use modules::Called;
 use permits::{Module, ModuleCalled};
 use places::Places;
+use refusal::Refusal;
 
 // The lowest neighbour whose permit is not held.
-pub fn missing(adjacent: u32, held: u32) -> Maybe
-    ensures { option_of result ≡ missing_in adjacent held }
+pub fn missing(adjacent: u32, held: u32) -> Option<u8>
+    ensures { result ≡ missing_in adjacent held }
 {
     let neighbour_bits = adjacent as u64;
     let held_bits = held as u64;
@@ -76,7 +74,10 @@ pub fn refused(x: Module, n: u8, at: usize) -> ModuleCalled
     ensures { result ≡ call_refused x n at }
 {
     ModuleCalled {
-        answer: Called::Refused(n, at),
+        answer: Err(Refusal {
+            number: n,
+            offset: at,
+        }),
         state: x,
     }
 }

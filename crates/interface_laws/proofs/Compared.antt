@@ -1,5 +1,8 @@
 -- What is seen of the calls over bytes is what demand 3 sees of them on states by value, with the numbers and the own parts as bytes; and so of
 -- the one-device controller, which is fed the same.
+use Rattle.std.specs.Prelude.{Option, Some, None, Result, Ok, Err, ⊤}
+use Rattle.refusal.specs.Refusal.{refusal}
+use Rattle.refusal.specs.declared.Refusal.{Refusal}
 use mathlib.Core.Path.{◌≡◌, refl, sym, ap, ap₂, ◌∙◌, subst}
 use mathlib.Core.Logic.{◌≢◌}
 use mathlib.Core.List.{List, [], ◌∷◌, ◌++◌, map, map-append, append_assoc}
@@ -14,27 +17,19 @@ use Rattle.records.specs.declared.Record.{Record}
 use Rattle.reader.specs.Walk.{records_of}
 use Rattle.rules.specs.LookUp.{modules_of, supervisors_of}
 use Rattle.rules.specs.Check.{IsPlan}
-use Rattle.rules.specs.declared.Verdict.{Verdict}
-use Rattle.rules.specs.declared.Verdict.TheVariants.{Accepted}
 use Rattle.accepted.specs.Plan.{Sound}
 use Rattle.accepted.proofs.Accepted.{every_plan}
 use Rattle.water.specs.declared.Flow.{Flow}
 use Rattle.messages.specs.Message.{short, written}
 use Rattle.modules.specs.Turn.{empty_own}
 use Rattle.modules.specs.declared.Own.{Own}
-use Rattle.modules.specs.declared.Turn.{Turn}
-use Rattle.modules.specs.declared.Turn.TheVariants.{Event, Nothing}
-use Rattle.modules.specs.declared.Called.{Called}
-use Rattle.modules.specs.declared.Called.TheVariants.{Done, Refused as CallRefused}
 use Rattle.device_states.specs.States.{own_at, device_fits, shown_by, state_at}
 use Rattle.device_states.specs.declared.Device.{Device}
 use Rattle.device.specs.Device.{turned, device_number, turn_in, turn_by, turn_call, respond_call, tick_call}
-use Rattle.device.specs.declared.Turning.{Turning}
-use Rattle.device.specs.declared.Turning.TheVariants.{Done as TurnDone, Refused as DeviceRefused}
 use Rattle.permits.specs.Module as M
 use Rattle.permits.specs.declared.Module.{Module}
 use Rattle.permits.specs.declared.Stepped.{Stepped}
-use Rattle.permits.specs.declared.Stepped.TheVariants.{Turns, Bids, Waits, Refused}
+use Rattle.permits.specs.declared.Stepped.TheVariants.{Turns, Bids, Waits}
 use Rattle.refusals.specs.Table as Table
 use Rattle.refusals.specs.Table.{InTable, CallKind}
 use Rattle.refusals.specs.Refusals.{CallAnswer}
@@ -61,13 +56,13 @@ use Rattle.interface_laws.proofs.Runs.{SystemEncodable, flow_back, step_same, st
 
 -- ---- what demand 3 sees, as numbers and bytes
 
-abbrev turn_outcome : ℕ → Turn → List ℕ → Outcome
-turn_outcome m (Event e) own = record { owner = m; number = 0; did = 1; value = e; own = own }
-turn_outcome m Nothing own = record { owner = m; number = 0; did = 3; value = 0; own = own }
+abbrev turn_outcome : ℕ → Option ℕ → List ℕ → Outcome
+turn_outcome m (Some e) own = record { owner = m; number = 0; did = 1; value = e; own = own }
+turn_outcome m None own = record { owner = m; number = 0; did = 3; value = 0; own = own }
 
-abbrev call_outcome : ℕ → Called → List ℕ → Outcome
-call_outcome m Done own = record { owner = m; number = 0; did = 0; value = 0; own = own }
-call_outcome m (CallRefused n o) own = record { owner = m; number = n; did = 0; value = 0; own = own }
+abbrev call_outcome : ℕ → Result ⊤ Refusal → List ℕ → Outcome
+call_outcome m (Ok u) own = record { owner = m; number = 0; did = 0; value = 0; own = own }
+call_outcome m (Err e) own = record { owner = m; number = e.number; did = 0; value = 0; own = own }
 
 abbrev pub outcome_of : Seen → Outcome
 outcome_of (turn_seen m t own) = turn_outcome m t (own_bytes own)
@@ -75,11 +70,11 @@ outcome_of (refusal_seen m n own) = record { owner = m; number = n; did = 0; val
 outcome_of (call_seen m a own) = call_outcome m a (own_bytes own)
 
 -- whether a step took a turn, by its answer
-abbrev took_in : Stepped → Bool
-took_in (Turns t k) = true
-took_in (Bids v k) = false
-took_in Waits = false
-took_in (Refused n o) = false
+abbrev took_in : Result Stepped Refusal → Bool
+took_in (Ok (Turns t k)) = true
+took_in (Ok (Bids v k)) = false
+took_in (Ok Waits) = false
+took_in (Err e) = false
 
 -- ---- the parts of an answer
 
@@ -93,39 +88,39 @@ module _ (m : ℕ) (s b own : List ℕ) where
   is_turn : (n d v k : ℕ) → n < 256 → d < 256 → v < 256 → took_turn (answer_by (packed n d v k)) ≡ (eqb n 0 && (eqb d 1 || eqb d 3))
   is_turn n d v k nh dh vh = let q = unpacked n d v k nh dh vh in simp (q.number, q.did)
 
-  turn_outcome_lem : (t : Turn) (k : ℕ) → TurnSmall t → outcome m (answer_by (turn_answer t k)) own ≡ turn_outcome m t own
+  turn_outcome_lem : (t : Option ℕ) (k : ℕ) → TurnSmall t → outcome m (answer_by (turn_answer t k)) own ≡ turn_outcome m t own
   unfolding turn_answer
-  turn_outcome_lem (Event e) k h = parts 0 1 e k (lit< tt) (lit< tt) h
-  turn_outcome_lem Nothing k h = parts 0 3 0 k (lit< tt) (lit< tt) (lit< tt)
+  turn_outcome_lem (Some e) k h = parts 0 1 e k (lit< tt) (lit< tt) h
+  turn_outcome_lem None k h = parts 0 3 0 k (lit< tt) (lit< tt) (lit< tt)
 
-  call_outcome_lem : (c : CallKind) (a : Called) → CallAnswer c a → outcome m (answer_by (called_answer a)) own ≡ call_outcome m a own
+  call_outcome_lem : (c : CallKind) (a : Result ⊤ Refusal) → CallAnswer c a → outcome m (answer_by (called_answer a)) own ≡ call_outcome m a own
   unfolding called_answer
-  call_outcome_lem c Done h = parts 0 0 0 0 (lit< tt) (lit< tt) (lit< tt)
-  call_outcome_lem c (CallRefused n o) h = parts n 0 0 o (is_byte c n (h.numbered n o refl)) (lit< tt) (lit< tt)
+  call_outcome_lem c (Ok u) h = parts 0 0 0 0 (lit< tt) (lit< tt) (lit< tt)
+  call_outcome_lem c (Err e) h = parts e.number 0 0 e.offset (is_byte c e.number (h.numbered e refl)) (lit< tt) (lit< tt)
 
-  turn_taken_lem : (t : Turn) (k : ℕ) → TurnSmall t → took_turn (answer_by (turn_answer t k)) ≡ true
+  turn_taken_lem : (t : Option ℕ) (k : ℕ) → TurnSmall t → took_turn (answer_by (turn_answer t k)) ≡ true
   unfolding turn_answer
-  turn_taken_lem (Event e) k h = is_turn 0 1 e k (lit< tt) (lit< tt) h
-  turn_taken_lem Nothing k h = is_turn 0 3 0 k (lit< tt) (lit< tt) (lit< tt)
+  turn_taken_lem (Some e) k h = is_turn 0 1 e k (lit< tt) (lit< tt) h
+  turn_taken_lem None k h = is_turn 0 3 0 k (lit< tt) (lit< tt) (lit< tt)
 
-  step_taken : (a : Stepped) → StepSmall a → took_turn (answer_by (stepped_answer a)) ≡ took_in a
+  step_taken : (a : Result Stepped Refusal) → StepSmall a → took_turn (answer_by (stepped_answer a)) ≡ took_in a
   unfolding stepped_answer
-  step_taken (Turns t k) h = turn_taken_lem t k h.0
-  step_taken (Bids v k) h = is_turn 0 4 v k (lit< tt) (lit< tt) h.0
-  step_taken Waits h = is_turn 0 6 0 0 (lit< tt) (lit< tt) (lit< tt)
-  step_taken (Refused n o) h =
-      is_turn n 0 0 o (listed.byte n h) (lit< tt) (lit< tt) ∙ ap (λ (t : Bool). t && false) (ne_eqb n 0 (listed.not_0 n h))
+  step_taken (Ok (Turns t k)) h = turn_taken_lem t k h.0
+  step_taken (Ok (Bids v k)) h = is_turn 0 4 v k (lit< tt) (lit< tt) h.0
+  step_taken (Ok Waits) h = is_turn 0 6 0 0 (lit< tt) (lit< tt) (lit< tt)
+  step_taken (Err e) h =
+      is_turn e.number 0 0 e.offset (listed.byte e.number h) (lit< tt) (lit< tt) ∙ ap (λ (t : Bool). t && false) (ne_eqb e.number 0 (listed.not_0 e.number h))
 
-  step_outcomes : (a : Stepped) (o : Own) → StepSmall a → own ≡ own_bytes o
+  step_outcomes : (a : Result Stepped Refusal) (o : Own) → StepSmall a → own ≡ own_bytes o
       → cond (took_turn (answer_by (stepped_answer a))) (outcome m (answer_by (stepped_answer a)) own ∷ []) [] ≡ map outcome_of (step_seen m a o)
   unfolding step_seen stepped_answer
   step_outcomes a o h e = ap (λ (t : Bool). cond t (outcome m (answer_by (stepped_answer a)) own ∷ []) []) (step_taken a h) ∙ go a h
     where
-      go : (a : Stepped) → StepSmall a → cond (took_in a) (outcome m (answer_by (stepped_answer a)) own ∷ []) [] ≡ map outcome_of (step_seen m a o)
-      go (Turns t k) h = ap (λ (x : Outcome). x ∷ []) (turn_outcome_lem t k h.0) ∙ ap (λ (w : List ℕ). turn_outcome m t w ∷ []) e
-      go (Bids v k) h = refl
-      go Waits h = refl
-      go (Refused n k) h = refl
+      go : (a : Result Stepped Refusal) → StepSmall a → cond (took_in a) (outcome m (answer_by (stepped_answer a)) own ∷ []) [] ≡ map outcome_of (step_seen m a o)
+      go (Ok (Turns t k)) h = ap (λ (x : Outcome). x ∷ []) (turn_outcome_lem t k h.0) ∙ ap (λ (w : List ℕ). turn_outcome m t w ∷ []) e
+      go (Ok (Bids v k)) h = refl
+      go (Ok Waits) h = refl
+      go (Err e) h = refl
 
 -- ---- modules
 
@@ -144,19 +139,19 @@ compared false x y e = refl
 
 -- no step of a module of the plan is refused
 abbrev NeverRefused : List ℕ → System → Type 0
-NeverRefused image D = (m : ℕ) (b : List ℕ) (n o : ℕ) → m < modules_of (records_of image) → length b ≡ buffer_length → (M.module_step image m (D.module_at m) b).answer ≢ Refused n o
+NeverRefused image D = (m : ℕ) (b : List ℕ) (n o : ℕ) → m < modules_of (records_of image) → length b ≡ buffer_length → (M.module_step image m (D.module_at m) b).answer ≢ Err (refusal n o)
 
 -- a step that is not refused takes a turn where the rules say so
-turn_fed : (rs : List Record) (m : ℕ) (x : Module) (b : List ℕ) → ((n o : ℕ) → m < modules_of rs → (M.step_by Accepted rs m x b).answer ≢ Refused n o)
-    → cond (took_in (M.step_by Accepted rs m x b).answer) (device_turn m ∷ []) [] ≡ cond (ltb m (modules_of rs)) (choice_fed m (M.choice rs m x)) []
+turn_fed : (rs : List Record) (m : ℕ) (x : Module) (b : List ℕ) → ((n o : ℕ) → m < modules_of rs → (M.step_by (Ok tt) rs m x b).answer ≢ Err (refusal n o))
+    → cond (took_in (M.step_by (Ok tt) rs m x b).answer) (device_turn m ∷ []) [] ≡ cond (ltb m (modules_of rs)) (choice_fed m (M.choice rs m x)) []
 unfolding M.step_by M.step_in M.answer_by choice_fed
 turn_fed rs m x b h = go (ltb m (modules_of rs)) (M.module_fits rs m x) (short (M.step_bytes rs m x (M.choice rs m x)) b) (M.choice rs m x) refl (λ n o l. h n o (ltb-true m (modules_of rs) l))
   where
-    after : Bool → Bool → Bool → M.Choice → Stepped
+    after : Bool → Bool → Bool → M.Choice → Result Stepped Refusal
     after p q r c =
         (cond p (cond q (cond r (M.step_refused x b 15 0) (record { answer = M.answer_by rs m x c; state = M.state_by rs m x c; buffer = written (M.step_bytes rs m x c) b })) (M.step_refused x b 9 0)) (M.step_refused x b 11 0)).answer
 
-    go : (p q r : Bool) (c : M.Choice) → ltb m (modules_of rs) ≡ p → ((n o : ℕ) → ltb m (modules_of rs) ≡ true → after p q r c ≢ Refused n o)
+    go : (p q r : Bool) (c : M.Choice) → ltb m (modules_of rs) ≡ p → ((n o : ℕ) → ltb m (modules_of rs) ≡ true → after p q r c ≢ Err (refusal n o))
         → cond (took_in (after p q r c)) (device_turn m ∷ []) [] ≡ cond p (choice_fed m c) []
     go false q r c e k = refl
     go true false r c e k = absurd (k 9 0 e refl)
@@ -198,7 +193,7 @@ module _ (image : List ℕ) (accepted : IsPlan image) where
         let c : M.StepCall = M.module_step image m x b in
         ap (λ (a : Answer). cond (took_turn a) (device_turn m ∷ []) []) (same_calls.module_step image m x b (h.modules m))
         ∙ ap (λ (t : Bool). cond t (device_turn m ∷ []) []) (step_taken m (module_bytes c.state) c.buffer [] c.answer (module_sent image accepted m x b l).0)
-        ∙ subst (λ (v : Verdict). ((n o : ℕ) → m < modules_of (records_of image) → (M.step_by v (records_of image) m x b).answer ≢ Refused n o)
+        ∙ subst (λ (v : Result ⊤ Refusal). ((n o : ℕ) → m < modules_of (records_of image) → (M.step_by v (records_of image) m x b).answer ≢ Err (refusal n o))
         → cond (took_in (M.step_by v (records_of image) m x b).answer) (device_turn m ∷ []) [] ≡ cond (ltb m (modules_of (records_of image))) (choice_fed m (M.choice (records_of image) m x)) [])
         (sym accepted) (turn_fed (records_of image) m x b) (λ n o p. k m b n o p l)
     act_fed_lem k (supervisor_step v b) l = refl
@@ -249,15 +244,15 @@ below_joined : (a b : List DeviceAct) → AllBelow a → AllBelow b → AllBelow
 below_joined [] b h k = k
 below_joined (x ∷ a) b h k = (h.0, below_joined a b h.1 k)
 
-abbrev TurningSmall : Turning → Type 0
-TurningSmall (TurnDone t) = TurnSmall t
-TurningSmall (DeviceRefused n o) = InTable n
+abbrev TurningSmall : Result (Option ℕ) Refusal → Type 0
+TurningSmall (Ok t) = TurnSmall t
+TurningSmall (Err e) = InTable e.number
 
-turning_outcome : (m : ℕ) (s b : List ℕ) (a : Turning) (own : Own) → TurningSmall a
+turning_outcome : (m : ℕ) (s b : List ℕ) (a : Result (Option ℕ) Refusal) (own : Own) → TurningSmall a
     → outcome m (record { number = turning_answer a; state = s; buffer = b }) (own_bytes own) ≡ outcome_of (turning_seen m a own)
 unfolding turning_answer turning_seen
-turning_outcome m s b (TurnDone t) own h = turn_outcome_lem m s b (own_bytes own) t 0 h
-turning_outcome m s b (DeviceRefused n o) own h = parts m s b (own_bytes own) n 0 0 o (listed.byte n h) (lit< tt) (lit< tt)
+turning_outcome m s b (Ok t) own h = turn_outcome_lem m s b (own_bytes own) t 0 h
+turning_outcome m s b (Err e) own h = parts m s b (own_bytes own) e.number 0 0 e.offset (listed.byte e.number h) (lit< tt) (lit< tt)
 
 module _ (image : List ℕ) (accepted : IsPlan image) where
   abbrev rs : List Record
@@ -268,7 +263,7 @@ module _ (image : List ℕ) (accepted : IsPlan image) where
 
   turning_small : (d : Device) (m : ℕ) → TurningSmall (turn_call image d m).answer
   unfolding turn_by turn_in turned
-  turning_small d m = subst (λ (v : Verdict). TurningSmall (turn_by v rs d m).answer) (sym accepted) (go (device_number rs d m) refl)
+  turning_small d m = subst (λ (v : Result ⊤ Refusal). TurningSmall (turn_by v rs d m).answer) (sym accepted) (go (device_number rs d m) refl)
     where
       in_table : (n : ℕ) (a b : Bool) → ◌≡◌ {A = ℕ} (cond a (cond b 0 11) 9) (suc n) → InTable (suc n)
       in_table n true true e = absurd (omega arith)

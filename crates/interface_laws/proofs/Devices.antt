@@ -1,4 +1,5 @@
 -- The states that the calls of one device leave can be encoded.
+use Rattle.std.specs.Prelude.{Option, Some, None}
 use mathlib.Core.Path.{◌≡◌, refl, ◌∙◌, subst}
 use mathlib.Core.List.{List, [], ◌∷◌}
 use mathlib.Core.Bool.{Bool, true, false, cond}
@@ -25,8 +26,6 @@ use Rattle.modules.specs.Turn.{empty_own}
 use Rattle.modules.specs.Fits.{own_fits, own_empty}
 use Rattle.modules.specs.declared.Own.{Own}
 use Rattle.modules.specs.declared.Replied.{Replied}
-use Rattle.modules.specs.declared.Turn.{Turn}
-use Rattle.modules.specs.declared.Turn.TheVariants.{Event, Nothing}
 use Rattle.device_states.specs.States.{own_at, state_of, own_slot_fits, state_slot_fits, device_fits, shown_by, state_at, state_after_turn, start_slot, start_state}
 use Rattle.device_states.specs.declared.Device.{Device}
 use Rattle.device.specs.Device.{turned, after_turn, device_number, turn_in, turn_by, turn_call, reply_in, reply_by, respond_call, tick_call, start_by, start_call}
@@ -78,10 +77,10 @@ module _ (rs : List Record) (plan : Sound rs) (d : Device) (m : ℕ) (h : Device
   own_encodable : OwnEncodable (own_at d m)
   own_encodable = owns_at d.modules h.owns m
 
-  moved : (v : ℕ) (t : Turn) → Byte (state_after_turn rs v (state_of d.supervisors v) t)
+  moved : (v : ℕ) (t : Option ℕ) → Byte (state_after_turn rs v (state_of d.supervisors v) t)
   unfolding state_after_turn supervisor_after
-  moved v (Event e) = choose Byte (in_alphabet rs v e) _ _ (λ a. moved_byte rs plan v (state_of d.supervisors v) e (h.states v)) (λ a. h.states v)
-  moved v Nothing = h.states v
+  moved v (Some e) = choose Byte (in_alphabet rs v e) _ _ (λ a. moved_byte rs plan v (state_of d.supervisors v) e (h.states v)) (λ a. h.states v)
+  moved v None = h.states v
 
   with_own : (own : Own) → OwnEncodable own → OwnsEncodable (set d.modules m own) × (length (set d.modules m own) ≡ 16)
   with_own own k = (owns_set d.modules m own h.owns k, length-set d.modules m own ∙ h.modules)
@@ -116,7 +115,7 @@ device_started image =
       supervisors = refl;
       states = bytes_listed (start_state rs) (λ v. choose Byte (ltb v (supervisors_of rs)) _ _ (λ l. initial_byte rs plan v (ltb-true v (supervisors_of rs) l)) (λ l. lit< tt)) 0 32;
     })
-    (λ n o. record { owns = owns_empty 16; modules = refl; supervisors = refl; states = bytes_zeros 32 })
+    (λ e. record { owns = owns_empty 16; modules = refl; supervisors = refl; states = bytes_zeros 32 })
   where
     rs : List Record
     rs = records_of image
@@ -124,12 +123,12 @@ device_started image =
 module _ (image : List ℕ) (d : Device) (m : ℕ) (h : DeviceEncodable d) where
   pub device_turned : DeviceEncodable (turn_call image d m).device
   unfolding turn_by
-  device_turned = judged image (λ v. DeviceEncodable (turn_by v (records_of image) d m).device) (λ plan. turns (records_of image) plan d m h (device_number (records_of image) d m) refl) (λ n o. h)
+  device_turned = judged image (λ v. DeviceEncodable (turn_by v (records_of image) d m).device) (λ plan. turns (records_of image) plan d m h (device_number (records_of image) d m) refl) (λ e. h)
 
   device_replied : (r : Replied) → (Sound (records_of image) → T (own_fits (records_of image) m (own_at d m)) → OwnEncodable r.own) → DeviceEncodable (reply_by (verdict_of image) (records_of image) d m r).device
   unfolding reply_by
   device_replied r k =
-      judged image (λ v. DeviceEncodable (reply_by v (records_of image) d m r).device) (λ plan. replies (records_of image) plan d m h r (k plan) (device_number (records_of image) d m) refl) (λ n o. h)
+      judged image (λ v. DeviceEncodable (reply_by v (records_of image) d m r).device) (λ plan. replies (records_of image) plan d m h r (k plan) (device_number (records_of image) d m) refl) (λ e. h)
 
   pub device_responded : (e : ℕ) → DeviceEncodable (respond_call image d m e).device
   device_responded e =

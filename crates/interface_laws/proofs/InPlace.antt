@@ -1,4 +1,8 @@
 -- "An accepted call writes the state in place": what it got stood for a state, and the state that it leaves is put over it.
+use Rattle.refusal.specs.Refusal.{refused_number}
+use Rattle.std.specs.Prelude.{Option, Some, None, Result, Ok, Err, ⊤}
+use Rattle.refusal.specs.declared.Refusal.{Refusal}
+use Rattle.messages.specs.declared.Message.{Message}
 use mathlib.Core.Path.{◌≡◌, refl, sym, ap, ◌∙◌}
 use mathlib.Core.Logic.{◌≢◌}
 use mathlib.Core.List.{List}
@@ -12,18 +16,11 @@ use Rattle.records.specs.declared.Record.{Record}
 use Rattle.reader.specs.Walk.{records_of}
 use Rattle.rules.specs.LookUp.{modules_of, supervisors_of}
 use Rattle.rules.specs.Check.{verdict_of}
-use Rattle.rules.specs.declared.Verdict.{Verdict}
-use Rattle.rules.specs.declared.Verdict.TheVariants.{Accepted, Refused as CheckRefused}
 use Rattle.messages.specs.Message.{written, put_at}
-use Rattle.messages.specs.declared.Parsed.{Parsed}
-use Rattle.messages.specs.declared.Parsed.TheVariants.{Whole, Misshapen}
-use Rattle.modules.specs.Numbers.{called_number}
 use Rattle.modules.specs.declared.Replied.{Replied}
-use Rattle.device.specs.Numbers.{turning_number}
 use Rattle.device.specs.Device.{device_number, turn_in, turn_by, reply_in, reply_by}
 use Rattle.device_states.specs.States.{device_fits}
 use Rattle.device_states.specs.declared.Device.{Device}
-use Rattle.permits.specs.Numbers.{stepped_number, served_number}
 use Rattle.permits.specs.Module as Modules
 use Rattle.permits.specs.Module.{module_fits}
 use Rattle.permits.specs.Supervisor as Supervisors
@@ -55,67 +52,67 @@ not_fit : ◌≢◌ {A = ℕ} 9 0
 not_fit e = omega arith
 
 module _ (rs : List Record) (m : ℕ) (x : Module) (f : module_fits rs m x ≡ false) where
-  pub step_refused_lem : (v : Verdict) → CheckAnswer v → (l : List ℕ) → stepped_number (Modules.step_by v rs m x l).answer ≢ 0
+  pub step_refused_lem : (v : Result ⊤ Refusal) → CheckAnswer v → (l : List ℕ) → refused_number (Modules.step_by v rs m x l).answer ≢ 0
   unfolding Modules.step_by
-  step_refused_lem Accepted j l = go (ltb m (modules_of rs)) refl
+  step_refused_lem (Ok u) j l = go (ltb m (modules_of rs)) refl
     where
-      go : (t : Bool) → ltb m (modules_of rs) ≡ t → stepped_number (Modules.step_by Accepted rs m x l).answer ≢ 0
+      go : (t : Bool) → ltb m (modules_of rs) ≡ t → refused_number (Modules.step_by (Ok tt) rs m x l).answer ≢ 0
       go true e = simp (e, f) not_fit
       go false e = simp e eleven
-  step_refused_lem (CheckRefused n o) j l = is_refusal check n (j.numbered n o refl)
+  step_refused_lem (Err e) j l = is_refusal check e.number (j.numbered e refl)
 
-  pub deliver_refused : (v : Verdict) → CheckAnswer v → (g : Parsed) → called_number (Modules.deliver_by v rs m x g).answer ≢ 0
+  pub deliver_refused : (v : Result ⊤ Refusal) → CheckAnswer v → (g : Option Message) → refused_number (Modules.deliver_by v rs m x g).answer ≢ 0
   unfolding Modules.deliver_by Modules.absent
-  deliver_refused Accepted j g = go (ltb m (modules_of rs)) refl g
+  deliver_refused (Ok u) j g = go (ltb m (modules_of rs)) refl g
     where
-      go : (t : Bool) → ltb m (modules_of rs) ≡ t → (g : Parsed) → called_number (Modules.deliver_by Accepted rs m x g).answer ≢ 0
+      go : (t : Bool) → ltb m (modules_of rs) ≡ t → (g : Option Message) → refused_number (Modules.deliver_by (Ok tt) rs m x g).answer ≢ 0
       go true e g = simp (e, f) not_fit
-      go false e Misshapen = simp e ten
-      go false e (Whole g) = simp e eleven
-  deliver_refused (CheckRefused n o) j g = is_refusal check n (j.numbered n o refl)
+      go false e None = simp e ten
+      go false e (Some g) = simp e eleven
+  deliver_refused (Err e) j g = is_refusal check e.number (j.numbered e refl)
 
-  pub reply_refused : (v : Verdict) → CheckAnswer v → (r : Replied) → called_number (Modules.reply_by v rs m x r).answer ≢ 0
+  pub reply_refused : (v : Result ⊤ Refusal) → CheckAnswer v → (r : Replied) → refused_number (Modules.reply_by v rs m x r).answer ≢ 0
   unfolding Modules.reply_by
-  reply_refused Accepted j r = go (ltb m (modules_of rs)) refl
+  reply_refused (Ok u) j r = go (ltb m (modules_of rs)) refl
     where
-      go : (t : Bool) → ltb m (modules_of rs) ≡ t → called_number (Modules.reply_by Accepted rs m x r).answer ≢ 0
+      go : (t : Bool) → ltb m (modules_of rs) ≡ t → refused_number (Modules.reply_by (Ok tt) rs m x r).answer ≢ 0
       go true e = simp (e, f) not_fit
       go false e = simp e eleven
-  reply_refused (CheckRefused n o) j r = is_refusal check n (j.numbered n o refl)
+  reply_refused (Err e) j r = is_refusal check e.number (j.numbered e refl)
 
 module _ (rs : List Record) (v : ℕ) (y : Supervisor) (f : supervisor_fits rs v y ≡ false) where
-  pub serve_refused : (w : Verdict) → CheckAnswer w → (l : List ℕ) → served_number (Supervisors.step_by w rs v y l).answer ≢ 0
+  pub serve_refused : (w : Result ⊤ Refusal) → CheckAnswer w → (l : List ℕ) → refused_number (Supervisors.step_by w rs v y l).answer ≢ 0
   unfolding Supervisors.step_by
-  serve_refused Accepted j l = go (ltb v (supervisors_of rs)) refl
+  serve_refused (Ok u) j l = go (ltb v (supervisors_of rs)) refl
     where
-      go : (t : Bool) → ltb v (supervisors_of rs) ≡ t → served_number (Supervisors.step_by Accepted rs v y l).answer ≢ 0
+      go : (t : Bool) → ltb v (supervisors_of rs) ≡ t → refused_number (Supervisors.step_by (Ok tt) rs v y l).answer ≢ 0
       go true e = simp (e, f) not_fit
       go false e = simp e eleven
-  serve_refused (CheckRefused n o) j l = is_refusal check n (j.numbered n o refl)
+  serve_refused (Err e) j l = is_refusal check e.number (j.numbered e refl)
 
-  pub given_refused : (w : Verdict) → CheckAnswer w → (g : Parsed) → called_number (Supervisors.deliver_by w rs v y g).answer ≢ 0
+  pub given_refused : (w : Result ⊤ Refusal) → CheckAnswer w → (g : Option Message) → refused_number (Supervisors.deliver_by w rs v y g).answer ≢ 0
   unfolding Supervisors.deliver_by Supervisors.absent
-  given_refused Accepted j g = go (ltb v (supervisors_of rs)) refl g
+  given_refused (Ok u) j g = go (ltb v (supervisors_of rs)) refl g
     where
-      go : (t : Bool) → ltb v (supervisors_of rs) ≡ t → (g : Parsed) → called_number (Supervisors.deliver_by Accepted rs v y g).answer ≢ 0
+      go : (t : Bool) → ltb v (supervisors_of rs) ≡ t → (g : Option Message) → refused_number (Supervisors.deliver_by (Ok tt) rs v y g).answer ≢ 0
       go true e g = simp (e, f) not_fit
-      go false e Misshapen = simp e ten
-      go false e (Whole g) = simp e eleven
-  given_refused (CheckRefused n o) j g = is_refusal check n (j.numbered n o refl)
+      go false e None = simp e ten
+      go false e (Some g) = simp e eleven
+  given_refused (Err e) j g = is_refusal check e.number (j.numbered e refl)
 
 module _ (rs : List Record) (d : Device) (m : ℕ) (f : device_fits rs d ≡ false) where
   nine : device_number rs d m ≡ 9
   nine = ap (λ (t : Bool). cond t (cond (ltb m (modules_of rs)) 0 11) 9) f
 
-  pub turn_refused_lem : (v : Verdict) → CheckAnswer v → turning_number (turn_by v rs d m).answer ≢ 0
+  pub turn_refused_lem : (v : Result ⊤ Refusal) → CheckAnswer v → refused_number (turn_by v rs d m).answer ≢ 0
   unfolding turn_by turn_in
-  turn_refused_lem Accepted j = simp nine not_fit
-  turn_refused_lem (CheckRefused n o) j = is_refusal check n (j.numbered n o refl)
+  turn_refused_lem (Ok u) j = simp nine not_fit
+  turn_refused_lem (Err e) j = is_refusal check e.number (j.numbered e refl)
 
-  pub replied_refused : (v : Verdict) → CheckAnswer v → (r : Replied) → called_number (reply_by v rs d m r).answer ≢ 0
+  pub replied_refused : (v : Result ⊤ Refusal) → CheckAnswer v → (r : Replied) → refused_number (reply_by v rs d m r).answer ≢ 0
   unfolding reply_by reply_in
-  replied_refused Accepted j r = simp nine not_fit
-  replied_refused (CheckRefused n o) j r = is_refusal check n (j.numbered n o refl)
+  replied_refused (Ok u) j r = simp nine not_fit
+  replied_refused (Err e) j r = is_refusal check e.number (j.numbered e refl)
 
 -- ---- the bytes put where bytes of the same length stood
 

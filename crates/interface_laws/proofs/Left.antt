@@ -1,8 +1,8 @@
 -- `AllLeft` of specs/Left.antt.
+use Rattle.std.specs.Prelude.{Some}
 use mathlib.Core.Path.{◌≡◌, refl, sym, ap, ◌∙◌, subst}
 use mathlib.Core.Logic.{◌≢◌}
 use mathlib.Core.List.{List}
-use mathlib.Core.Option.{Option, none, some}
 use mathlib.Core.Bool.{Bool, true, false, cond}
 use Prim.Native.Nat.{ℕ, zero, suc}
 use lib.ListN.{replicate}
@@ -104,8 +104,8 @@ device_left : (n : ℕ) (s : List ℕ) (d : Device) → Bytes s → DeviceEncoda
 device_left n s d g h r u = left device_of device_bytes n _ s d g (exact.device_bytes_lem d h) (exact.device_again d h) (device_kept s d (device_parts.size d h) r) u
 
 -- of a check in pieces
-written_as : (k : CheckState) → StateEncodable k → ReadAs check_of (state_bytes k) (some k)
-written_as k h = record { bytes = state-parts.bytes k h; state = simp (state-parts.stands k h) (ap (λ (x : CheckState). some x) (state-parts.back k h)) }
+written_as : (k : CheckState) → StateEncodable k → ReadAs check_of (state_bytes k) (Some k)
+written_as k h = record { bytes = state-parts.bytes k h; state = simp (state-parts.stands k h) (ap (λ (x : CheckState). Some x) (state-parts.back k h)) }
 
 piece_left : (s p : List ℕ) → Bytes s → Bytes p → ReadAs check_of (check_piece_bytes s p).state (piece_on p (check_of s))
 unfolding check_piece_bytes

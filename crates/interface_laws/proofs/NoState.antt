@@ -1,4 +1,8 @@
 -- `NoState` of specs/Laws.antt.
+use Rattle.std.specs.Prelude.{Option, Result, Ok, Err, ⊤}
+use Rattle.refusal.specs.Refusal.{refusal}
+use Rattle.refusal.specs.declared.Refusal.{Refusal}
+use Rattle.messages.specs.declared.Message.{Message}
 use mathlib.Core.Path.{◌≡◌, ap, ◌∙◌}
 use mathlib.Core.List.{List}
 use mathlib.Core.Bool.{Bool, true, false, cond}
@@ -7,23 +11,16 @@ use lib.Dec.{ltb}
 use Rattle.records.specs.declared.Record.{Record}
 use Rattle.reader.specs.Walk.{records_of}
 use Rattle.rules.specs.LookUp.{modules_of, supervisors_of}
-use Rattle.rules.specs.declared.Verdict.{Verdict}
-use Rattle.rules.specs.declared.Verdict.TheVariants.{Accepted}
-use Rattle.modules.specs.declared.Called.TheVariants.{Refused}
 use Rattle.modules.specs.declared.Replied.{Replied}
 use Rattle.messages.specs.Message.{parse}
-use Rattle.messages.specs.declared.Parsed.{Parsed}
 use Rattle.device.specs.Device.{device_number, turn_in, turn_by, turn_call, reply_in, reply_by, respond_call, tick_call}
 use Rattle.device_states.specs.declared.Device.{Device}
-use Rattle.device.specs.declared.Turning.TheVariants.{Refused as TurnRefused}
 use Rattle.permits.specs.Module as Modules
 use Rattle.permits.specs.Module.{module_step, module_deliver, module_respond, module_tick}
 use Rattle.permits.specs.Supervisor as Supervisors
 use Rattle.permits.specs.Supervisor.{supervisor_step, supervisor_deliver}
 use Rattle.permits.specs.declared.Module.{Module}
 use Rattle.permits.specs.declared.Supervisor.{Supervisor}
-use Rattle.permits.specs.declared.Stepped.TheVariants.{Refused as StepRefused}
-use Rattle.permits.specs.declared.Served.TheVariants.{Refused as ServeRefused}
 use Rattle.device_bytes.specs.Device.{is_device, device_at, unfit_device, device_of}
 use Rattle.device_bytes.proofs.Parts.{device_parts}
 use Rattle.party_bytes.specs.Module.{is_module, module_at, unfit_module, module_of}
@@ -46,13 +43,13 @@ device_is s h = ap (λ (t : Bool). cond t (device_at s) unfit_device) h
 nine : (rs : List Record) (m : ℕ) → device_number rs unfit_device m ≡ 9
 nine rs m = ap (λ (t : Bool). cond t (cond (ltb m (modules_of rs)) 0 11) 9) (device_parts.unfit rs)
 
-turn_nine : (v : Verdict) (rs : List Record) (m : ℕ) → v ≡ Accepted → (turn_by v rs unfit_device m).answer ≡ TurnRefused 9 0
+turn_nine : (v : Result ⊤ Refusal) (rs : List Record) (m : ℕ) → v ≡ Ok tt → (turn_by v rs unfit_device m).answer ≡ Err (refusal 9 0)
 unfolding turn_by turn_in
-turn_nine v rs m e = ap (λ (w : Verdict). (turn_by w rs unfit_device m).answer) e ∙ ap (λ (n : ℕ). (turn_in rs unfit_device m n).answer) (nine rs m)
+turn_nine v rs m e = ap (λ (w : Result ⊤ Refusal). (turn_by w rs unfit_device m).answer) e ∙ ap (λ (n : ℕ). (turn_in rs unfit_device m n).answer) (nine rs m)
 
-reply_nine : (v : Verdict) (rs : List Record) (m : ℕ) (r : Replied) → v ≡ Accepted → (reply_by v rs unfit_device m r).answer ≡ Refused 9 0
+reply_nine : (v : Result ⊤ Refusal) (rs : List Record) (m : ℕ) (r : Replied) → v ≡ Ok tt → (reply_by v rs unfit_device m r).answer ≡ Err (refusal 9 0)
 unfolding reply_by reply_in
-reply_nine v rs m r e = ap (λ (w : Verdict). (reply_by w rs unfit_device m r).answer) e ∙ ap (λ (n : ℕ). (reply_in unfit_device m n r).answer) (nine rs m)
+reply_nine v rs m r e = ap (λ (w : Result ⊤ Refusal). (reply_by w rs unfit_device m r).answer) e ∙ ap (λ (n : ℕ). (reply_in unfit_device m n r).answer) (nine rs m)
 
 -- ---- a module
 
@@ -60,18 +57,18 @@ module_is : (s : List ℕ) → is_module s ≡ false → module_of s ≡ unfit_m
 unfolding module_of
 module_is s h = ap (λ (t : Bool). cond t (module_at s) unfit_module) h
 
-module _ (v : Verdict) (rs : List Record) (m : ℕ) (e : v ≡ Accepted) (h : ltb m (modules_of rs) ≡ true) where
-  step_nine : (l : List ℕ) → (Modules.step_by v rs m unfit_module l).answer ≡ StepRefused 9 0
+module _ (v : Result ⊤ Refusal) (rs : List Record) (m : ℕ) (e : v ≡ Ok tt) (h : ltb m (modules_of rs) ≡ true) where
+  step_nine : (l : List ℕ) → (Modules.step_by v rs m unfit_module l).answer ≡ Err (refusal 9 0)
   unfolding Modules.step_by
-  step_nine l = ap (λ (w : Verdict). (Modules.step_by w rs m unfit_module l).answer) e ∙ simp (h, module_parts.unfit rs m)
+  step_nine l = ap (λ (w : Result ⊤ Refusal). (Modules.step_by w rs m unfit_module l).answer) e ∙ simp (h, module_parts.unfit rs m)
 
-  deliver_nine : (g : Parsed) → (Modules.deliver_by v rs m unfit_module g).answer ≡ Refused 9 0
+  deliver_nine : (g : Option Message) → (Modules.deliver_by v rs m unfit_module g).answer ≡ Err (refusal 9 0)
   unfolding Modules.deliver_by
-  deliver_nine g = ap (λ (w : Verdict). (Modules.deliver_by w rs m unfit_module g).answer) e ∙ simp (h, module_parts.unfit rs m)
+  deliver_nine g = ap (λ (w : Result ⊤ Refusal). (Modules.deliver_by w rs m unfit_module g).answer) e ∙ simp (h, module_parts.unfit rs m)
 
-  replied_nine : (r : Replied) → (Modules.reply_by v rs m unfit_module r).answer ≡ Refused 9 0
+  replied_nine : (r : Replied) → (Modules.reply_by v rs m unfit_module r).answer ≡ Err (refusal 9 0)
   unfolding Modules.reply_by
-  replied_nine r = ap (λ (w : Verdict). (Modules.reply_by w rs m unfit_module r).answer) e ∙ simp (h, module_parts.unfit rs m)
+  replied_nine r = ap (λ (w : Result ⊤ Refusal). (Modules.reply_by w rs m unfit_module r).answer) e ∙ simp (h, module_parts.unfit rs m)
 
 -- ---- a supervisor
 
@@ -79,14 +76,14 @@ supervisor_is : (s : List ℕ) → is_supervisor s ≡ false → supervisor_of s
 unfolding supervisor_of
 supervisor_is s h = ap (λ (t : Bool). cond t (supervisor_at s) unfit_supervisor) h
 
-module _ (v : Verdict) (rs : List Record) (n : ℕ) (e : v ≡ Accepted) (h : ltb n (supervisors_of rs) ≡ true) where
-  serve_nine : (l : List ℕ) → (Supervisors.step_by v rs n unfit_supervisor l).answer ≡ ServeRefused 9 0
+module _ (v : Result ⊤ Refusal) (rs : List Record) (n : ℕ) (e : v ≡ Ok tt) (h : ltb n (supervisors_of rs) ≡ true) where
+  serve_nine : (l : List ℕ) → (Supervisors.step_by v rs n unfit_supervisor l).answer ≡ Err (refusal 9 0)
   unfolding Supervisors.step_by
-  serve_nine l = ap (λ (w : Verdict). (Supervisors.step_by w rs n unfit_supervisor l).answer) e ∙ simp (h, supervisor_parts.unfit rs n)
+  serve_nine l = ap (λ (w : Result ⊤ Refusal). (Supervisors.step_by w rs n unfit_supervisor l).answer) e ∙ simp (h, supervisor_parts.unfit rs n)
 
-  given_nine : (g : Parsed) → (Supervisors.deliver_by v rs n unfit_supervisor g).answer ≡ Refused 9 0
+  given_nine : (g : Option Message) → (Supervisors.deliver_by v rs n unfit_supervisor g).answer ≡ Err (refusal 9 0)
   unfolding Supervisors.deliver_by
-  given_nine g = ap (λ (w : Verdict). (Supervisors.deliver_by w rs n unfit_supervisor g).answer) e ∙ simp (h, supervisor_parts.unfit rs n)
+  given_nine g = ap (λ (w : Result ⊤ Refusal). (Supervisors.deliver_by w rs n unfit_supervisor g).answer) e ∙ simp (h, supervisor_parts.unfit rs n)
 
 pub no_state : NoState
 no_state =

@@ -1,7 +1,8 @@
 -- The states that a module's and a supervisor's calls leave can be encoded.
+use Rattle.std.specs.Prelude.{Option, Some, None, Result, Ok, Err, ⊤}
+use Rattle.refusal.specs.declared.Refusal.{Refusal}
 use mathlib.Core.Path.{◌≡◌, refl, ap, subst}
 use mathlib.Core.List.{List}
-use mathlib.Core.Option.{Option, none, some}
 use mathlib.Core.Bool.{Bool, true, false, not, ◌&&◌, false≢true}
 use Prim.Native.Nat.{ℕ, suc, ◌+◌, ◌-◌, ◌%◌, ◌^◌, ◌≤◌, ◌<◌}
 use native.Mathlib.Omega.{arith}
@@ -20,8 +21,6 @@ use Rattle.records.specs.declared.Record.TheVariants.{Supervisor as SupervisorRe
 use Rattle.reader.specs.Walk.{records_of}
 use Rattle.rules.specs.LookUp.{field2, field3, field_of, modules_of, supervisors_of, supervisor_in}
 use Rattle.rules.specs.Check.{verdict_of}
-use Rattle.rules.specs.declared.Verdict.{Verdict}
-use Rattle.rules.specs.declared.Verdict.TheVariants.{Accepted, Refused as CheckRefused}
 use Rattle.rules.proofs.Valid.{both}
 use Rattle.plan.specs.Plan.{supervisor_move, supervisor_initial, neighbours, state_or}
 use Rattle.accepted.specs.Plan.{Sound}
@@ -31,8 +30,6 @@ use Rattle.roundtrip.proofs.Shape.{word_small}
 use Rattle.messages.specs.Message.{bid_size, permit_size, release_size, no_event, short, shaped, parse}
 use Rattle.messages.specs.declared.Message.{Message}
 use Rattle.messages.specs.declared.Message.TheVariants.{Bid, Permit, Release}
-use Rattle.messages.specs.declared.Parsed.{Parsed}
-use Rattle.messages.specs.declared.Parsed.TheVariants.{Whole, Misshapen}
 use Rattle.water.specs.declared.Flow.{Flow}
 use Rattle.modules.specs.Procedure.{respond_of, tick_of}
 use Rattle.modules.specs.Fits.{own_fits}
@@ -53,12 +50,12 @@ use Rattle.party_bytes.specs.Supervisor.{holder_byte, SupervisorEncodable}
 use Rattle.interface_laws.proofs.OwnParts.{choose, turn_encodable, respond_encodable, tick_encodable, start_encodable, empty_encodable}
 
 -- a call on an image that is refused leaves the state, and one on an accepted image has what the plan promises
-pub judged : (image : List ℕ) (P : Verdict → Type 0) → (Sound (records_of image) → P Accepted) → ((n o : ℕ) → P (CheckRefused n o)) → P (verdict_of image)
+pub judged : (image : List ℕ) (P : Result ⊤ Refusal → Type 0) → (Sound (records_of image) → P (Ok tt)) → ((e : Refusal) → P (Err e)) → P (verdict_of image)
 judged image P a r = go (verdict_of image) refl
   where
-    go : (v : Verdict) → verdict_of image ≡ v → P v
-    go Accepted e = a (every_plan image e).sound
-    go (CheckRefused n o) e = r n o
+    go : (v : Result ⊤ Refusal) → verdict_of image ≡ v → P v
+    go (Ok u) e = a (every_plan image e).sound
+    go (Err why) e = r why
 
 -- a bit below k put into a mask of k bits
 put_small : (k m e : ℕ) (on : Bool) → e < k → m < 2 ^ k → put_bit m e on < 2 ^ k
@@ -68,11 +65,11 @@ put_small k m e on l h =
     (λ q. choose (λ (x : ℕ). x < 2 ^ k) on _ _ (λ t. or_lt k m (2 ^ e) h (pow-lt l)) (λ t. lt_of_le_of_lt (and_le_l m (2 ^ 64 - 1 - 2 ^ e)) h)) (λ q. h)
 
 -- the mask of a permit has 64 bits
-abbrev MaskSmall : Parsed → Type 0
-MaskSmall (Whole (Bid m v)) = Unit {0}
-MaskSmall (Whole (Permit v m k)) = k < 2 ^ 64
-MaskSmall (Whole (Release m v e)) = Unit {0}
-MaskSmall Misshapen = Unit {0}
+abbrev MaskSmall : Option Message → Type 0
+MaskSmall (Some (Bid m v)) = Unit {0}
+MaskSmall (Some (Permit v m k)) = k < 2 ^ 64
+MaskSmall (Some (Release m v e)) = Unit {0}
+MaskSmall None = Unit {0}
 
 mask_small : (g : List ℕ) → Bytes g → MaskSmall (parse g)
 unfolding parse
@@ -95,10 +92,10 @@ module _ (rs : List Record) (m : ℕ) (x : Module) (h : ModuleEncodable x) where
   bid_small v b = go (M.missing rs m x.held) refl (and_r x.bid (M.is_for (M.missing rs m x.held) v) (holds _ b))
     where
       go : (o : Option ℕ) → M.missing rs m x.held ≡ o → T (M.is_for o v) → v < 32
-      go none e u = absurd u
-      go (some w) e u = subst (λ (k : ℕ). k < 32) (eqb→eq w v u) (least_some (λ n. bit (neighbours rs m) n && not (bit x.held n)) 32 w e).below
+      go None e u = absurd u
+      go (Some w) e u = subst (λ (k : ℕ). k < 32) (eqb→eq w v u) (least_some (λ n. bit (neighbours rs m) n && not (bit x.held n)) 32 w e).below
 
-  taken : (g : Message) → MaskSmall (Whole g) → Keeps (M.taken_by rs m x g)
+  taken : (g : Message) → MaskSmall (Some g) → Keeps (M.taken_by rs m x g)
   unfolding M.taken_by
   taken (Bid n v) s = h
   taken (Permit v n k) s =
@@ -110,19 +107,19 @@ module _ (rs : List Record) (m : ℕ) (x : Module) (h : ModuleEncodable x) where
       both_true false b q = absurd (false≢true q)
   taken (Release n v e) s = h
 
-  delivered : (p : Parsed) → MaskSmall p → Keeps (M.deliver_by Accepted rs m x p)
+  delivered : (p : Option Message) → MaskSmall p → Keeps (M.deliver_by (Ok tt) rs m x p)
   unfolding M.deliver_by M.deliver_in M.absent
-  delivered Misshapen s = choose Keeps (ltb m (modules_of rs)) _ _ (λ l. choose Keeps (M.module_fits rs m x) _ _ (λ f. h) (λ f. h)) (λ l. h)
-  delivered (Whole g) s =
+  delivered None s = choose Keeps (ltb m (modules_of rs)) _ _ (λ l. choose Keeps (M.module_fits rs m x) _ _ (λ f. h) (λ f. h)) (λ l. h)
+  delivered (Some g) s =
       choose Keeps (ltb m (modules_of rs)) _ _ (λ l. choose Keeps (M.module_fits rs m x) _ _ (λ f. choose Keeps (named rs g) _ _ (λ n. taken g s) (λ n. h)) (λ f. h)) (λ l. h)
 
-  replied : (r : Replied) → (T (own_fits rs m x.own) → OwnEncodable r.own) → Keeps (M.reply_by Accepted rs m x r)
+  replied : (r : Replied) → (T (own_fits rs m x.own) → OwnEncodable r.own) → Keeps (M.reply_by (Ok tt) rs m x r)
   unfolding M.reply_by
   replied r k =
       choose Keeps (ltb m (modules_of rs)) _ _ (λ l. choose Keeps (M.module_fits rs m x) _ _
       (λ f. record { own = k (own_fits_lem rs m x f); held = h.held; received = h.received }) (λ f. h)) (λ l. h)
 
-  stepped : Sound rs → (b : List ℕ) → ModuleEncodable (M.step_by Accepted rs m x b).state
+  stepped : Sound rs → (b : List ℕ) → ModuleEncodable (M.step_by (Ok tt) rs m x b).state
   unfolding M.step_by M.step_in M.state_by
   stepped plan b =
       choose Keep (ltb m (modules_of rs)) _ _ (λ l. choose Keep (M.module_fits rs m x) _ _
@@ -142,7 +139,7 @@ module_started image m =
     judged image (λ v. ModuleEncodable (M.start_by v (records_of image) m).state)
     (λ plan. choose (λ (c : ModuleCalled). ModuleEncodable c.state) (ltb m (modules_of (records_of image))) _ _
     (λ l. record { own = start_encodable (records_of image) plan m (ltb-true m (modules_of (records_of image)) l); held = pow_pos 32; received = pow_pos 64 }) (λ l. empty))
-    (λ n o. empty)
+    (λ e. empty)
   where
     empty : ModuleEncodable M.empty_module
     empty = record { own = empty_encodable; held = pow_pos 32; received = pow_pos 64 }
@@ -150,15 +147,15 @@ module_started image m =
 module _ (image : List ℕ) (m : ℕ) (x : Module) (h : ModuleEncodable x) where
   pub module_stepped_lem : (b : List ℕ) → ModuleEncodable (M.module_step image m x b).state
   unfolding M.step_by
-  module_stepped_lem b = judged image (λ v. ModuleEncodable (M.step_by v (records_of image) m x b).state) (λ plan. stepped (records_of image) m x h plan b) (λ n o. h)
+  module_stepped_lem b = judged image (λ v. ModuleEncodable (M.step_by v (records_of image) m x b).state) (λ plan. stepped (records_of image) m x h plan b) (λ e. h)
 
   pub module_delivered : (g : List ℕ) → Bytes g → ModuleEncodable (M.module_deliver image m x g).state
   unfolding M.deliver_by
-  module_delivered g s = judged image (λ v. ModuleEncodable (M.deliver_by v (records_of image) m x (parse g)).state) (λ plan. delivered (records_of image) m x h (parse g) (mask_small g s)) (λ n o. h)
+  module_delivered g s = judged image (λ v. ModuleEncodable (M.deliver_by v (records_of image) m x (parse g)).state) (λ plan. delivered (records_of image) m x h (parse g) (mask_small g s)) (λ e. h)
 
   module_replied : (r : Replied) → (Sound (records_of image) → T (own_fits (records_of image) m x.own) → OwnEncodable r.own) → ModuleEncodable (M.reply_by (verdict_of image) (records_of image) m x r).state
   unfolding M.reply_by
-  module_replied r k = judged image (λ v. ModuleEncodable (M.reply_by v (records_of image) m x r).state) (λ plan. replied (records_of image) m x h r (k plan)) (λ n o. h)
+  module_replied r k = judged image (λ v. ModuleEncodable (M.reply_by v (records_of image) m x r).state) (λ plan. replied (records_of image) m x h r (k plan)) (λ e. h)
 
   pub module_responded : (e : ℕ) → ModuleEncodable (M.module_respond image m x e).state
   module_responded e = module_replied (respond_of (records_of image) m e x.own) (λ plan t. respond_encodable (records_of image) plan m x.own h.own t e)
@@ -169,15 +166,15 @@ module _ (image : List ℕ) (m : ℕ) (x : Module) (h : ModuleEncodable x) where
 -- ---- supervisors
 
 -- the module that gets the permit
-pub served_small : (y : Supervisor) (m : ℕ) → S.served y ≡ some m → m < 16
+pub served_small : (y : Supervisor) (m : ℕ) → S.served y ≡ Some m → m < 16
 unfolding S.next_noted S.module_after S.served_on
 served_small y m e = holds_at y.holder e
   where
-    in_range_lem : (o : Option ℕ) → S.next_noted y o ≡ some m → m < 16
-    in_range_lem none q = let z : ◌≡◌ {A = ℕ} 0 1 = cc in absurd (omega arith)
-    in_range_lem (some k) q = let z : (y.last + suc k) % 16 ≡ m = cc in omega arith
+    in_range_lem : (o : Option ℕ) → S.next_noted y o ≡ Some m → m < 16
+    in_range_lem None q = let z : ◌≡◌ {A = ℕ} 0 1 = cc in absurd (omega arith)
+    in_range_lem (Some k) q = let z : (y.last + suc k) % 16 ≡ m = cc in omega arith
 
-    holds_at : (a : Holder) → S.served_on y a ≡ some m → m < 16
+    holds_at : (a : Holder) → S.served_on y a ≡ Some m → m < 16
     holds_at Home q = in_range_lem (least (λ k. bit y.noted (S.module_after y.last k)) 16) q
     holds_at (Out n) q = let z : ◌≡◌ {A = ℕ} 0 1 = cc in absurd (omega arith)
 
@@ -202,8 +199,8 @@ module _ (rs : List Record) (plan : Sound rs) where
   moved_byte v st e h = go (supervisor_move rs v st e) refl
     where
       go : (o : Option ℕ) → supervisor_move rs v st e ≡ o → Byte (state_or o st)
-      go none q = h
-      go (some y) q = let k = supervisor_move_lem rs plan v st e y q in omega (arith, k.to, states v k.supervisor)
+      go None q = h
+      go (Some y) q = let k = supervisor_move_lem rs plan v st e y q in omega (arith, k.to, states v k.supervisor)
 
   module _ (v : ℕ) (y : Supervisor) (h : SupervisorEncodable y) where
     abbrev Kept : SupervisorCalled → Type 0
@@ -221,20 +218,20 @@ module _ (rs : List Record) (plan : Sound rs) where
         choose Kept (eqb w v && S.held_by y.holder m) _ _
         (λ q. record { state = choose Byte (eqb e no_event) _ _ (λ a. h.state) (λ a. moved_byte v y.state e h.state); noted = h.noted; holder = lit< tt; last = h.last }) (λ q. h)
 
-    received : (p : Parsed) → Kept (S.deliver_by Accepted rs v y p)
+    received : (p : Option Message) → Kept (S.deliver_by (Ok tt) rs v y p)
     unfolding S.deliver_by S.deliver_in S.absent
-    received Misshapen = choose Kept (ltb v (supervisors_of rs)) _ _ (λ l. choose Kept (S.supervisor_fits rs v y) _ _ (λ f. h) (λ f. h)) (λ l. h)
-    received (Whole g) =
+    received None = choose Kept (ltb v (supervisors_of rs)) _ _ (λ l. choose Kept (S.supervisor_fits rs v y) _ _ (λ f. h) (λ f. h)) (λ l. h)
+    received (Some g) =
         choose Kept (ltb v (supervisors_of rs)) _ _ (λ l. choose Kept (S.supervisor_fits rs v y) _ _ (λ f. choose Kept (named rs g) _ _ (λ n. takes g n) (λ n. h)) (λ f. h)) (λ l. h)
 
     sent : (o : Option ℕ) → S.served y ≡ o → SupervisorEncodable (S.state_by y o)
     unfolding S.state_by holder_byte
-    sent none e = h
-    sent (some m) e =
+    sent None e = h
+    sent (Some m) e =
         let l : m < 16 = served_small y m e in
         record { state = h.state; noted = put_small 16 y.noted m false l h.noted; holder = omega arith; last = omega arith }
 
-    serves : (b : List ℕ) → SupervisorEncodable (S.step_by Accepted rs v y b).state
+    serves : (b : List ℕ) → SupervisorEncodable (S.step_by (Ok tt) rs v y b).state
     unfolding S.step_by S.step_in
     serves b =
         choose Keep (ltb v (supervisors_of rs)) _ _ (λ l. choose Keep (S.supervisor_fits rs v y) _ _
@@ -249,7 +246,7 @@ supervisor_started image v =
     judged image (λ a. SupervisorEncodable (S.start_by a (records_of image) v).state)
     (λ plan. choose (λ (c : SupervisorCalled). SupervisorEncodable c.state) (ltb v (supervisors_of (records_of image))) _ _
     (λ l. record { state = initial_byte (records_of image) plan v (ltb-true v (supervisors_of (records_of image)) l); noted = pow_pos 16; holder = lit< tt; last = lit< tt }) (λ l. empty))
-    (λ n o. empty)
+    (λ e. empty)
   where
     empty : SupervisorEncodable S.empty_supervisor
     empty = record { state = lit< tt; noted = pow_pos 16; holder = lit< tt; last = lit< tt }
@@ -257,8 +254,8 @@ supervisor_started image v =
 module _ (image : List ℕ) (v : ℕ) (y : Supervisor) (h : SupervisorEncodable y) where
   pub supervisor_stepped_lem : (b : List ℕ) → SupervisorEncodable (S.supervisor_step image v y b).state
   unfolding S.step_by
-  supervisor_stepped_lem b = judged image (λ a. SupervisorEncodable (S.step_by a (records_of image) v y b).state) (λ plan. serves (records_of image) plan v y h b) (λ n o. h)
+  supervisor_stepped_lem b = judged image (λ a. SupervisorEncodable (S.step_by a (records_of image) v y b).state) (λ plan. serves (records_of image) plan v y h b) (λ e. h)
 
   pub supervisor_delivered : (g : List ℕ) → SupervisorEncodable (S.supervisor_deliver image v y g).state
   unfolding S.deliver_by
-  supervisor_delivered g = judged image (λ a. SupervisorEncodable (S.deliver_by a (records_of image) v y (parse g)).state) (λ plan. received (records_of image) plan v y h (parse g)) (λ n o. h)
+  supervisor_delivered g = judged image (λ a. SupervisorEncodable (S.deliver_by a (records_of image) v y (parse g)).state) (λ plan. received (records_of image) plan v y h (parse g)) (λ e. h)

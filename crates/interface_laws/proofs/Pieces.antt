@@ -4,7 +4,7 @@ use mathlib.Core.List.{List, [], ◌∷◌}
 use Prim.Native.Nat.{ℕ, ◌≤◌}
 use lib.ListN.{length, take, drop}
 use lib.Seq.{take_at}
-use Rattle.pieces.specs.Pieces.{starting, piece_taken, pieces_taken, joined}
+use Rattle.pieces.specs.Pieces.{starting, piece_taken, pieces_taken}
 use Rattle.pieces.specs.declared.CheckState.{CheckState}
 use Rattle.pieces.proofs.Cut.{cut_anywhere}
 use Rattle.piece_bytes.specs.State.{state_at, state_bytes, StateEncodable}
@@ -12,9 +12,9 @@ use Rattle.piece_bytes.proofs.Parts.{parts as state-parts}
 use Rattle.piece_laws.specs.Laws.{AllBytes}
 use Rattle.piece_laws.proofs.Encodable.{stays_encodable}
 use Rattle.refusals.proofs.Refusals.{refusals}
-use Rattle.packing.specs.Answer.{Answer, done, verdict_answer}
-use Rattle.piece_interface.specs.Calls.{check_start_bytes, check_piece_bytes, check_answer_bytes}
-use Rattle.interface_laws.specs.Pieces.{check_started, check_run, AllTaken, Cut, CutBytes, AnyAnswer}
+use Rattle.packing.specs.Answer.{Answer, done, called_answer}
+use Rattle.piece_interface.specs.Calls.{check_answer_bytes}
+use Rattle.interface_laws.specs.Pieces.{check_started, check_run, AllTaken, CutBytes, AnyAnswer}
 use Rattle.interface_laws.proofs.Numbers.{of_check}
 use Rattle.interface_laws.proofs.SameCalls.{same_calls}
 
@@ -51,7 +51,7 @@ cut_bytes l ps n a =
       started = ap (λ (x : Answer). x.number) (same_calls.check_start l n);
       taken = subst (λ (s : List ℕ). AllTaken (check_run s ps).answers) (sym (started l n)) r.taken;
       kept = ap length m ∙ state-parts.size (pieces_taken starting ps) r.encodable;
-      answer = ap check_answer_bytes m ∙ same_calls.check_answer (pieces_taken starting ps) r.encodable ∙ ap verdict_answer (cut_anywhere ps);
+      answer = ap check_answer_bytes m ∙ same_calls.check_answer (pieces_taken starting ps) r.encodable ∙ ap called_answer (cut_anywhere ps);
     }
 
 pub any_answer : AnyAnswer

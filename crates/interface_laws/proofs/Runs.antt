@@ -1,22 +1,20 @@
 -- Lists of calls over bytes and the same lists on states by value, call by call, over states that can be encoded.
+use Rattle.std.specs.Prelude.{Option, Some, None, Result, ⊤}
+use Rattle.refusal.specs.declared.Refusal.{Refusal}
+use Rattle.messages.specs.declared.Message.{Message}
 use mathlib.Core.Path.{◌≡◌, refl, ap, ap₂, ◌∙◌, fun_ext}
 use mathlib.Core.List.{List, [], ◌∷◌, ◌++◌, map}
-use mathlib.Core.Option.{Option, none, some}
 use mathlib.Core.Bool.{Bool, true, false, cond}
 use Prim.Native.Nat.{ℕ, zero, suc}
 use lib.ListN.{replicate}
 use lib.Dec.{eqb}
 use Rattle.reader.specs.Walk.{records_of}
 use Rattle.rules.specs.Check.{IsPlan}
-use Rattle.rules.specs.declared.Verdict.{Verdict}
 use Rattle.roundtrip.specs.Fits.{Bytes}
 use Rattle.water.specs.declared.Flow.{Flow}
 use Rattle.water.specs.declared.Flow.TheVariants.{Litres, NoSensor}
 use Rattle.messages.specs.Message.{parse}
 use Rattle.messages.specs.declared.Message.TheVariants.{Bid, Permit, Release}
-use Rattle.messages.specs.declared.Parsed.{Parsed}
-use Rattle.messages.specs.declared.Parsed.TheVariants.{Whole, Misshapen}
-use Rattle.modules.specs.declared.Called.{Called}
 use Rattle.device.specs.Device.{tick_call, start_by, start_call}
 use Rattle.device_states.specs.declared.Device.{Device}
 use Rattle.permits.specs.Module as M
@@ -99,8 +97,8 @@ all_marked zero (g ∷ w) h = h
 all_marked (suc k) (g ∷ w) h = (h.0, all_marked k w h.1)
 
 abbrev BroughtBytes : Option (List ℕ) → Type 0
-BroughtBytes none = Unit {0}
-BroughtBytes (some g) = Bytes g
+BroughtBytes None = Unit {0}
+BroughtBytes (Some g) = Bytes g
 
 brought_bytes : (k : ℕ) (w : List Sent) → AllSentBytes w → BroughtBytes (brought k w)
 unfolding at once
@@ -108,7 +106,7 @@ brought_bytes zero [] h = tt
 brought_bytes (suc k) [] h = tt
 brought_bytes zero (g ∷ w) h = go g.delivered
   where
-    go : (d : Bool) → BroughtBytes (cond d none (some g.bytes))
+    go : (d : Bool) → BroughtBytes (cond d None (Some g.bytes))
     go true = tt
     go false = h.0
 brought_bytes (suc k) (g ∷ w) h = brought_bytes k w h.1
@@ -132,32 +130,32 @@ module _ (image : List ℕ) (D : System) (h : SystemEncodable D) where
   supervisor_got v g w =
       ap (λ (a : Answer). on_supervisor (encoded D) v a w) (same_calls.supervisor_deliver image v (D.supervisor_at v) g (h.supervisors v)) ∙ on_supervisor_lem D v _ _ _ w
 
-  message_same : (g : List ℕ) (w : List Sent) → Bytes g → (p : Parsed)
+  message_same : (g : List ℕ) (w : List Sent) → Bytes g → (p : Option Message)
       → bytes_delivered image (encoded D) g w p ≡ record { answers = delivery_answers image D g p; memory = encoded (delivered image D g w p) }
   unfolding bytes_delivered delivery_answers delivered
-  message_same g w b (Whole (Bid m v)) = supervisor_got v g w
-  message_same g w b (Whole (Permit v m k)) =
+  message_same g w b (Some (Bid m v)) = supervisor_got v g w
+  message_same g w b (Some (Permit v m k)) =
       ap (λ (a : Answer). on_module (encoded D) m a w) (same_calls.module_deliver image m (D.module_at m) g b (h.modules m)) ∙ on_module_lem D m _ _ _ w
-  message_same g w b (Whole (Release m v e)) = supervisor_got v g w
-  message_same g w b Misshapen = refl
+  message_same g w b (Some (Release m v e)) = supervisor_got v g w
+  message_same g w b None = refl
 
-  message_encodable : (g : List ℕ) (w : List Sent) → Bytes g → AllSentBytes w → (p : Parsed) → SystemEncodable (delivered image D g w p)
+  message_encodable : (g : List ℕ) (w : List Sent) → Bytes g → AllSentBytes w → (p : Option Message) → SystemEncodable (delivered image D g w p)
   unfolding delivered
-  message_encodable g w b s (Whole (Bid m v)) = with_supervisor_lem v _ w (all_encodable.supervisor_deliver image v (D.supervisor_at v) g (h.supervisors v)) s
-  message_encodable g w b s (Whole (Permit v m k)) = with_module_lem m _ w (all_encodable.module_deliver image m (D.module_at m) g b (h.modules m)) s
-  message_encodable g w b s (Whole (Release m v e)) = with_supervisor_lem v _ w (all_encodable.supervisor_deliver image v (D.supervisor_at v) g (h.supervisors v)) s
-  message_encodable g w b s Misshapen = record { modules = h.modules; supervisors = h.supervisors; messages = s }
+  message_encodable g w b s (Some (Bid m v)) = with_supervisor_lem v _ w (all_encodable.supervisor_deliver image v (D.supervisor_at v) g (h.supervisors v)) s
+  message_encodable g w b s (Some (Permit v m k)) = with_module_lem m _ w (all_encodable.module_deliver image m (D.module_at m) g b (h.modules m)) s
+  message_encodable g w b s (Some (Release m v e)) = with_supervisor_lem v _ w (all_encodable.supervisor_deliver image v (D.supervisor_at v) g (h.supervisors v)) s
+  message_encodable g w b s None = record { modules = h.modules; supervisors = h.supervisors; messages = s }
 
   delivery_same : (k : ℕ) (o : Option (List ℕ)) → BroughtBytes o
       → bytes_delivered_at image (encoded D) k o ≡ record { answers = brought_answers image D o; memory = encoded (delivered_at image D k o) }
   unfolding bytes_delivered_at brought_answers delivered_at
-  delivery_same k none b = refl
-  delivery_same k (some g) b = message_same g (mark k D.sent) b (parse g)
+  delivery_same k None b = refl
+  delivery_same k (Some g) b = message_same g (mark k D.sent) b (parse g)
 
   delivery_encodable : (k : ℕ) (o : Option (List ℕ)) → BroughtBytes o → SystemEncodable (delivered_at image D k o)
   unfolding delivered_at
-  delivery_encodable k none b = h
-  delivery_encodable k (some g) b = message_encodable g (mark k D.sent) b (all_marked k D.sent h.messages) (parse g)
+  delivery_encodable k None b = h
+  delivery_encodable k (Some g) b = message_encodable g (mark k D.sent) b (all_marked k D.sent h.messages) (parse g)
 
   module _ (accepted : IsPlan image) where
     pub step_same : (a : Act) → Lent a → bytes_step image (encoded D) a ≡ record { answers = act_answers image D a; memory = encoded (step image D a) }
@@ -255,7 +253,7 @@ module _ (image : List ℕ) (accepted : IsPlan image) where
   pub device_start_lem : device_bytes_start image ≡ device_bytes (start_call image).device
   unfolding device_bytes_start DeviceCalls.start_bytes start_by
   device_start_lem =
-      ap (λ (c : Called). (start_answer device_size c (device_bytes (start_call image).device) (replicate device_size 0)).buffer) (ap (λ (v : Verdict). (start_by v (records_of image)).answer) accepted)
+      ap (λ (c : Result ⊤ Refusal). (start_answer device_size c (device_bytes (start_call image).device) (replicate device_size 0)).buffer) (ap (λ (v : Result ⊤ Refusal). (start_by v (records_of image)).answer) accepted)
       ∙ in_zeros device_size (device_bytes (start_call image).device) (device_parts.size (start_call image).device (all_encodable.device_start image))
 
 pub decoded_encoded : (D : System) → SystemEncodable D → decoded (encoded D) ≡ D

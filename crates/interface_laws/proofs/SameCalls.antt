@@ -1,4 +1,7 @@
 -- `SameCalls` of specs/SameCalls.antt.
+use Rattle.refusal.specs.Refusal.{refused_number}
+use Rattle.std.specs.Prelude.{Result, Ok, Err, ⊤}
+use Rattle.refusal.specs.declared.Refusal.{Refusal}
 use mathlib.Core.Path.{◌≡◌, refl, sym, ap, ◌∙◌}
 use mathlib.Core.Logic.{◌≢◌}
 use mathlib.Core.List.{List, [], ◌++◌}
@@ -16,12 +19,7 @@ use Rattle.words.specs.Word.{quad_bytes, word_bytes}
 use Rattle.fields.specs.Fields.{half_bytes}
 use Rattle.own_bytes.specs.Own.{procedure_bytes, own_bytes}
 use Rattle.messages.specs.Message.{put_at}
-use Rattle.modules.specs.Numbers.{called_number}
-use Rattle.modules.specs.declared.Called.{Called}
-use Rattle.modules.specs.declared.Called.TheVariants.{Done, Refused}
-use Rattle.device.specs.Numbers.{turning_number}
 use Rattle.device.specs.Device.{start_call, turn_call, respond_call, tick_call}
-use Rattle.permits.specs.Numbers.{stepped_number, served_number}
 use Rattle.permits.specs.Module as M
 use Rattle.permits.specs.Module.{StepCall, module_step}
 use Rattle.permits.specs.Supervisor as S
@@ -45,7 +43,7 @@ use Rattle.piece_bytes.specs.State.{state_bytes, StateEncodable}
 use Rattle.piece_bytes.proofs.Parts.{parts as state-parts}
 use Rattle.piece_laws.proofs.Encodable.{stays_encodable}
 use Rattle.piece_interface.specs.Calls.{check_start_bytes, check_piece_bytes, check_answer_bytes}
-use Rattle.packing.specs.Answer.{Answer, done, verdict_answer, called_answer, turning_answer, stepped_answer, served_answer, lent_after, start_answer}
+use Rattle.packing.specs.Answer.{Answer, done, called_answer, turning_answer, stepped_answer, served_answer, lent_after, start_answer}
 use Rattle.packing.specs.Flow.{flow_of}
 use Rattle.packing.proofs.InPlace.{over, put_over}
 use Rattle.device_interface.specs.Calls as DeviceCalls
@@ -75,11 +73,11 @@ module _ (n : ℕ) (x z : Module) (h : ModuleEncodable x) (k : ModuleEncodable z
       after_call n (put_at (module_bytes z) 0 (module_bytes x)) (module_bytes x) (module_bytes z)
       (put_over (module_bytes z) (module_bytes x) (module_parts.size z k.own.cells ∙ sym (module_parts.size x h.own.cells))) (λ e. ap module_bytes (r e))
 
-module_called : (x : Module) (h : ModuleEncodable x) (call : Module → ModuleCalled) → ModuleEncodable (call x).state → (called_number (call x).answer ≢ 0 → (call x).state ≡ x)
+module_called : (x : Module) (h : ModuleEncodable x) (call : Module → ModuleCalled) → ModuleEncodable (call x).state → (refused_number (call x).answer ≢ 0 → (call x).state ≡ x)
     → ModuleCalls.called_on (call (module_of (module_bytes x))) (module_bytes x) ≡ module_answer (call x)
 module_called x h call k r =
     ap (λ (y : Module). ModuleCalls.called_on (call y) (module_bytes x)) (exact.module_again x h)
-    ∙ ap (λ (s : List ℕ). record { number = called_answer (call x).answer; state = s; buffer = [] }) (module_left (called_number (call x).answer) x (call x).state h k r)
+    ∙ ap (λ (s : List ℕ). record { number = called_answer (call x).answer; state = s; buffer = [] }) (module_left (refused_number (call x).answer) x (call x).state h k r)
 
 module_stepped_lem : (image : List ℕ) (m : ℕ) (x : Module) (b : List ℕ) → ModuleEncodable x → ModuleCalls.step_bytes image (module_bytes x) m b ≡ step_answer (module_step image m x b)
 unfolding ModuleCalls.step_bytes
@@ -87,7 +85,7 @@ module_stepped_lem image m x b h =
     let c : StepCall = module_step image m x b in
     ap (λ (y : Module). ModuleCalls.step_on (module_step image m y b) (module_bytes x)) (exact.module_again x h)
     ∙ ap (λ (s : List ℕ). record { number = stepped_answer c.answer; state = s; buffer = c.buffer })
-    (module_left (stepped_number c.answer) x c.state h (all_encodable.module_step image m x b h) (refusals.modules.step image m x b).state)
+    (module_left (refused_number c.answer) x c.state h (all_encodable.module_step image m x b h) (refusals.modules.step image m x b).state)
 
 -- ---- supervisors
 
@@ -102,7 +100,7 @@ unfolding SupervisorCalls.deliver_bytes
 supervisor_called image v y g h =
     let c : SupervisorCalled = supervisor_deliver image v y g in
     ap (λ (z : Supervisor). SupervisorCalls.called_on (supervisor_deliver image v z g) (supervisor_bytes y)) (exact.supervisor_again y h)
-    ∙ ap (λ (s : List ℕ). record { number = called_answer c.answer; state = s; buffer = [] }) (supervisor_left (called_number c.answer) y c.state (refusals.supervisors.deliver image v y g).state)
+    ∙ ap (λ (s : List ℕ). record { number = called_answer c.answer; state = s; buffer = [] }) (supervisor_left (refused_number c.answer) y c.state (refusals.supervisors.deliver image v y g).state)
 
 supervisor_stepped_lem : (image : List ℕ) (v : ℕ) (y : Supervisor) (b : List ℕ) → SupervisorEncodable y → SupervisorCalls.step_bytes image (supervisor_bytes y) v b ≡ serve_answer (supervisor_step image v y b)
 unfolding SupervisorCalls.step_bytes
@@ -110,7 +108,7 @@ supervisor_stepped_lem image v y b h =
     let c : ServeCall = supervisor_step image v y b in
     ap (λ (z : Supervisor). SupervisorCalls.step_on (supervisor_step image v z b) (supervisor_bytes y)) (exact.supervisor_again y h)
     ∙ ap (λ (s : List ℕ). record { number = served_answer c.answer; state = s; buffer = c.buffer })
-    (supervisor_left (served_number c.answer) y c.state (refusals.supervisors.step image v y b).state)
+    (supervisor_left (refused_number c.answer) y c.state (refusals.supervisors.step image v y b).state)
 
 -- ---- one device
 
@@ -120,11 +118,11 @@ module _ (n : ℕ) (d z : Device) (h : DeviceEncodable d) (k : DeviceEncodable z
       after_call n (device_put z (device_bytes d)) (device_bytes d) (device_bytes z)
       (put_device z (device_bytes d) (device_parts.size d h) (device_parts.size z k)) (λ e. ap device_bytes (r e))
 
-device_called : (d : Device) (h : DeviceEncodable d) (call : Device → DeviceCalled) → DeviceEncodable (call d).device → (called_number (call d).answer ≢ 0 → (call d).device ≡ d)
+device_called : (d : Device) (h : DeviceEncodable d) (call : Device → DeviceCalled) → DeviceEncodable (call d).device → (refused_number (call d).answer ≢ 0 → (call d).device ≡ d)
     → DeviceCalls.called_on (call (device_of (device_bytes d))) (device_bytes d) ≡ device_answer (call d)
 device_called d h call k r =
     ap (λ (y : Device). DeviceCalls.called_on (call y) (device_bytes d)) (exact.device_again d h)
-    ∙ ap (λ (s : List ℕ). record { number = called_answer (call d).answer; state = s; buffer = [] }) (device_left (called_number (call d).answer) d (call d).device h k r)
+    ∙ ap (λ (s : List ℕ). record { number = called_answer (call d).answer; state = s; buffer = [] }) (device_left (refused_number (call d).answer) d (call d).device h k r)
 
 device_turned : (image : List ℕ) (d : Device) (m : ℕ) → DeviceEncodable d → DeviceCalls.turn_bytes image (device_bytes d) m ≡ device_turn_answer (turn_call image d m)
 unfolding DeviceCalls.turn_bytes
@@ -132,23 +130,23 @@ device_turned image d m h =
     let c : DeviceTurned = turn_call image d m in
     ap (λ (z : Device). DeviceCalls.turned_on (turn_call image z m) (device_bytes d)) (exact.device_again d h)
     ∙ ap (λ (s : List ℕ). record { number = turning_answer c.answer; state = s; buffer = [] })
-    (device_left (turning_number c.answer) d c.device h (all_encodable.device_turn image d m h) (refusals.device.turn image d m).state)
+    (device_left (refused_number c.answer) d c.device h (all_encodable.device_turn image d m h) (refusals.device.turn image d m).state)
 
 -- ---- starts
 
-started : (size : ℕ) (c : Called) (bytes l : List ℕ) → size ≤ length l → length bytes ≡ size → start_answer size c bytes l ≡ started_answer size c bytes l
+started : (size : ℕ) (c : Result ⊤ Refusal) (bytes l : List ℕ) → size ≤ length l → length bytes ≡ size → start_answer size c bytes l ≡ started_answer size c bytes l
 unfolding start_answer
-started size Done bytes l h s =
+started size (Ok u) bytes l h s =
     let room : ltb (length l) size ≡ false = le-ltb (length l) size h in
     simp room (ap (λ (k : ℕ). record { number = done 0 0 size; state = []; buffer = bytes ++ drop k l }) s)
-started size (Refused n o) bytes l h s = refl
+started size (Err e) bytes l h s = refl
 
 -- in zeros of just its size
-pub in_zeros : (size : ℕ) (bytes : List ℕ) → length bytes ≡ size → (start_answer size Done bytes (replicate size 0)).buffer ≡ bytes
+pub in_zeros : (size : ℕ) (bytes : List ℕ) → length bytes ≡ size → (start_answer size (Ok tt) bytes (replicate size 0)).buffer ≡ bytes
 in_zeros size bytes s =
     let z : List ℕ = replicate size 0 in
     let l : length z ≡ size = length-replicate {A = ℕ} size 0 in
-    ap (λ (a : Answer). a.buffer) (started size Done bytes z (omega arith) s) ∙ ap (λ (k : ℕ). bytes ++ drop k z) (sym s) ∙ over bytes z (s ∙ sym l)
+    ap (λ (a : Answer). a.buffer) (started size (Ok tt) bytes z (omega arith) s) ∙ ap (λ (k : ℕ). bytes ++ drop k z) (sym s) ∙ over bytes z (s ∙ sym l)
 
 -- the all-zero states are zeros
 zero_float : to_bits binary64 (eighths 0) ≡ 0
@@ -170,7 +168,7 @@ module_zeros_lem image m =
     (λ plan. choose Zeros (ltb m (modules_of (records_of image))) _ _
     (λ l. in_zeros module_size (module_bytes (M.start_module (records_of image) m)) (module_parts.size (M.start_module (records_of image) m) (start_encodable (records_of image) plan m (ltb-true m (modules_of (records_of image)) l)).cells))
     (λ l. module_zero))
-    (λ n o. module_zero)
+    (λ e. module_zero)
   where
     Zeros : ModuleCalled → Type 0
     Zeros c = (start_answer module_size c.answer (module_bytes c.state) (replicate module_size 0)).buffer ≡ module_bytes c.state
@@ -182,7 +180,7 @@ supervisor_zeros_lem image v =
     (λ plan. choose Zeros (ltb v (supervisors_of (records_of image))) _ _
     (λ l. in_zeros supervisor_size (supervisor_bytes (S.start_supervisor (records_of image) v)) (supervisor_parts.size (S.start_supervisor (records_of image) v)))
     (λ l. supervisor_zero))
-    (λ n o. supervisor_zero)
+    (λ e. supervisor_zero)
   where
     Zeros : SupervisorCalled → Type 0
     Zeros c = (start_answer supervisor_size c.answer (supervisor_bytes c.state) (replicate supervisor_size 0)).buffer ≡ supervisor_bytes c.state
@@ -194,9 +192,9 @@ module _ (k : CheckState) where
   unfolding check_piece_bytes
   piece_taken_lem p h = simp (state-parts.stands k h) (ap (λ (x : CheckState). taken_answer (piece_taken x p)) (state-parts.back k h))
 
-  answer_given : StateEncodable k → check_answer_bytes (state_bytes k) ≡ verdict_answer (verdict_by k)
+  answer_given : StateEncodable k → check_answer_bytes (state_bytes k) ≡ called_answer (verdict_by k)
   unfolding check_answer_bytes
-  answer_given h = simp (state-parts.stands k h) (ap (λ (x : CheckState). verdict_answer (verdict_by x)) (state-parts.back k h))
+  answer_given h = simp (state-parts.stands k h) (ap (λ (x : CheckState). called_answer (verdict_by x)) (state-parts.back k h))
 
 pub same_calls : SameCalls
 same_calls =
@@ -224,7 +222,7 @@ same_calls =
       module_zeros = module_zeros_lem;
       supervisor_zeros = supervisor_zeros_lem;
       check_start = λ l h. unfold check_start_bytes in
-          started 495 Done (state_bytes starting) l h (state-parts.size starting stays_encodable.start);
+          started 495 (Ok tt) (state_bytes starting) l h (state-parts.size starting stays_encodable.start);
       check_piece = piece_taken_lem;
       check_answer = answer_given;
     }

@@ -1,7 +1,8 @@
 -- What is sent by the number of a step's answer is what demand 3 takes to be sent, and it is bytes.
+use Rattle.std.specs.Prelude.{Option, Some, None, Result, Ok, Err, ⊤}
+use Rattle.refusal.specs.declared.Refusal.{Refusal}
 use mathlib.Core.Path.{◌≡◌, refl, sym, ap, ◌∙◌, subst}
 use mathlib.Core.List.{List, [], ◌∷◌}
-use mathlib.Core.Option.{Option, none, some}
 use mathlib.Core.Bool.{Bool, true, false, cond, not, ◌&&◌}
 use Prim.Native.Nat.{ℕ, zero, suc, ◌+◌, ◌*◌, ◌/◌, ◌%◌, ◌^◌, ◌≤◌, ◌<◌}
 use native.Mathlib.Omega.{arith}
@@ -16,8 +17,6 @@ use Rattle.records.specs.declared.Record.{Record}
 use Rattle.reader.specs.Walk.{records_of}
 use Rattle.rules.specs.LookUp.{modules_of, supervisors_of}
 use Rattle.rules.specs.Check.{IsPlan}
-use Rattle.rules.specs.declared.Verdict.{Verdict}
-use Rattle.rules.specs.declared.Verdict.TheVariants.{Accepted}
 use Rattle.plan.specs.Plan.{neighbours, in_alphabet, shown}
 use Rattle.accepted.specs.Plan.{Sound}
 use Rattle.accepted.proofs.Accepted.{every_plan}
@@ -28,17 +27,15 @@ use Rattle.messages.specs.declared.Message.TheVariants.{Bid, Permit, Release}
 use Rattle.modules.specs.Queue.{response_at}
 use Rattle.modules.specs.Turn.{has_move, turn_of}
 use Rattle.modules.specs.declared.Own.{Own}
-use Rattle.modules.specs.declared.Turn.{Turn}
-use Rattle.modules.specs.declared.Turn.TheVariants.{Event, Nothing}
 use Rattle.permits.specs.Step.{bytes_of_messages}
 use Rattle.permits.specs.Module as M
 use Rattle.permits.specs.Supervisor as S
 use Rattle.permits.specs.declared.Module.{Module}
 use Rattle.permits.specs.declared.Supervisor.{Supervisor}
 use Rattle.permits.specs.declared.Stepped.{Stepped}
-use Rattle.permits.specs.declared.Stepped.TheVariants.{Turns, Bids, Waits, Refused}
+use Rattle.permits.specs.declared.Stepped.TheVariants.{Turns, Bids, Waits}
 use Rattle.permits.specs.declared.Served.{Served}
-use Rattle.permits.specs.declared.Served.TheVariants.{Sends, Waits as ServedWaits, Refused as ServeRefused}
+use Rattle.permits.specs.declared.Served.TheVariants.{Sends, Waits as ServedWaits}
 use Rattle.permits.proofs.Stepping.{bytes_append}
 use Rattle.turn_laws.proofs.Turn.{turn_cases, move_below}
 use Rattle.refusals.specs.Table.{InTable}
@@ -54,20 +51,20 @@ use Rattle.interface_laws.proofs.Parties.{served_small}
 
 -- ---- an answer whose parts have room in its number
 
-abbrev pub TurnSmall : Turn → Type 0
-TurnSmall (Event e) = Byte e
-TurnSmall Nothing = Unit {0}
+abbrev pub TurnSmall : Option ℕ → Type 0
+TurnSmall (Some e) = Byte e
+TurnSmall None = Unit {0}
 
-abbrev pub StepSmall : Stepped → Type 0
-StepSmall (Turns t n) = TurnSmall t × (n < 2 ^ 32)
-StepSmall (Bids v n) = Byte v × (n < 2 ^ 32)
-StepSmall Waits = Unit {0}
-StepSmall (Refused n o) = InTable n
+abbrev pub StepSmall : Result Stepped Refusal → Type 0
+StepSmall (Ok (Turns t n)) = TurnSmall t × (n < 2 ^ 32)
+StepSmall (Ok (Bids v n)) = Byte v × (n < 2 ^ 32)
+StepSmall (Ok Waits) = Unit {0}
+StepSmall (Err e) = InTable e.number
 
-abbrev ServeSmall : Served → Type 0
-ServeSmall (Sends m n) = Byte m × (n < 2 ^ 32)
-ServeSmall ServedWaits = Unit {0}
-ServeSmall (ServeRefused n o) = InTable n
+abbrev ServeSmall : Result Served Refusal → Type 0
+ServeSmall (Ok (Sends m n)) = Byte m × (n < 2 ^ 32)
+ServeSmall (Ok ServedWaits) = Unit {0}
+ServeSmall (Err e) = InTable e.number
 
 module _ (s b : List ℕ) where
   -- of an accepted step by what was done, of what, and the bytes written
@@ -89,10 +86,10 @@ module _ (s b : List ℕ) where
     unfolding supervisor_sends
     by_supervisor = simp (its.number, its.did, size)
 
-  turn_sends : (t : Turn) (n : ℕ) → TurnSmall t → n < 2 ^ 32 → module_sends (record { number = turn_answer t n; state = s; buffer = b }) ≡ pieces release_size (n / release_size) b
+  turn_sends : (t : Option ℕ) (n : ℕ) → TurnSmall t → n < 2 ^ 32 → module_sends (record { number = turn_answer t n; state = s; buffer = b }) ≡ pieces release_size (n / release_size) b
   unfolding turn_answer
-  turn_sends (Event e) n h l = by_module 1 e n (lit< tt) h l
-  turn_sends Nothing n h l = by_module 3 0 n (lit< tt) (lit< tt) l
+  turn_sends (Some e) n h l = by_module 1 e n (lit< tt) h l
+  turn_sends None n h l = by_module 3 0 n (lit< tt) (lit< tt) l
 
   module _ (n o : ℕ) (t : InTable n) where
     its_number : packed n 0 0 o % 256 ≡ n
@@ -109,18 +106,18 @@ module _ (s b : List ℕ) where
     unfolding supervisor_sends
     none_by_supervisor = simp (its_number, not_taken)
 
-  pub module_sends_lem : (a : Stepped) → StepSmall a → module_sends (record { number = stepped_answer a; state = s; buffer = b }) ≡ wrote a b
+  pub module_sends_lem : (a : Result Stepped Refusal) → StepSmall a → module_sends (record { number = stepped_answer a; state = s; buffer = b }) ≡ wrote a b
   unfolding stepped_answer wrote
-  module_sends_lem (Turns t n) h = turn_sends t n h.0 h.1
-  module_sends_lem (Bids v n) h = by_module 4 v n (lit< tt) h.0 h.1
-  module_sends_lem Waits h = by_module 6 0 0 (lit< tt) (lit< tt) (lit< tt) ∙ (unfold pieces in refl)
-  module_sends_lem (Refused n o) h = none_by_module n o h
+  module_sends_lem (Ok (Turns t n)) h = turn_sends t n h.0 h.1
+  module_sends_lem (Ok (Bids v n)) h = by_module 4 v n (lit< tt) h.0 h.1
+  module_sends_lem (Ok Waits) h = by_module 6 0 0 (lit< tt) (lit< tt) (lit< tt) ∙ (unfold pieces in refl)
+  module_sends_lem (Err e) h = none_by_module e.number e.offset h
 
-  pub supervisor_sends_lem : (a : Served) → ServeSmall a → supervisor_sends (record { number = served_answer a; state = s; buffer = b }) ≡ wrote_out a b
+  pub supervisor_sends_lem : (a : Result Served Refusal) → ServeSmall a → supervisor_sends (record { number = served_answer a; state = s; buffer = b }) ≡ wrote_out a b
   unfolding served_answer wrote_out
-  supervisor_sends_lem (Sends m n) h = by_supervisor 5 m n (lit< tt) h.0 h.1
-  supervisor_sends_lem ServedWaits h = by_supervisor 6 0 0 (lit< tt) (lit< tt) (lit< tt)
-  supervisor_sends_lem (ServeRefused n o) h = none_by_supervisor n o h
+  supervisor_sends_lem (Ok (Sends m n)) h = by_supervisor 5 m n (lit< tt) h.0 h.1
+  supervisor_sends_lem (Ok ServedWaits) h = by_supervisor 6 0 0 (lit< tt) (lit< tt) (lit< tt)
+  supervisor_sends_lem (Err e) h = none_by_supervisor e.number e.offset h
 
 -- ---- what is sent are bytes
 
@@ -177,12 +174,12 @@ turn_small rs m k own =
     response e h = let b : e < 64 = move_below rs m own.state e h in omega arith
 
 module _ (rs : List Record) (plan : Sound rs) (m : ℕ) where
-  event_byte : (v : ℕ) (t : Turn) → TurnSmall t → Byte (M.event_for rs v t)
+  event_byte : (v : ℕ) (t : Option ℕ) → TurnSmall t → Byte (M.event_for rs v t)
   unfolding M.event_for
-  event_byte v (Event e) h = choose Byte (in_alphabet rs v e) _ _ (λ a. h) (λ a. lit< tt)
-  event_byte v Nothing h = lit< tt
+  event_byte v (Some e) h = choose Byte (in_alphabet rs v e) _ _ (λ a. h) (λ a. lit< tt)
+  event_byte v None h = lit< tt
 
-  releases_bytes : (t : Turn) → TurnSmall t → Byte m → (n : ℕ) → n ≤ 32 → Bytes (bytes_of_messages (M.releases rs m t n))
+  releases_bytes : (t : Option ℕ) → TurnSmall t → Byte m → (n : ℕ) → n ≤ 32 → Bytes (bytes_of_messages (M.releases rs m t n))
   unfolding M.releases_in
   releases_bytes t h b zero l = unfold bytes_of_messages in bytes_none
   releases_bytes t h b (suc n) l =
@@ -195,15 +192,15 @@ module _ (rs : List Record) (plan : Sound rs) (m : ℕ) where
       last = cond (bit (neighbours rs m) n) (Release m n (M.event_for rs n t) ∷ []) []
 
   -- an accepted bid is to one of the 32 supervisors
-  bid_to : (o : Option ℕ) (n b h w : Bool) (v : ℕ) → M.choice_on o n b h w ≡ M.bids_to v → o ≡ some v
+  bid_to : (o : Option ℕ) (n b h w : Bool) (v : ℕ) → M.choice_on o n b h w ≡ M.bids_to v → o ≡ Some v
   unfolding M.choice_on
-  bid_to none true b h w v e = let z : ◌≡◌ {A = ℕ} 0 1 = cc in absurd (omega arith)
-  bid_to none false b h true v e = let z : ◌≡◌ {A = ℕ} 0 1 = cc in absurd (omega arith)
-  bid_to none false b h false v e = let z : ◌≡◌ {A = ℕ} 0 1 = cc in absurd (omega arith)
-  bid_to (some u) n true h w v e = let z : ◌≡◌ {A = ℕ} 0 1 = cc in absurd (omega arith)
-  bid_to (some u) n false true w v e = let z : u ≡ v = cc in ap some z
-  bid_to (some u) n false false true v e = let z : u ≡ v = cc in ap some z
-  bid_to (some u) n false false false v e = let z : ◌≡◌ {A = ℕ} 0 1 = cc in absurd (omega arith)
+  bid_to None true b h w v e = let z : ◌≡◌ {A = ℕ} 0 1 = cc in absurd (omega arith)
+  bid_to None false b h true v e = let z : ◌≡◌ {A = ℕ} 0 1 = cc in absurd (omega arith)
+  bid_to None false b h false v e = let z : ◌≡◌ {A = ℕ} 0 1 = cc in absurd (omega arith)
+  bid_to (Some u) n true h w v e = let z : ◌≡◌ {A = ℕ} 0 1 = cc in absurd (omega arith)
+  bid_to (Some u) n false true w v e = let z : u ≡ v = cc in ap Some z
+  bid_to (Some u) n false false true v e = let z : u ≡ v = cc in ap Some z
+  bid_to (Some u) n false false false v e = let z : ◌≡◌ {A = ℕ} 0 1 = cc in absurd (omega arith)
 
   module _ (x : Module) (b : List ℕ) (l : length b ≡ buffer_length) where
     module_bid : (v : ℕ) → M.choice rs m x ≡ M.bids_to v → v < 32
@@ -223,7 +220,7 @@ module _ (rs : List Record) (plan : Sound rs) (m : ℕ) where
         ((omega arith, omega arith), (taken (length (M.step_bytes rs m x (M.bids_to v))) (written (M.step_bytes rs m x (M.bids_to v)) b) (first_written (M.step_bytes rs m x (M.bids_to v)) b g), tt))
     chosen_sent h M.waits e r = (tt, tt)
 
-    module_sent_in : Sendable (M.step_by Accepted rs m x b)
+    module_sent_in : Sendable (M.step_by (Ok tt) rs m x b)
     unfolding M.step_by M.step_in wrote
     module_sent_in =
         choose Sendable (ltb m (modules_of rs)) _ _ (λ p. choose Sendable (M.module_fits rs m x) _ _
@@ -233,7 +230,7 @@ module _ (rs : List Record) (plan : Sound rs) (m : ℕ) where
 
 pub module_sent : (image : List ℕ) → IsPlan image → (m : ℕ) (x : Module) (b : List ℕ) → length b ≡ buffer_length → Sendable (M.module_step image m x b)
 module_sent image a m x b l =
-    subst (λ (v : Verdict). Sendable (M.step_by v (records_of image) m x b)) (sym a) (module_sent_in (records_of image) (every_plan image a).sound m x b l)
+    subst (λ (v : Result ⊤ Refusal). Sendable (M.step_by v (records_of image) m x b)) (sym a) (module_sent_in (records_of image) (every_plan image a).sound m x b l)
 
 -- ---- a supervisor's step
 
@@ -244,14 +241,14 @@ module _ (rs : List Record) (plan : Sound rs) (v : ℕ) (y : Supervisor) (b : Li
   serves : Byte v → (o : Option ℕ) → S.served y ≡ o → length (S.step_bytes rs v y o) ≤ buffer_length
       → ServeSmall (S.answer_by (S.step_bytes rs v y o) o) × AllBytes (wrote_out (S.answer_by (S.step_bytes rs v y o) o) (written (S.step_bytes rs v y o) b))
   unfolding S.answer_by S.sent_to wrote_out
-  serves h none e r = (tt, tt)
-  serves h (some m) e r =
+  serves h None e r = (tt, tt)
+  serves h (Some m) e r =
       let k : m < 16 = served_small y m e in
-      let p : List ℕ = S.step_bytes rs v y (some m) in
+      let p : List ℕ = S.step_bytes rs v y (Some m) in
       let g : Bytes p = one_message (Permit v m (shown rs v y.state)) (h, omega arith) in
       ((omega arith, omega arith), (taken (length p) (written p b) (first_written p b g), tt))
 
-  supervisor_sent_in : Servable (S.step_by Accepted rs v y b)
+  supervisor_sent_in : Servable (S.step_by (Ok tt) rs v y b)
   unfolding S.step_by S.step_in wrote_out
   supervisor_sent_in =
       choose Servable (ltb v (supervisors_of rs)) _ _ (λ p. choose Servable (S.supervisor_fits rs v y) _ _
@@ -261,4 +258,4 @@ module _ (rs : List Record) (plan : Sound rs) (v : ℕ) (y : Supervisor) (b : Li
 
 pub supervisor_sent : (image : List ℕ) → IsPlan image → (v : ℕ) (y : Supervisor) (b : List ℕ) → length b ≡ buffer_length → Servable (S.supervisor_step image v y b)
 supervisor_sent image a v y b l =
-    subst (λ (w : Verdict). Servable (S.step_by w (records_of image) v y b)) (sym a) (supervisor_sent_in (records_of image) (every_plan image a).sound v y b l)
+    subst (λ (w : Result ⊤ Refusal). Servable (S.step_by w (records_of image) v y b)) (sym a) (supervisor_sent_in (records_of image) (every_plan image a).sound v y b l)

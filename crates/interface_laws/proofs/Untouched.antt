@@ -1,4 +1,8 @@
 -- `AllUntouched` of specs/Laws.antt.
+use Rattle.refusal.specs.Refusal.{refused_number}
+use Rattle.std.specs.Prelude.{Option, Some, None, Result, Ok, Err, ⊤}
+use Rattle.refusal.specs.declared.Refusal.{Refusal}
+use Rattle.messages.specs.declared.Message.{Message}
 use mathlib.Core.Path.{◌≡◌, refl, ap, ◌∙◌}
 use mathlib.Core.Logic.{◌≢◌}
 use mathlib.Core.List.{List, []}
@@ -8,29 +12,20 @@ use lib.ListN.{length}
 use lib.Dec.{ltb}
 use borrow.Author.Tests.{ne_eqb}
 use Rattle.records.specs.declared.Record.{Record}
-use Rattle.reader.specs.declared.Found.{Found}
-use Rattle.reader.specs.declared.Found.TheVariants.{It, Missing}
 use Rattle.writer.specs.Write.{answer_of, buffer_by}
-use Rattle.writer.specs.declared.Written.{Written}
-use Rattle.writer.specs.declared.Written.TheVariants.{Length, Refused as WriteRefused}
 use Rattle.messages.specs.Message.{message_bytes, short, written}
-use Rattle.messages.specs.declared.Parsed.{Parsed}
-use Rattle.messages.specs.declared.Parsed.TheVariants.{Whole, Misshapen}
-use Rattle.modules.specs.declared.Called.{Called}
-use Rattle.modules.specs.declared.Called.TheVariants.{Done, Refused}
 use Rattle.device.specs.Device.{start_call}
-use Rattle.permits.specs.Numbers.{stepped_number, served_number}
 use Rattle.permits.specs.Module.{module_start, module_step}
 use Rattle.permits.specs.Supervisor.{supervisor_start, supervisor_step}
 use Rattle.refusals.proofs.Refusals.{refusals}
 use Rattle.device_bytes.specs.Device.{device_size, device_bytes}
 use Rattle.party_bytes.specs.Module.{module_size, module_bytes, module_of}
 use Rattle.party_bytes.specs.Supervisor.{supervisor_size, supervisor_bytes, supervisor_of}
-use Rattle.packing.specs.Answer.{Answer, packed, lent_after, start_answer}
+use Rattle.packing.specs.Answer.{Answer, packed, lent_after, start_answer, length_answer}
 use Rattle.pieces.specs.Pieces.{starting, piece_taken}
 use Rattle.piece_bytes.specs.State.{is_state, state_at, state_bytes}
 use Rattle.piece_interface.specs.Calls.{check_start_bytes, check_piece_bytes}
-use Rattle.plan_interface.specs.Records.{record_by, written_answer, write_by}
+use Rattle.plan_interface.specs.Records.{record_by, write_by}
 use Rattle.plan_interface.specs.Pages.{print_by}
 use Rattle.plan_interface.specs.Messages.{message_by, write_parsed}
 use Rattle.device_interface.specs.Calls as Device
@@ -45,33 +40,33 @@ taken a s l e = record { state = λ n. absurd (n e); buffer = λ n. absurd (n e)
 
 -- ---- calls with a buffer
 
-start_untouched : (size : ℕ) (c : Called) (bytes l : List ℕ) → Untouched (start_answer size c bytes l) [] l
+start_untouched : (size : ℕ) (c : Result ⊤ Refusal) (bytes l : List ℕ) → Untouched (start_answer size c bytes l) [] l
 unfolding start_answer
-start_untouched size Done bytes l = go (ltb (length l) size) refl
+start_untouched size (Ok u) bytes l = go (ltb (length l) size) refl
   where
-    go : (t : Bool) → ltb (length l) size ≡ t → Untouched (start_answer size Done bytes l) [] l
+    go : (t : Bool) → ltb (length l) size ≡ t → Untouched (start_answer size (Ok tt) bytes l) [] l
     go true e = simp e (record { state = λ n. refl; buffer = λ n. refl })
     go false e = simp e (taken (record { number = packed 0 0 0 size; state = []; buffer = written bytes l }) [] l (accepted 0 0 size))
-start_untouched size (Refused n o) bytes l = record { state = λ n. refl; buffer = λ n. refl }
+start_untouched size (Err e) bytes l = record { state = λ n. refl; buffer = λ n. refl }
 
-written_untouched : (r : Record) (l : List ℕ) (w : Written) → Untouched (record { number = written_answer w; state = []; buffer = buffer_by w r l }) [] l
-unfolding written_answer
-written_untouched r l (Length n) = taken (record { number = packed 0 0 0 n; state = []; buffer = buffer_by (Length n) r l }) [] l (accepted 0 0 n)
-written_untouched r l (WriteRefused n o) = record { state = λ n. refl; buffer = λ n. refl }
+written_untouched : (r : Record) (l : List ℕ) (w : Result ℕ Refusal) → Untouched (record { number = length_answer w; state = []; buffer = buffer_by w r l }) [] l
+unfolding length_answer
+written_untouched r l (Ok n) = taken (record { number = packed 0 0 0 n; state = []; buffer = buffer_by (Ok n) r l }) [] l (accepted 0 0 n)
+written_untouched r l (Err e) = record { state = λ n. refl; buffer = λ n. refl }
 
-record_untouched : (f : Found) (l : List ℕ) → Untouched (write_by f l) [] l
+record_untouched : (f : Option Record) (l : List ℕ) → Untouched (write_by f l) [] l
 unfolding write_by
-record_untouched (It r) l = written_untouched r l (answer_of r l)
-record_untouched Missing l = record { state = λ n. refl; buffer = λ n. refl }
+record_untouched (Some r) l = written_untouched r l (answer_of r l)
+record_untouched None l = record { state = λ n. refl; buffer = λ n. refl }
 
-message_untouched : (p : Parsed) (l : List ℕ) → Untouched (write_parsed p l) [] l
+message_untouched : (p : Option Message) (l : List ℕ) → Untouched (write_parsed p l) [] l
 unfolding write_parsed
-message_untouched (Whole g) l = go (short (message_bytes g) l) refl
+message_untouched (Some g) l = go (short (message_bytes g) l) refl
   where
-    go : (t : Bool) → short (message_bytes g) l ≡ t → Untouched (write_parsed (Whole g) l) [] l
+    go : (t : Bool) → short (message_bytes g) l ≡ t → Untouched (write_parsed (Some g) l) [] l
     go true e = simp e (record { state = λ n. refl; buffer = λ n. refl })
     go false e = simp e (taken (record { number = packed 0 0 0 (length (message_bytes g)); state = []; buffer = written (message_bytes g) l }) [] l (accepted 0 0 (length (message_bytes g))))
-message_untouched Misshapen l = record { state = λ n. refl; buffer = λ n. refl }
+message_untouched None l = record { state = λ n. refl; buffer = λ n. refl }
 
 -- ---- calls on a state
 
@@ -94,7 +89,7 @@ piece_untouched s p = go (is_state s) refl
 pub all_untouched : AllUntouched
 all_untouched =
     record {
-      check_start = λ l. unfold check_start_bytes in start_untouched 495 Done (state_bytes starting) l;
+      check_start = λ l. unfold check_start_bytes in start_untouched 495 (Ok tt) (state_bytes starting) l;
       check_piece = piece_untouched;
       write_record = λ k a b c d w l. record_untouched (record_by k a b c d w) l;
       print_plan = λ image l. unfold print_by in
@@ -110,7 +105,7 @@ all_untouched =
       module_start = λ image m l. unfold Module.start_bytes in start_untouched module_size (module_start image m).answer (module_bytes (module_start image m).state) l;
       module_step = λ image s m l. unfold Module.step_bytes in
           record {
-            state = λ h. lent_same (stepped_number (module_step image m (module_of s) l).answer) _ s (λ z. h (same_numbers.module_step image s m l ∙ z));
+            state = λ h. lent_same (refused_number (module_step image m (module_of s) l).answer) _ s (λ z. h (same_numbers.module_step image s m l ∙ z));
             buffer = λ h. (refusals.modules.step image m (module_of s) l).buffer.untouched (λ z. h (same_numbers.module_step image s m l ∙ z));
           };
       module_deliver = λ image s m g. unfold Module.deliver_bytes in on_state _ _ _ s (same_numbers.module_deliver image s m g);
@@ -119,7 +114,7 @@ all_untouched =
       supervisor_start = λ image v l. unfold Supervisor.start_bytes in start_untouched supervisor_size (supervisor_start image v).answer (supervisor_bytes (supervisor_start image v).state) l;
       supervisor_step = λ image s v l. unfold Supervisor.step_bytes in
           record {
-            state = λ h. lent_same (served_number (supervisor_step image v (supervisor_of s) l).answer) _ s (λ z. h (same_numbers.supervisor_step image s v l ∙ z));
+            state = λ h. lent_same (refused_number (supervisor_step image v (supervisor_of s) l).answer) _ s (λ z. h (same_numbers.supervisor_step image s v l ∙ z));
             buffer = λ h. (refusals.supervisors.step image v (supervisor_of s) l).buffer.untouched (λ z. h (same_numbers.supervisor_step image s v l ∙ z));
           };
       supervisor_deliver = λ image s v g. unfold Supervisor.deliver_bytes in on_state _ _ _ s (same_numbers.supervisor_deliver image s v g);

@@ -1,8 +1,7 @@
 -- docs/EMBEDDING.md: "State bytes .. go to the next call on the same party as the last call left them": whatever bytes a call gets, those that it
 -- leaves are bytes and are read by the next call as the state that the call leaves of the state read before. Bytes that stand for no state are left,
 -- and are read again as none.
-use Rattle.std.specs.Prelude.{ℕ, ◌≡◌, List, cond, Float}
-use Rattle.std.proofs.Math.Option.{Option, none, some}
+use Rattle.std.specs.Prelude.{ℕ, ◌≡◌, List, cond, Float, Option, Some, None}
 use Rattle.roundtrip.specs.Fits.{Bytes}
 use Rattle.device.specs.Device.{turn_call, respond_call, tick_call}
 use Rattle.permits.specs.Module as M
@@ -26,11 +25,11 @@ pub record ReadAs {A : Type 0} (of : List ℕ → A) (s : List ℕ) (x : A) : Ty
 
 -- the state of a check in pieces, if the bytes stand for one, and that after a piece
 abbrev pub check_of : List ℕ → Option CheckState
-check_of s = cond (is_state s) (some (state_at s)) none
+check_of s = cond (is_state s) (Some (state_at s)) None
 
 abbrev pub piece_on : List ℕ → Option CheckState → Option CheckState
-piece_on p none = none
-piece_on p (some k) = some (piece_taken k p)
+piece_on p None = None
+piece_on p (Some k) = Some (piece_taken k p)
 
 pub record AllLeft : Type 0 where
   pub module_step : (image s : List ℕ) (m : ℕ) (b : List ℕ) → Bytes s

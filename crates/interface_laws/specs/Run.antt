@@ -1,14 +1,12 @@
 -- Lists of calls over bytes. docs/EMBEDDING.md: "State bytes are left alone between calls and go to the next call on the same party as the last
 -- call left them", at first those of its start. The calls are those of demand 3, `Act` of crate agreement.
-use Rattle.std.specs.Prelude.{ℕ, ◌/◌, ◌%◌, List, [], ◌∷◌, ◌++◌, cond, take, replicate, eqb, Float}
-use Rattle.std.proofs.Math.Option.{Option, none, some}
+use Rattle.messages.specs.declared.Message.{Message}
+use Rattle.std.specs.Prelude.{ℕ, ◌/◌, ◌%◌, List, [], ◌∷◌, ◌++◌, cond, take, replicate, eqb, Float, Option, Some, None}
 use Rattle.litres.specs.Eighths.{eighths}
 use Rattle.water.specs.declared.Flow.{Flow}
 use Rattle.water.specs.declared.Flow.TheVariants.{Litres, NoSensor}
 use Rattle.messages.specs.Message.{parse, release_size}
 use Rattle.messages.specs.declared.Message.TheVariants.{Bid, Permit, Release}
-use Rattle.messages.specs.declared.Parsed.{Parsed}
-use Rattle.messages.specs.declared.Parsed.TheVariants.{Whole, Misshapen}
 use Rattle.permits.specs.Module as M
 use Rattle.permits.specs.Supervisor as S
 use Rattle.protocol.specs.Generic.{update}
@@ -75,17 +73,17 @@ abbrev pub on_supervisor : Memory → ℕ → Answer → List Sent → Given Mem
 on_supervisor B v a w =
     record { answers = a ∷ []; memory = record { module_at = B.module_at; supervisor_at = update B.supervisor_at v a.state; sent = w } }
 
-unfoldable pub bytes_delivered : List ℕ → Memory → List ℕ → List Sent → Parsed → Given Memory
-bytes_delivered image B g w (Whole (Bid m v)) = on_supervisor B v (SupervisorCalls.deliver_bytes image (B.supervisor_at v) v g) w
-bytes_delivered image B g w (Whole (Permit v m k)) = on_module B m (ModuleCalls.deliver_bytes image (B.module_at m) m g) w
-bytes_delivered image B g w (Whole (Release m v e)) = on_supervisor B v (SupervisorCalls.deliver_bytes image (B.supervisor_at v) v g) w
-bytes_delivered image B g w Misshapen =
+unfoldable pub bytes_delivered : List ℕ → Memory → List ℕ → List Sent → Option Message → Given Memory
+bytes_delivered image B g w (Some (Bid m v)) = on_supervisor B v (SupervisorCalls.deliver_bytes image (B.supervisor_at v) v g) w
+bytes_delivered image B g w (Some (Permit v m k)) = on_module B m (ModuleCalls.deliver_bytes image (B.module_at m) m g) w
+bytes_delivered image B g w (Some (Release m v e)) = on_supervisor B v (SupervisorCalls.deliver_bytes image (B.supervisor_at v) v g) w
+bytes_delivered image B g w None =
     record { answers = []; memory = record { module_at = B.module_at; supervisor_at = B.supervisor_at; sent = w } }
 
 -- "at most once": where nothing is brought, nothing is called
 unfoldable pub bytes_delivered_at : List ℕ → Memory → ℕ → Option (List ℕ) → Given Memory
-bytes_delivered_at image B k none = record { answers = []; memory = B }
-bytes_delivered_at image B k (some g) = bytes_delivered image B g (mark k B.sent) (parse g)
+bytes_delivered_at image B k None = record { answers = []; memory = B }
+bytes_delivered_at image B k (Some g) = bytes_delivered image B g (mark k B.sent) (parse g)
 
 unfoldable pub bytes_step : List ℕ → Memory → Act → Given Memory
 bytes_step image B (module_step m b) = let a = ModuleCalls.step_bytes image (B.module_at m) m b in on_module B m a (send B.sent (module_sends a))
@@ -134,15 +132,15 @@ encoded D = record { module_at = λ m. module_bytes (D.module_at m); supervisor_
 abbrev pub decoded : Memory → System
 decoded B = record { module_at = λ m. module_of (B.module_at m); supervisor_at = λ v. supervisor_of (B.supervisor_at v); sent = B.sent }
 
-unfoldable pub delivery_answers : List ℕ → System → List ℕ → Parsed → List Answer
-delivery_answers image D g (Whole (Bid m v)) = supervisor_answer (S.supervisor_deliver image v (D.supervisor_at v) g) ∷ []
-delivery_answers image D g (Whole (Permit v m k)) = module_answer (M.module_deliver image m (D.module_at m) g) ∷ []
-delivery_answers image D g (Whole (Release m v e)) = supervisor_answer (S.supervisor_deliver image v (D.supervisor_at v) g) ∷ []
-delivery_answers image D g Misshapen = []
+unfoldable pub delivery_answers : List ℕ → System → List ℕ → Option Message → List Answer
+delivery_answers image D g (Some (Bid m v)) = supervisor_answer (S.supervisor_deliver image v (D.supervisor_at v) g) ∷ []
+delivery_answers image D g (Some (Permit v m k)) = module_answer (M.module_deliver image m (D.module_at m) g) ∷ []
+delivery_answers image D g (Some (Release m v e)) = supervisor_answer (S.supervisor_deliver image v (D.supervisor_at v) g) ∷ []
+delivery_answers image D g None = []
 
 unfoldable pub brought_answers : List ℕ → System → Option (List ℕ) → List Answer
-brought_answers image D none = []
-brought_answers image D (some g) = delivery_answers image D g (parse g)
+brought_answers image D None = []
+brought_answers image D (Some g) = delivery_answers image D g (parse g)
 
 unfoldable pub act_answers : List ℕ → System → Act → List Answer
 act_answers image D (module_step m b) = step_answer (M.module_step image m (D.module_at m) b) ∷ []

@@ -1,10 +1,9 @@
 -- A call over bytes is the call on the state that they are. Given the bytes of a state that can be encoded, it gives the number of the call's
 -- answer, the bytes of the state that the call leaves and its buffer, for every image and every argument, refused or not. A message is a list of
 -- bytes. The calls of a check in pieces, which are given no image, stand last.
-use Rattle.std.specs.Prelude.{ℕ, ◌≤◌, ◌≡◌, List, [], ◌++◌, length, drop, replicate, Float}
+use Rattle.refusal.specs.declared.Refusal.{Refusal}
+use Rattle.std.specs.Prelude.{ℕ, ◌≤◌, ◌≡◌, List, [], ◌++◌, length, drop, replicate, Float, Result, Ok, Err, ⊤}
 use Rattle.roundtrip.specs.Fits.{Bytes}
-use Rattle.modules.specs.declared.Called.{Called}
-use Rattle.modules.specs.declared.Called.TheVariants.{Done, Refused}
 use Rattle.device.specs.Device.{start_call, turn_call, respond_call, tick_call}
 use Rattle.permits.specs.Module as M
 use Rattle.permits.specs.Supervisor as S
@@ -21,7 +20,7 @@ use Rattle.piece_bytes.specs.State.{state_bytes, StateEncodable}
 use Rattle.party_bytes.specs.Module.{module_size, module_bytes, ModuleEncodable}
 use Rattle.party_bytes.specs.Supervisor.{supervisor_size, supervisor_bytes, SupervisorEncodable}
 use Rattle.device_bytes.specs.Device.{device_size, device_bytes, DeviceEncodable}
-use Rattle.packing.specs.Answer.{Answer, refused, done, verdict_answer, called_answer, turning_answer, stepped_answer, served_answer}
+use Rattle.packing.specs.Answer.{Answer, refused, done, called_answer, turning_answer, stepped_answer, served_answer}
 use Rattle.packing.specs.Flow.{flow_of}
 use Rattle.piece_interface.specs.Calls.{check_start_bytes, check_piece_bytes, check_answer_bytes}
 use Rattle.device_interface.specs.Calls as DeviceCalls
@@ -52,9 +51,9 @@ abbrev pub taken_answer : CheckState → Answer
 taken_answer k = record { number = done 0 0 0; state = state_bytes k; buffer = [] }
 
 -- a start, whose state has so many bytes: they are the first ones of the buffer, and the rest stays; a refused start leaves the buffer
-abbrev pub started_answer : ℕ → Called → List ℕ → List ℕ → Answer
-started_answer size Done bytes l = record { number = done 0 0 size; state = []; buffer = bytes ++ drop size l }
-started_answer size (Refused n o) bytes l = record { number = refused n o; state = []; buffer = l }
+abbrev pub started_answer : ℕ → Result ⊤ Refusal → List ℕ → List ℕ → Answer
+started_answer size (Ok u) bytes l = record { number = done 0 0 size; state = []; buffer = bytes ++ drop size l }
+started_answer size (Err e) bytes l = record { number = refused e.number e.offset; state = []; buffer = l }
 
 pub record SameCalls : Type 0 where
   pub module_step : (image : List ℕ) (m : ℕ) (x : Module) (b : List ℕ) → ModuleEncodable x
@@ -89,6 +88,6 @@ pub record SameCalls : Type 0 where
   pub supervisor_zeros : (image : List ℕ) (v : ℕ)
       → (SupervisorCalls.start_bytes image v (replicate supervisor_size 0)).buffer ≡ supervisor_bytes (S.supervisor_start image v).state
   -- the check in pieces
-  pub check_start : (l : List ℕ) → 495 ≤ length l → check_start_bytes l ≡ started_answer 495 Done (state_bytes starting) l
+  pub check_start : (l : List ℕ) → 495 ≤ length l → check_start_bytes l ≡ started_answer 495 (Ok tt) (state_bytes starting) l
   pub check_piece : (k : CheckState) (p : List ℕ) → StateEncodable k → check_piece_bytes (state_bytes k) p ≡ taken_answer (piece_taken k p)
-  pub check_answer : (k : CheckState) → StateEncodable k → check_answer_bytes (state_bytes k) ≡ verdict_answer (verdict_by k)
+  pub check_answer : (k : CheckState) → StateEncodable k → check_answer_bytes (state_bytes k) ≡ called_answer (verdict_by k)

@@ -1,4 +1,5 @@
 -- What the context remembers of records is what their look-ups give.
+use Rattle.std.specs.Prelude.{Option, Some, None}
 use mathlib.Core.Path.{◌≡◌, refl, sym, ap, ◌∙◌, subst}
 use mathlib.Core.List.{List, [], ◌∷◌}
 use mathlib.Core.Bool.{Bool, true, false, cond, ◌&&◌, ◌||◌, true≢false, false≢true}
@@ -13,8 +14,6 @@ use Rattle.records.specs.Key.{key_by, key_of, same_key}
 use Rattle.records.specs.declared.Record.{Record}
 use Rattle.records.specs.declared.Record.TheVariants.{Head, Event, Module, ModuleMove, Supervisor, SupervisorMove, Disabling, Step, Marking, End}
 use Rattle.records.specs.declared.RecordKey.{RecordKey}
-use Rattle.reader.specs.declared.Found.{Found}
-use Rattle.reader.specs.declared.Found.TheVariants.{It, Missing}
 use Rattle.reader.specs.Find.{find_in, found}
 use Rattle.rules.specs.LookUp.{field1, field2, field3, word_field, field_of, modules_of, supervisors_of, events_of, event_in, module_in, supervisor_in, owner_of, controllable, alphabet_of}
 use Rattle.context.specs.declared.Counts.{Counts}
@@ -69,28 +68,28 @@ not_first false b c d p = refl
 abbrev changed : {A : Type 0} → ℕ → ℕ → Record → A → A → A
 changed k e r x y = cond (eqb (key_of r).kind k) (cond (eqb (key_of r).first e) x y) y
 
-pub look : (k e : ℕ) → Numbered k → (r : Record) (rs : List Record) → find_in (key_by k e 0 0) (r ∷ rs) ≡ changed k e r (It r) (find_in (key_by k e 0 0) rs)
+pub look : (k e : ℕ) → Numbered k → (r : Record) (rs : List Record) → find_in (key_by k e 0 0) (r ∷ rs) ≡ changed k e r (Some r) (find_in (key_by k e 0 0) rs)
 unfolding find_in same_key
 look k e n r rs = go (eqb (key_of r).kind k) refl
   where
-    go : (b : Bool) → eqb (key_of r).kind k ≡ b → cond (same_key (key_of r) (key_by k e 0 0)) (It r) (find_in (key_by k e 0 0) rs) ≡ cond b (cond (eqb (key_of r).first e) (It r) (find_in (key_by k e 0 0) rs)) (find_in (key_by k e 0 0) rs)
+    go : (b : Bool) → eqb (key_of r).kind k ≡ b → cond (same_key (key_of r) (key_by k e 0 0)) (Some r) (find_in (key_by k e 0 0) rs) ≡ cond b (cond (eqb (key_of r).first e) (Some r) (find_in (key_by k e 0 0) rs)) (find_in (key_by k e 0 0) rs)
     go true q =
         let key = number_key k n r (eqb-true (key_of r).kind k q) in
-        ap (λ (b : Bool). cond b (It r) (find_in (key_by k e 0 0) rs))
+        ap (λ (b : Bool). cond b (Some r) (find_in (key_by k e 0 0) rs))
         (all_four (eqb (key_of r).kind k) (eqb (key_of r).first e) (eqb (key_of r).second 0) (eqb (key_of r).third 0) q
         (eq-eqb (key_of r).second 0 (ap (λ (p : RecordKey). p.second) key)) (eq-eqb (key_of r).third 0 (ap (λ (p : RecordKey). p.third) key)))
     go false q =
-        ap (λ (b : Bool). cond b (It r) (find_in (key_by k e 0 0) rs))
+        ap (λ (b : Bool). cond b (Some r) (find_in (key_by k e 0 0) rs))
         (not_first (eqb (key_of r).kind k) (eqb (key_of r).first e) (eqb (key_of r).second 0) (eqb (key_of r).third 0) q)
 
 -- a choice between what was found before and a record of that number, seen through h
-found_now : (k e : ℕ) → Numbered k → {A : Type 0} (h : Found → A) (r : Record) (rs : List Record)
-    → h (find_in (key_by k e 0 0) (r ∷ rs)) ≡ changed k e r (h (It r)) (h (find_in (key_by k e 0 0) rs))
+found_now : (k e : ℕ) → Numbered k → {A : Type 0} (h : Option Record → A) (r : Record) (rs : List Record)
+    → h (find_in (key_by k e 0 0) (r ∷ rs)) ≡ changed k e r (h (Some r)) (h (find_in (key_by k e 0 0) rs))
 found_now k e n {A} h r rs =
     let a = eqb (key_of r).kind k in
     let b = eqb (key_of r).first e in
     let rest = find_in (key_by k e 0 0) rs in
-    ap h (look k e n r rs) ∙ part h a (cond b (It r) rest) rest ∙ ap (λ (x : A). cond a x (h rest)) (part h b (It r) rest)
+    ap h (look k e n r rs) ∙ part h a (cond b (Some r) rest) rest ∙ ap (λ (x : A). cond a x (h rest)) (part h b (Some r) rest)
 
 -- ---- a table of n entries and a mask that take each record of kind k
 
@@ -112,23 +111,23 @@ module _ (k n : ℕ) (f : Record → ℕ) (t : List Record → List ℕ) (begins
       ∙ ap (λ (x : ℕ). cond a x v) (with_entry_at n (t rs) (key_of r).first (f r) e (table_length rs) l)
       ∙ ap (changed k e r (f r)) (table_told w e l rs) ∙ sym (found_now k e w (field_of f) r rs)
 
-module _ (k n : ℕ) (small : n ≤ 64) (h : Found → Bool) (m : List Record → ℕ) (begins : m [] ≡ 0)
-    (takes : (r : Record) (rs : List Record) → m (r ∷ rs) ≡ cond (eqb (key_of r).kind k) (with_bit n (m rs) (key_of r).first (h (It r))) (m rs)) where
+module _ (k n : ℕ) (small : n ≤ 64) (h : Option Record → Bool) (m : List Record → ℕ) (begins : m [] ≡ 0)
+    (takes : (r : Record) (rs : List Record) → m (r ∷ rs) ≡ cond (eqb (key_of r).kind k) (with_bit n (m rs) (key_of r).first (h (Some r))) (m rs)) where
   mask_fits : (rs : List Record) → m rs < 2 ^ 64
   mask_fits [] = subst (λ (x : ℕ). x < 2 ^ 64) (sym begins) (pow_pos 64)
   mask_fits (r ∷ rs) =
       let l = mask_fits rs in
-      subst (λ (x : ℕ). x < 2 ^ 64) (sym (takes r rs)) (either (λ (x : ℕ). x < 2 ^ 64) (eqb (key_of r).kind k) (with_bit n (m rs) (key_of r).first (h (It r))) (m rs) (with_bit_fits n (m rs) (key_of r).first (h (It r)) l) l)
+      subst (λ (x : ℕ). x < 2 ^ 64) (sym (takes r rs)) (either (λ (x : ℕ). x < 2 ^ 64) (eqb (key_of r).kind k) (with_bit n (m rs) (key_of r).first (h (Some r))) (m rs) (with_bit_fits n (m rs) (key_of r).first (h (Some r)) l) l)
 
-  mask_told : Numbered k → h Missing ≡ false → (e : ℕ) → e < n → (rs : List Record) → bit (m rs) e ≡ h (find_in (key_by k e 0 0) rs)
+  mask_told : Numbered k → h None ≡ false → (e : ℕ) → e < n → (rs : List Record) → bit (m rs) e ≡ h (find_in (key_by k e 0 0) rs)
   unfolding find_in
   mask_told w z e l [] = ap (λ (x : ℕ). bit x e) begins ∙ bit_none e ∙ sym z
   mask_told w z e l (r ∷ rs) =
       let a = eqb (key_of r).kind k in
       let v = bit (m rs) e in
-      ap (λ (x : ℕ). bit x e) (takes r rs) ∙ part (λ (x : ℕ). bit x e) a (with_bit n (m rs) (key_of r).first (h (It r))) (m rs)
-      ∙ ap (λ (x : Bool). cond a x v) (with_bit_at n (m rs) (key_of r).first (h (It r)) e small (mask_fits rs) l)
-      ∙ ap (changed k e r (h (It r))) (mask_told w z e l rs) ∙ sym (found_now k e w h r rs)
+      ap (λ (x : ℕ). bit x e) (takes r rs) ∙ part (λ (x : ℕ). bit x e) a (with_bit n (m rs) (key_of r).first (h (Some r))) (m rs)
+      ∙ ap (λ (x : Bool). cond a x v) (with_bit_at n (m rs) (key_of r).first (h (Some r)) e small (mask_fits rs) l)
+      ∙ ap (changed k e r (h (Some r))) (mask_told w z e l rs) ∙ sym (found_now k e w h r rs)
 
 -- ---- the head's counts
 

@@ -1,4 +1,6 @@
 -- Over records of which none is faulty, a record is judged from the context as it is from the records.
+use Rattle.std.specs.Prelude.{Some, Err}
+use Rattle.refusal.specs.Refusal.{refusal}
 use mathlib.Core.Path.{◌≡◌, refl, sym, ap, ap₂, ◌∙◌, subst}
 use mathlib.Core.List.{List, [], ◌∷◌}
 use mathlib.Core.Bool.{Bool, true, false, cond, not, ◌&&◌, ◌||◌, and-false, false≢true}
@@ -16,7 +18,6 @@ use Rattle.records.specs.Range.{in_range, operand_in_range}
 use Rattle.records.specs.Key.{head_key, key_of, same_key, precedes}
 use Rattle.records.specs.declared.Record.{Record}
 use Rattle.records.specs.declared.Record.TheVariants.{Head, Event, Module, ModuleMove, Supervisor, SupervisorMove, Disabling, Step, Marking, End}
-use Rattle.reader.specs.declared.Found.TheVariants.{It}
 use Rattle.reader.specs.Find.{find_in, found}
 use Rattle.reader.specs.Walk.{Walk, more, stop}
 use Rattle.rules.specs.LookUp.{field1, field2, field3, field_of, modules_of, supervisors_of, events_of, event_in, module_in, supervisor_in, event_declared, module_declared, supervisor_declared, module_state, supervisor_state, owner_of, controllable, alphabet_of, steps_of}
@@ -24,7 +25,6 @@ use Rattle.rules.specs.Rules.{index_runs, in_order, names_declared, keeps_rules,
 use Rattle.rules.specs.Check.{fault_of, end_at, check_walk}
 use Rattle.rules.specs.Valid.{Valid, Passes}
 use Rattle.rules.proofs.Valid.{passes, declared_below, index_is, first_head, head_kept, headed, counted}
-use Rattle.rules.specs.declared.Verdict.TheVariants.{Refused}
 use Rattle.context.specs.declared.Context.{Context}
 use Rattle.context.specs.Context.{events_after, context_of, owner_at, alphabet_at}
 use Rattle.context.proofs.Tables.{with_entry_at}
@@ -66,7 +66,7 @@ event_found rs n o c e h k t = go (eqb n e) refl
   where
     go : (b : Bool) → eqb n e ≡ b → e < events_of rs
     go true q = subst (λ (x : ℕ). x < events_of rs) (eqb-true n e q) h
-    go false q = k e (sym (ap found (look 0x11 e tt (Event n o c) rs) ∙ ap (λ (d : Bool). found (cond d (It (Event n o c)) (event_in rs e))) q) ∙ t)
+    go false q = k e (sym (ap found (look 0x11 e tt (Event n o c) rs) ∙ ap (λ (d : Bool). found (cond d (Some (Event n o c)) (event_in rs e))) q) ∙ t)
 
 step_none : (rs : List Record) (x i o y e : ℕ) → x < events_of rs → events_of rs ≤ e → steps_of rs e ≡ 0 → steps_of (Step x i o y ∷ rs) e ≡ 0
 unfolding steps_of key_of
@@ -350,12 +350,12 @@ agree : (n : ℕ) (rs : List Record) (w : Walk) → Valid rs → check_by n (con
 unfolding check_by check_walk context_of Valid
 agree n rs (stop k o) v = refl
 agree n rs (more o r w) v =
-    ap (λ (j : ℕ). cond (eqb j 0) (cond (eqb (kind_of r) 0x1f) (end_at n o) (check_by n (context_of (r ∷ rs)) w)) (Refused j o)) (judges rs v r)
+    ap (λ (j : ℕ). cond (eqb j 0) (cond (eqb (kind_of r) 0x1f) (end_at n o) (check_by n (context_of (r ∷ rs)) w)) (Err (refusal j o))) (judges rs v r)
     ∙ go (eqb (fault_of rs r) 0) refl (λ z. agree n (r ∷ rs) w (z, v))
   where
     go : (b : Bool) → eqb (fault_of rs r) 0 ≡ b → (fault_of rs r ≡ 0 → check_by n (context_of (r ∷ rs)) w ≡ check_walk n (r ∷ rs) w)
-        → cond b (cond (eqb (kind_of r) 0x1f) (end_at n o) (check_by n (context_of (r ∷ rs)) w)) (Refused (fault_of rs r) o)
-        ≡ cond b (cond (eqb (kind_of r) 0x1f) (end_at n o) (check_walk n (r ∷ rs) w)) (Refused (fault_of rs r) o)
+        → cond b (cond (eqb (kind_of r) 0x1f) (end_at n o) (check_by n (context_of (r ∷ rs)) w)) (Err (refusal (fault_of rs r) o))
+        ≡ cond b (cond (eqb (kind_of r) 0x1f) (end_at n o) (check_walk n (r ∷ rs) w)) (Err (refusal (fault_of rs r) o))
     go true q f = ap (cond (eqb (kind_of r) 0x1f) (end_at n o)) (f (eqb-true (fault_of rs r) 0 q))
     go false q f = refl
 

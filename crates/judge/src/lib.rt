@@ -6,7 +6,6 @@ ghost use Rattle.judge.specs.Past.{past_from};
 ghost use Rattle.judge.specs.Judge.{event_known, operand_known, module_known, supervisor_known, index_by, order_by, names_by, respond_by, rules_by, all_by, judge_by};
 
 use context::Context;
-use reader::Read;
 use records::Record;
 
 fn event_known(c: Context, e: u8) -> bool
@@ -284,7 +283,7 @@ pub fn pass(image: &[u8], from: usize, before: Context) -> Past
 {
     let mut c = before;
     let mut i = from;
-    while let Read::Whole(r, next) = reader::read_at(image, i) {
+    while let Ok((r, next)) = reader::read_at(image, i) {
         if judge(c, r) != 0 || records::kind_of(r) == 0x1f {
             break;
         }

@@ -1,4 +1,5 @@
 -- One byte more, as the code takes it.
+use Rattle.std.specs.Prelude.{Option}
 use Prim.Native.Nat.{ℕ, min, ◌+◌, ◌*◌, ◌-◌, ◌^◌, ◌≤◌, ◌<◌}
 use mathlib.Core.Path.{◌≡◌, refl, ap, ◌∙◌}
 use mathlib.Core.Bool.{Bool, true, false, cond}
@@ -8,7 +9,6 @@ use borrow.Author.Tests.{lt-ltb, le-ltb, ltb-true, ltb-false, le-leb, lt-leb, eq
 use Rattle.lines.specs.Number.{digit}
 use Rattle.length_input.specs.declared.Input.{Input}
 use Rattle.length_input.specs.declared.Input.TheVariants.{Empty, Digits, Ended, Misshapen}
-use Rattle.length_input.specs.declared.WordLength.{WordLength}
 use Rattle.length_input.specs.Length.{capped, length_number}
 use Rattle.length_input.specs.Input.{first_byte, next_byte, length_of, LengthAs}
 
@@ -73,7 +73,7 @@ module _ (b : ℕ) where
 
 -- ---- the length
 
-pub length_as : (i : Input) {r : WordLength} → r ≡ length_of i → LengthAs i r
+pub length_as : (i : Input) {r : Option ℕ} → r ≡ length_of i → LengthAs i r
 unfolding length_of
 length_as Empty e = record { answer = e; number = ap length_number e }
 length_as (Digits n) e = record { answer = e; number = ap length_number e }

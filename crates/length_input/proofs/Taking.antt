@@ -1,4 +1,5 @@
 -- `InPieces` and `TakenWhole`: bytes taken one after the other, in any pieces, and then read are the length that they are.
+use Rattle.std.specs.Prelude.{Option, None}
 use Prim.Native.Nat.{ℕ, ◌+◌, ◌*◌, ◌-◌, ◌^◌, ◌≤◌, ◌<◌}
 use mathlib.Core.Path.{◌≡◌, refl, sym, ap, ◌∙◌}
 use mathlib.Core.Bool.{Bool, true, false, cond}
@@ -10,8 +11,6 @@ use borrow.Author.Tests.{ltb-true, ltb-false, leb-true, leb-false, eqb-true, eqb
 use Rattle.lines.specs.Number.{digit, begins, number_from}
 use Rattle.length_input.specs.declared.Input.{Input}
 use Rattle.length_input.specs.declared.Input.TheVariants.{Digits, Ended, Misshapen}
-use Rattle.length_input.specs.declared.WordLength.{WordLength}
-use Rattle.length_input.specs.declared.WordLength.TheVariants.{Misshapen as NoLength}
 use Rattle.length_input.specs.Length.{line_in, capped, length_by, length_in}
 use Rattle.length_input.specs.Input.{first_byte, next_byte, with_byte, with_bytes, length_of, InPieces, TakenWhole}
 use Rattle.length_input.proofs.Bytes.{capped_low, capped_high, is_digit, digit_low, digit_high, first_none, first_digit, next_feed, next_zero, next_none, next_digit}
@@ -64,7 +63,7 @@ capped_some v h e = go (ltb v (2 ^ 64)) refl
     go false q = let z = capped_high v (ltb-false v (2 ^ 64) q) in omega arith
 
 -- what is no length stays none
-misshapen : (bs : List ℕ) → length_of (with_bytes Misshapen bs) ≡ NoLength
+misshapen : (bs : List ℕ) → length_of (with_bytes Misshapen bs) ≡ None
 unfolding with_bytes with_byte length_of
 misshapen [] = refl
 misshapen (b ∷ bs) = misshapen bs
@@ -75,7 +74,7 @@ unfolding line_in
 kept b [] n = simp (ne_eqb b 10 n)
 kept b (c ∷ bs) n = refl
 
-by_none : (v b : ℕ) (bs : List ℕ) → digit b ≡ false → length_by (number_from v (b ∷ bs)) ≡ NoLength
+by_none : (v b : ℕ) (bs : List ℕ) → digit b ≡ false → length_by (number_from v (b ∷ bs)) ≡ None
 unfolding number_from length_by
 by_none v b bs e = simp e
 
@@ -84,11 +83,11 @@ unfolding number_from
 by_one v b bs h k = simp (is_digit b h k)
 
 -- the state i, and the bytes that are still to come
-abbrev reads : Input → List ℕ → WordLength
+abbrev reads : Input → List ℕ → Option ℕ
 reads i bs = length_of (with_bytes i bs)
 
 -- behind the line feed there is nothing
-ended : (n b : ℕ) (bs : List ℕ) → reads (Ended n) (b ∷ bs) ≡ NoLength
+ended : (n b : ℕ) (bs : List ℕ) → reads (Ended n) (b ∷ bs) ≡ None
 unfolding with_bytes with_byte
 ended n b bs = misshapen bs
 
@@ -123,8 +122,8 @@ behind [] v h = refl
 behind (b ∷ bs) v h = behind_next v b bs (behind bs) h
 
 -- a line, its first byte looked at
-abbrev length_begun : List ℕ → WordLength
-length_begun l = cond (begins l) (length_by (number_from 0 l)) NoLength
+abbrev length_begun : List ℕ → Option ℕ
+length_begun l = cond (begins l) (length_by (number_from 0 l)) None
 
 -- behind 0
 alone_feed : (b : ℕ) (bs : List ℕ) → b ≡ 10 → reads (Ended 0) bs ≡ length_begun (48 ∷ line_in (b ∷ bs))
@@ -142,14 +141,14 @@ alone [] = refl
 alone (b ∷ bs) = by_equal b 10 (λ e. ap (λ (i : Input). reads i bs) (sym (next_feed b 0 e)) ∙ alone_feed b bs e) (alone_other b bs)
 
 -- the first byte is no digit
-none_begins : (b : ℕ) (l : List ℕ) → digit b ≡ false → length_begun (b ∷ l) ≡ NoLength
-none_begins b l e = ap (λ (x : WordLength). cond (begins (b ∷ l)) x NoLength) (by_none 0 b l e) ∙ go (begins (b ∷ l))
+none_begins : (b : ℕ) (l : List ℕ) → digit b ≡ false → length_begun (b ∷ l) ≡ None
+none_begins b l e = ap (λ (x : Option ℕ). cond (begins (b ∷ l)) x None) (by_none 0 b l e) ∙ go (begins (b ∷ l))
   where
-    go : (x : Bool) → cond x NoLength NoLength ≡ NoLength
+    go : (x : Bool) → ◌≡◌ {A = Option ℕ} (cond x None None) None
     go true = refl
     go false = refl
 
-none_first : (b : ℕ) (bs : List ℕ) → digit b ≡ false → length_begun (line_in (b ∷ bs)) ≡ NoLength
+none_first : (b : ℕ) (bs : List ℕ) → digit b ≡ false → length_begun (line_in (b ∷ bs)) ≡ None
 unfolding line_in begins
 none_first b [] e = by_equal b 10 (λ f. simp (eq-eqb b 10 f)) (λ n. simp (ne_eqb b 10 n) (none_begins b [] e))
 none_first b (c ∷ bs) e = none_begins b (line_in (c ∷ bs)) e
@@ -165,7 +164,7 @@ digit_first b bs h k n =
     let z : 0 * 10 + (b - 48) ≡ b - 48 = omega arith in
     ap (λ (v : ℕ). reads (Digits v) bs) (sym (capped_low (b - 48) (omega arith)))
     ∙ behind bs (b - 48) (omega arith) ∙ ap (λ (v : ℕ). length_by (number_from v (line_in bs))) (sym z) ∙ sym (by_one 0 b (line_in bs) h k)
-    ∙ sym (ap (λ (x : Bool). cond x (length_by (number_from 0 (b ∷ line_in bs))) NoLength) (begins_so b (line_in bs) n))
+    ∙ sym (ap (λ (x : Bool). cond x (length_by (number_from 0 (b ∷ line_in bs))) None) (begins_so b (line_in bs) n))
 
 first : (b : ℕ) (bs : List ℕ) → reads (first_byte b) bs ≡ length_begun (line_in (b ∷ bs))
 first b bs = by_digit b one (λ e. ap (λ (i : Input). reads i bs) (sym (first_none b e)) ∙ misshapen bs ∙ sym (none_first b bs e))

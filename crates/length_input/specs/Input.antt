@@ -1,11 +1,9 @@
 -- What is kept of an input that comes in pieces.
-use Rattle.std.specs.Prelude.{ℕ, ◌+◌, ◌*◌, ◌-◌, ◌≡◌, Bool, true, false, cond, not, ◌&&◌, List, [], ◌∷◌, ◌++◌, eqb}
+use Rattle.std.specs.Prelude.{ℕ, ◌+◌, ◌*◌, ◌-◌, ◌≡◌, Bool, true, false, cond, not, ◌&&◌, List, [], ◌∷◌, ◌++◌, eqb, Option, Some, None}
 use Prim.Native.Char.{code}
 use Rattle.lines.specs.Number.{digit}
 use Rattle.length_input.specs.declared.Input.{Input}
 use Rattle.length_input.specs.declared.Input.TheVariants.{Empty, Digits, Ended, Misshapen}
-use Rattle.length_input.specs.declared.WordLength.{WordLength}
-use Rattle.length_input.specs.declared.WordLength.TheVariants.{Value, Misshapen as NoLength}
 use Rattle.length_input.specs.Length.{capped, length_in, length_number}
 
 -- no byte yet
@@ -32,11 +30,11 @@ with_bytes i [] = i
 with_bytes i (b ∷ bs) = with_bytes (with_byte i b) bs
 
 -- the length, as if the input ended here
-unfoldable pub length_of : Input → WordLength
-length_of Empty = NoLength
-length_of (Digits n) = Value n
-length_of (Ended n) = Value n
-length_of Misshapen = NoLength
+unfoldable pub length_of : Input → Option ℕ
+length_of Empty = None
+length_of (Digits n) = Some n
+length_of (Ended n) = Some n
+length_of Misshapen = None
 
 -- whether it is one
 abbrev pub is_length : Input → Bool
@@ -46,7 +44,7 @@ is_length (Ended n) = true
 is_length Misshapen = false
 
 -- the answer, and its number by the input alone
-pub record LengthAs (i : Input) (r : WordLength) : Type 0 where
+pub record LengthAs (i : Input) (r : Option ℕ) : Type 0 where
   pub answer : r ≡ length_of i
   pub number : length_number r ≡ cond (is_length i) 0 10
 

@@ -1,12 +1,8 @@
 -- The length that `word_counts` reads from standard input, one decimal line (docs/DECISIONS.md, 89), in the form that document 01 gives the numbers of
 -- a script: "decimal numbers without leading zeros, .. and a line feed (the last may lack it)". What is no such line is 10.
-use Rattle.std.specs.Prelude.{ℕ, ◌-◌, ◌^◌, cond, List, [], ◌∷◌, eqb, ltb}
+use Rattle.std.specs.Prelude.{ℕ, ◌-◌, ◌^◌, cond, List, [], ◌∷◌, eqb, ltb, Option, Some, None}
 use Prim.Native.Char.{code}
 use Rattle.lines.specs.Number.{begins, number_from}
-use Rattle.lines.specs.declared.Number.{Number}
-use Rattle.lines.specs.declared.Number.TheVariants.{Value as Is, Misshapen as NoNumber}
-use Rattle.length_input.specs.declared.WordLength.{WordLength}
-use Rattle.length_input.specs.declared.WordLength.TheVariants.{Value, Misshapen}
 
 -- a line without its line feed, if it has one at the end
 unfoldable pub line_in : List ℕ → List ℕ
@@ -18,15 +14,15 @@ line_in (b ∷ c ∷ bs) = b ∷ line_in (c ∷ bs)
 unfoldable pub capped : ℕ → ℕ
 capped x = cond (ltb x (2 ^ 64)) x (2 ^ 64 - 1)
 
-unfoldable pub length_by : Number → WordLength
-length_by (Is x) = Value (capped x)
-length_by NoNumber = Misshapen
+unfoldable pub length_by : Option ℕ → Option ℕ
+length_by (Some x) = Some (capped x)
+length_by None = None
 
 -- the length that the bytes of the whole input are
-unfoldable pub length_in : List ℕ → WordLength
-length_in bs = cond (begins (line_in bs)) (length_by (number_from 0 (line_in bs))) Misshapen
+unfoldable pub length_in : List ℕ → Option ℕ
+length_in bs = cond (begins (line_in bs)) (length_by (number_from 0 (line_in bs))) None
 
 -- document 01, 10: "message or script line misshapen"
-abbrev pub length_number : WordLength → ℕ
-length_number (Value n) = 0
-length_number Misshapen = 10
+abbrev pub length_number : Option ℕ → ℕ
+length_number (Some n) = 0
+length_number None = 10

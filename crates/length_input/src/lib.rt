@@ -16,13 +16,6 @@ pub enum Input {
     Misshapen,
 }
 
-// The length that the input is, if it is one.
-#[derive(Clone, Copy)]
-pub enum WordLength {
-    Value(u64),
-    Misshapen,
-}
-
 // The input before its first byte.
 pub fn begun() -> Input
     ensures { result ≡ begun }
@@ -87,14 +80,14 @@ pub fn with_bytes(i: Input, s: &[u8]) -> Input
     longer
 }
 
-// The length that the input is, if it ends here.
-pub fn length_of(i: Input) -> WordLength
+// The length that the input is, if it is one and ends here.
+pub fn length_of(i: Input) -> Option<u64>
     ensures { LengthAs i result }
 {
     match i {
-        Input::Empty => WordLength::Misshapen,
-        Input::Digits(n) => WordLength::Value(n),
-        Input::Ended(n) => WordLength::Value(n),
-        Input::Misshapen => WordLength::Misshapen,
+        Input::Empty => None,
+        Input::Digits(n) => Some(n),
+        Input::Ended(n) => Some(n),
+        Input::Misshapen => None,
     }
 }

@@ -12,7 +12,6 @@ use Rattle.std.specs.Option.{unwrap_or}
 use Rattle.std.specs.List.{position, position_or_len}
 use Rattle.std.proofs.lemmas.List.Recursion.{is_position_or_len}
 use Rattle.std.proofs.lemmas.List.Sums.{prefix_len-le-length}
-use Rattle.bits.specs.declared.Maybe.TheVariants.{Nothing}
 use Rattle.lines.specs.Number.{number_of, space_in}
 use Rattle.lines.proofs.Numbers.{byte_long}
 
@@ -33,7 +32,7 @@ space_found s {r} e = ap (λ (q : Option ℕ). unwrap_or q (length s)) e ∙ go 
     go false g = let f = ltb-false _ _ g in let k = prefix_len-le-length (λ b. not (eqb b 32)) s in omega arith
 
 -- of more than k + 4 bytes more than k stand behind the first space, or what stands before it is too long for a number
-pub around : (bs : List ℕ) (k : ℕ) {P : Type 0} → k + 4 < length bs → (number_of (take (space_in bs) bs) ≡ Nothing → P) → (k < length (drop (space_in bs + 1) bs) → P) → P
+pub around : (bs : List ℕ) (k : ℕ) {P : Type 0} → k + 4 < length bs → (number_of (take (space_in bs) bs) ≡ None → P) → (k < length (drop (space_in bs + 1) bs) → P) → P
 around bs k {P} h first second = go (leb (space_in bs) 3) refl
   where
     go : (b : Bool) → leb (space_in bs) 3 ≡ b → P

@@ -1,19 +1,15 @@
 -- Document 01, "The two-valve sheet": "A script line is its letter and decimal numbers without leading zeros, one space before each, and a line
 -- feed (the last may lack it); any other is 10", and "numbers over 255 are 10". A simulation's reading may be up to 65,535.
-use Rattle.std.specs.Prelude.{ℕ, suc, ◌+◌, ◌*◌, ◌-◌, List, [], ◌∷◌, Bool, true, false, cond, not, ◌&&◌, get_or, eqb, leb}
+use Rattle.std.specs.Prelude.{ℕ, suc, ◌+◌, ◌*◌, ◌-◌, List, [], ◌∷◌, Bool, true, false, cond, not, ◌&&◌, get_or, eqb, leb, Option, Some, None}
 use Prim.Native.Char.{code}
-use Rattle.bits.specs.declared.Maybe.{Maybe}
-use Rattle.bits.specs.declared.Maybe.TheVariants.{Just, Nothing}
-use Rattle.lines.specs.declared.Number.{Number}
-use Rattle.lines.specs.declared.Number.TheVariants.{Value, Misshapen}
 
 abbrev pub digit : ℕ → Bool
 digit b = leb (code "0") b && leb b (code "9")
 
 -- the number that bytes make behind the digits of n, if all are digits
-unfoldable pub number_from : ℕ → List ℕ → Number
-number_from n [] = Value n
-number_from n (b ∷ bs) = cond (digit b) (number_from (n * 10 + (b - code "0")) bs) Misshapen
+unfoldable pub number_from : ℕ → List ℕ → Option ℕ
+number_from n [] = Some n
+number_from n (b ∷ bs) = cond (digit b) (number_from (n * 10 + (b - code "0")) bs) None
 
 -- "without leading zeros": a digit alone, or the first of several, which is not 0
 unfoldable pub begins : List ℕ → Bool
@@ -22,22 +18,17 @@ begins (b ∷ []) = true
 begins (b ∷ c ∷ bs) = not (eqb b (code "0"))
 
 -- a number over the limit is none
-unfoldable pub up_to : ℕ → Number → Number
-up_to limit (Value n) = cond (leb n limit) (Value n) Misshapen
-up_to limit Misshapen = Misshapen
+unfoldable pub up_to : ℕ → Option ℕ → Option ℕ
+up_to limit (Some n) = cond (leb n limit) (Some n) None
+up_to limit None = None
 
 -- "decimal numbers without leading zeros"
-unfoldable pub number_up_to : ℕ → List ℕ → Number
-number_up_to limit bs = cond (begins bs) (up_to limit (number_from 0 bs)) Misshapen
-
--- as the code answers a byte that may be missing
-abbrev pub maybe_of : Number → Maybe
-maybe_of (Value n) = Just n
-maybe_of Misshapen = Nothing
+unfoldable pub number_up_to : ℕ → List ℕ → Option ℕ
+number_up_to limit bs = cond (begins bs) (up_to limit (number_from 0 bs)) None
 
 -- "numbers over 255 are 10"
-unfoldable pub number_of : List ℕ → Maybe
-number_of bs = maybe_of (number_up_to 255 bs)
+unfoldable pub number_of : List ℕ → Option ℕ
+number_of bs = number_up_to 255 bs
 
 -- the place of the first space, or the length
 unfoldable pub space_in : List ℕ → ℕ

@@ -6,20 +6,11 @@ ghost use Rattle.lines.specs.Number.{number_from, up_to, number_up_to, number_of
 ghost use Rattle.lines.specs.Partial.{begun, with_byte, has_byte};
 ghost use Rattle.lines.specs.Hex.{hex_digit};
 
-use bits::Maybe;
-
 // The first twelve bytes of a line that is still coming, and how many of them there are.
 #[derive(Clone, Copy)]
 pub struct Partial {
     pub bytes: [u8; 12],
     pub length: usize,
-}
-
-// The number that bytes are, if they are one.
-#[derive(Clone, Copy)]
-pub enum Number {
-    Value(u16),
-    Misshapen,
 }
 
 // A line before its first byte.
@@ -55,48 +46,46 @@ pub fn has_byte(p: Partial) -> bool
 }
 
 // The number up to a limit that digits make.
-fn digits_of(s: &[u8], limit: u16) -> Number
+fn digits_of(s: &[u8], limit: u16) -> Option<u16>
     ensures { result ≡ up_to limit (number_from 0 s.now) }
 {
     let most = usize::from(limit);
     let mut n: usize = 0;
     for b in s {
         if !b.is_ascii_digit() {
-            return Number::Misshapen;
+            return None;
         }
         n = n * 10 + usize::from(*b - b'0');
         if most < n {
-            return Number::Misshapen;
+            return None;
         }
     }
-    Number::Value(n as u16)
+    Some(n as u16)
 }
 
-// The number up to a limit that bytes are, without leading zeros.
-pub fn number_up_to(s: &[u8], limit: u16) -> Number
+// The number up to a limit that bytes are, without leading zeros, if they are one.
+pub fn number_up_to(s: &[u8], limit: u16) -> Option<u16>
     ensures { result ≡ number_up_to limit s.now }
 {
     if s.len() == 0 {
-        return Number::Misshapen;
+        return None;
     }
     if s.len() == 1 {
         return digits_of(s, limit);
     }
     if s[0] == b'0' {
-        Number::Misshapen
+        None
     } else {
         digits_of(s, limit)
     }
 }
 
-// The number up to 255 that bytes are, without leading zeros.
-pub fn number_of(s: &[u8]) -> Maybe
+// The number up to 255 that bytes are, without leading zeros, if they are one.
+pub fn number_of(s: &[u8]) -> Option<u8>
     ensures { result ≡ number_of s.now }
 {
-    match number_up_to(s, 255) {
-        Number::Value(n) => Maybe::Just(n as u8),
-        Number::Misshapen => Maybe::Nothing,
-    }
+    let n = number_up_to(s, 255)?;
+    Some(n as u8)
 }
 
 // The place of the first space, or the length.

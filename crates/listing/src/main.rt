@@ -3,7 +3,6 @@
 // be of any length.
 #![tactic(auto)]
 
-use checker::Examined;
 use device_states::Device;
 use lines::Partial;
 use places::Places;
@@ -95,8 +94,8 @@ fn run_on(rt: &(impl Input + Print), image: &[u8], places: Places) -> io::Result
 
 fn run(rt: &(impl Input + Print), image: &[u8]) -> io::Result<()> {
     match checker::examine(image) {
-        Examined::Accepted(places) => run_on(rt, image, places),
-        Examined::Refused(n, at) => print(rt, script::plan_refused_line(n, at)),
+        Ok(places) => run_on(rt, image, places),
+        Err(e) => print(rt, script::plan_refused_line(e.number, e.offset)),
     }
 }
 

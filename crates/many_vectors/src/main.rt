@@ -3,9 +3,9 @@
 // example_states the own part of a module, and crate texts makes what is printed.
 #![tactic(auto)]
 
-use messages::{Message, Parsed};
-use modules::{Called, Turn};
+use messages::Message;
 use permits::{Holder, Module, ModuleCalled, Served, Stepped, Supervisor, SupervisorCalled};
+use refusal::Refusal;
 use std::io;
 use texts::Text;
 
@@ -26,10 +26,10 @@ fn refused(number: u8, offset: usize) -> Text {
     texts::push_spaced(texts::push_all(t, b" at"), offset)
 }
 
-fn print_called(rt: &impl Print, answer: Called) -> io::Result<()> {
+fn print_called(rt: &impl Print, answer: Result<(), Refusal>) -> io::Result<()> {
     match answer {
-        Called::Done => say(rt, b"done\n"),
-        Called::Refused(number, offset) => print(rt, texts::push(refused(number, offset), b'\n')),
+        Ok(()) => say(rt, b"done\n"),
+        Err(e) => print(rt, texts::push(refused(e.number, e.offset), b'\n')),
     }
 }
 
@@ -38,27 +38,27 @@ fn wrote(what: &[u8], x: u8, n: usize) -> Text {
     texts::push_spaced(texts::push_field(texts::word(what), x), n)
 }
 
-fn turn_text(turn: Turn, n: usize) -> Text {
+fn turn_text(turn: Option<u8>, n: usize) -> Text {
     match turn {
-        Turn::Event(e) => wrote(b"event", e, n),
-        Turn::Nothing => texts::push_spaced(texts::word(b"none"), n),
+        Some(e) => wrote(b"event", e, n),
+        None => texts::push_spaced(texts::word(b"none"), n),
     }
 }
 
-fn stepped_text(answer: Stepped) -> Text {
+fn stepped_text(answer: Result<Stepped, Refusal>) -> Text {
     match answer {
-        Stepped::Turns(turn, n) => turn_text(turn, n),
-        Stepped::Bids(v, n) => wrote(b"bids", v, n),
-        Stepped::Waits => texts::word(b"waits"),
-        Stepped::Refused(number, offset) => refused(number, offset),
+        Ok(Stepped::Turns(turn, n)) => turn_text(turn, n),
+        Ok(Stepped::Bids(v, n)) => wrote(b"bids", v, n),
+        Ok(Stepped::Waits) => texts::word(b"waits"),
+        Err(e) => refused(e.number, e.offset),
     }
 }
 
-fn served_text(answer: Served) -> Text {
+fn served_text(answer: Result<Served, Refusal>) -> Text {
     match answer {
-        Served::Sends(m, n) => wrote(b"sends", m, n),
-        Served::Waits => texts::word(b"waits"),
-        Served::Refused(number, offset) => refused(number, offset),
+        Ok(Served::Sends(m, n)) => wrote(b"sends", m, n),
+        Ok(Served::Waits) => texts::word(b"waits"),
+        Err(e) => refused(e.number, e.offset),
     }
 }
 
@@ -117,10 +117,10 @@ fn message_text(g: Message) -> Text {
     }
 }
 
-fn print_parsed(rt: &impl Print, p: Parsed) -> io::Result<()> {
+fn print_parsed(rt: &impl Print, p: Option<Message>) -> io::Result<()> {
     match p {
-        Parsed::Whole(g) => print(rt, texts::push(message_text(g), b'\n')),
-        Parsed::Misshapen => say(rt, b"misshapen\n"),
+        Some(g) => print(rt, texts::push(message_text(g), b'\n')),
+        None => say(rt, b"misshapen\n"),
     }
 }
 

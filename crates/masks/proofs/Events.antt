@@ -8,16 +8,14 @@ use native.Mathlib.Omega.{arith}
 use lib.Dec.{eqb, ltb}
 use lib.Bits.{bit_and, bit_or}
 use borrow.Author.Tests.{lt-ltb, le-ltb, ltb-true, ltb-false}
-use Rattle.std.specs.Prelude.{min}
+use Rattle.std.specs.Prelude.{min, Option, Some, None, is_some}
 use Rattle.std.proofs.Math.Nat.{le-min}
-use Rattle.bits.specs.Bit.{bit, mask_of, is_some}
+use Rattle.bits.specs.Bit.{bit, mask_of}
 use Rattle.bits.proofs.Laws.{bit_above, shr_none}
 use Rattle.bits.proofs.Mask.{mask_bit, mask_small, mask_is, common_is}
 use Rattle.records.specs.Key.{key_by}
 use Rattle.records.specs.declared.Record.{Record}
 use Rattle.reader.specs.Find.{find_in, found}
-use Rattle.reader.specs.declared.Found.{Found}
-use Rattle.reader.specs.declared.Found.TheVariants.{It, Missing}
 use Rattle.places.specs.Places.{moves_of}
 use Rattle.rules.specs.LookUp.{events_of, supervisors_of, owner_of, controllable, alphabet_of}
 use Rattle.plan.specs.Plan.{target, module_move, has_command, commands, commands_among, own_event, neighbour, neighbours}
@@ -67,10 +65,10 @@ within_count b n v h = sym (ap (λ (t : Bool). t && b v) (lt-ltb v n h))
 
 -- ---- commands
 
-found_target : (x : Found) → found x ≡ is_some (target x)
+found_target : (x : Option Record) → found x ≡ is_some (target x)
 unfolding found target
-found_target (It r) = refl
-found_target Missing = refl
+found_target (Some r) = refl
+found_target None = refl
 
 -- a test of which the second part is asked for only where the first is passed
 module _ {a x : Bool} (e : a ≡ x) (y : Bool) where

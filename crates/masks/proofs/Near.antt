@@ -1,4 +1,5 @@
 -- The modules near a supervisor: the owners of its alphabet's events, event by event.
+use Rattle.std.specs.Prelude.{is_some}
 use mathlib.Core.Path.{◌≡◌, refl, sym, ap, ap₂, ◌∙◌, subst}
 use mathlib.Core.List.{List}
 use mathlib.Core.Bool.{Bool, true, false, cond, ◌&&◌, ◌||◌, and-true, and-false, or-false}
@@ -10,7 +11,7 @@ use lib.Dec.{eqb, ltb}
 use lib.Bits.{bit_or, or_lt}
 use lib.Pow.{pow_pos, pow_mono, pow-lt}
 use borrow.Author.Tests.{lt-ltb, le-ltb, ltb-true, eqb-true, eqb-false, eq-eqb, ne_eqb}
-use Rattle.bits.specs.Bit.{bit, some_below, mask_of, is_some}
+use Rattle.bits.specs.Bit.{bit, some_below, mask_of}
 use Rattle.bits.proofs.Laws.{bit_or_lem, bit_pow, bit_none, bit_above, shr_none}
 use Rattle.bits.proofs.Least.{least_more, some_least}
 use Rattle.bits.proofs.Mask.{mask_bit, mask_small, mask_is}

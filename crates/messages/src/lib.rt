@@ -35,15 +35,8 @@ pub enum Message {
     },
 }
 
-// What bytes are: a message, or misshapen.
-#[derive(Clone, Copy)]
-pub enum Parsed {
-    Whole(Message),
-    Misshapen,
-}
-
-// The message that the bytes are.
-pub fn read(bytes: &[u8]) -> Parsed
+// The message that the bytes are, or None if they are misshapen.
+pub fn read(bytes: &[u8]) -> Option<Message>
     ensures { ParsedAs bytes.now result }
 {
     let n = bytes.len();
@@ -51,14 +44,14 @@ pub fn read(bytes: &[u8]) -> Parsed
     let f1 = words::byte_at(bytes, 1);
     let f2 = words::byte_at(bytes, 2);
     if (kind == 0x01) & (n == BID_SIZE) {
-        return Parsed::Whole(Message::Bid {
+        return Some(Message::Bid {
             owner: f1,
             supervisor: f2,
         });
     }
     if (kind == 0x02) & (n == PERMIT_SIZE) {
         let mask = words::word_at(bytes, 3);
-        return Parsed::Whole(Message::Permit {
+        return Some(Message::Permit {
             supervisor: f1,
             owner: f2,
             mask,
@@ -66,13 +59,13 @@ pub fn read(bytes: &[u8]) -> Parsed
     }
     if (kind == 0x03) & (n == RELEASE_SIZE) {
         let f3 = words::byte_at(bytes, 3);
-        return Parsed::Whole(Message::Release {
+        return Some(Message::Release {
             owner: f1,
             supervisor: f2,
             event: f3,
         });
     }
-    Parsed::Misshapen
+    None
 }
 
 // How many bytes a message is.

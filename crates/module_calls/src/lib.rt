@@ -1,13 +1,11 @@
 // The start, the responses and the ticks of a module on many devices: definitions in permits/specs/Module.antt.
 #![tactic(auto)]
 
-ghost use Rattle.std.specs.Prelude.{◌≡◌};
+ghost use Rattle.std.specs.Prelude.{◌≡◌, Ok};
 ghost use Rattle.places.specs.Places.{records_by};
-ghost use Rattle.rules.specs.declared.Verdict.TheVariants.{Accepted};
 ghost use Rattle.permits.specs.Module.{module_fits, reply_by, module_respond, module_tick, start_module, module_start};
 
-use checker::Examined;
-use modules::{Called, Replied};
+use modules::Replied;
 use permits::{Module, ModuleCalled};
 use places::Places;
 use water::Flow;
@@ -27,7 +25,7 @@ fn fits(image: &[u8], places: Places, m: u8, x: Module) -> bool
 
 // The answer to the reply of the module's own part, and the state with it.
 fn replied(image: &[u8], places: Places, m: u8, x: Module, r: Replied) -> ModuleCalled
-    ensures { result ≡ reply_by Accepted (records_by image.now places) m x r }
+    ensures { result ≡ reply_by (Ok tt) (records_by image.now places) m x r }
 {
     if m < plan::modules_of(image, places) {
         if fits(image, places, m, x) {
@@ -52,12 +50,12 @@ pub fn respond(image: &[u8], m: u8, x: Module, e: u8) -> ModuleCalled
     ensures { result ≡ module_respond image.now m x e }
 {
     match checker::examine(image) {
-        Examined::Accepted(places) => {
+        Ok(places) => {
             let own = x.own;
             let r = modules::respond(image, places, m, e, own);
             replied(image, places, m, x, r)
         }
-        Examined::Refused(n, at) => holding::refused(x, n, at),
+        Err(e) => holding::refused(x, e.number, e.offset),
     }
 }
 
@@ -66,12 +64,12 @@ pub fn tick(image: &[u8], m: u8, x: Module, f: Flow) -> ModuleCalled
     ensures { result ≡ module_tick image.now m x f }
 {
     match checker::examine(image) {
-        Examined::Accepted(places) => {
+        Ok(places) => {
             let own = x.own;
             let r = modules::tick(image, places, f, own);
             replied(image, places, m, x, r)
         }
-        Examined::Refused(n, at) => holding::refused(x, n, at),
+        Err(e) => holding::refused(x, e.number, e.offset),
     }
 }
 
@@ -91,16 +89,16 @@ pub fn start(image: &[u8], m: u8) -> ModuleCalled
     ensures { result ≡ module_start image.now m }
 {
     match checker::examine(image) {
-        Examined::Accepted(places) => {
+        Ok(places) => {
             if m < plan::modules_of(image, places) {
                 ModuleCalled {
-                    answer: Called::Done,
+                    answer: Ok(()),
                     state: started(image, places, m),
                 }
             } else {
                 holding::refused(permits::empty_module(), 11, 0)
             }
         }
-        Examined::Refused(n, at) => holding::refused(permits::empty_module(), n, at),
+        Err(e) => holding::refused(permits::empty_module(), e.number, e.offset),
     }
 }

@@ -1,34 +1,28 @@
 -- A message delivered, from what the code is told.
+use Rattle.std.specs.Prelude.{Option, Some, None, Result, Ok, Err}
+use Rattle.refusal.specs.Refusal.{refusal}
+use Rattle.refusal.specs.declared.Refusal.{Refusal}
 use mathlib.Core.Path.{◌≡◌, refl, sym, ap, ◌∙◌}
 use mathlib.Core.List.{List}
-use mathlib.Core.Option.{Option}
 use mathlib.Core.Bool.{Bool, true, false, cond, not, ◌&&◌, true≢false}
 use Prim.Native.Nat.{ℕ, ◌≤◌, ◌<◌}
 use native.Mathlib.Omega.{arith}
 use lib.Bits.{bit_or}
 use lib.Dec.{eqb, ltb}
 use borrow.Author.Tests.{lt-ltb, eqb-true}
-use Rattle.bits.specs.Bit.{bit, put_bit, option_of}
-use Rattle.bits.specs.declared.Maybe.{Maybe}
-use Rattle.bits.specs.declared.Maybe.TheVariants.{Just, Nothing}
+use Rattle.bits.specs.Bit.{bit, put_bit}
 use Rattle.bits.proofs.Least.{least_some}
 use Rattle.bits.proofs.Mask.{mask_bit}
 use Rattle.records.specs.declared.Record.{Record}
 use Rattle.rules.specs.LookUp.{modules_of, supervisors_of}
-use Rattle.rules.specs.declared.Verdict.TheVariants.{Accepted as IsAccepted}
 use Rattle.places.specs.declared.Places.{Places}
 use Rattle.places.specs.Places.{records_by}
 use Rattle.checker.specs.Examined.{examined_of}
-use Rattle.checker.specs.declared.Examined.{Examined}
-use Rattle.checker.specs.declared.Examined.TheVariants.{Accepted, Refused}
 use Rattle.checker.proofs.Examining.{call_by, refused_call}
 use Rattle.plan.specs.Plan.{neighbour, neighbours}
-use Rattle.modules.specs.declared.Called.TheVariants.{Done}
 use Rattle.messages.specs.Message.{parse}
 use Rattle.messages.specs.declared.Message.{Message}
 use Rattle.messages.specs.declared.Message.TheVariants.{Bid, Permit, Release}
-use Rattle.messages.specs.declared.Parsed.{Parsed}
-use Rattle.messages.specs.declared.Parsed.TheVariants.{Whole, Misshapen}
 use Rattle.permits.specs.Names.{neighbours?, named}
 use Rattle.permits.specs.Module.{with_permits, with_bid, missing_in, fits_in, call_refused, is_for, bid_with, after_permit, taken_by, deliver_in, absent, deliver_by, module_deliver}
 use Rattle.permits.specs.declared.Module.{Module}
@@ -49,11 +43,11 @@ and_both true false c e = absurd (true≢false (sym e))
 and_both false b c e = absurd (true≢false (sym e))
 
 -- the supervisor that a bid is with is one of 32
-pub permit_small : (n m v : ℕ) (b : Bool) (adjacent held : ℕ) {r : Maybe} {w : ℕ} → option_of r ≡ missing_in adjacent held → r ≡ Just w → (eqb n m && (b && eqb w v)) ≡ true → v < 32
+pub permit_small : (n m v : ℕ) (b : Bool) (adjacent held : ℕ) {r : Option ℕ} {w : ℕ} → r ≡ missing_in adjacent held → r ≡ Some w → (eqb n m && (b && eqb w v)) ≡ true → v < 32
 unfolding missing_in
 permit_small n m v b adjacent held {w = w} e f t =
     let s : w ≡ v = eqb-true w v (and_both (eqb n m) b (eqb w v) t) in
-    omega (arith, (least_some (λ u. bit adjacent u && not (bit held u)) 32 w (sym (ap option_of (sym f) ∙ e))).below)
+    omega (arith, (least_some (λ u. bit adjacent u && not (bit held u)) 32 w (sym ((sym f) ∙ e))).below)
 
 -- no bid is with the supervisor where none is missing
 no_bid : (a b : Bool) → (a && (b && false)) ≡ false
@@ -61,31 +55,31 @@ no_bid true true = refl
 no_bid true false = refl
 no_bid false b = refl
 
-module _ (adjacent m : ℕ) (x : Module) (v n k : ℕ) (r : Maybe) (e : option_of r ≡ missing_in adjacent x.held) where
+module _ (adjacent m : ℕ) (x : Module) (v n k : ℕ) (r : Option ℕ) (e : r ≡ missing_in adjacent x.held) where
   -- the test of the bid by what the code found
-  tested : (rs : List Record) → adjacent ≡ neighbours rs m → (eqb n m && bid_with rs m x v) ≡ (eqb n m && (x.bid && is_for (option_of r) v))
+  tested : (rs : List Record) → adjacent ≡ neighbours rs m → (eqb n m && bid_with rs m x v) ≡ (eqb n m && (x.bid && is_for r v))
   unfolding bid_with
   tested rs q = ap (λ (o : Option ℕ). eqb n m && (x.bid && is_for o v)) (sym (e ∙ missing_is adjacent x.held rs m q))
 
-  taken : (rs : List Record) → adjacent ≡ neighbours rs m → (t : Bool) → (eqb n m && (x.bid && is_for (option_of r) v)) ≡ t
-      → cond t (record { answer = Done; state = after_permit x v k }) (call_refused x 12 0) ≡ taken_by rs m x (Permit v n k)
+  taken : (rs : List Record) → adjacent ≡ neighbours rs m → (t : Bool) → (eqb n m && (x.bid && is_for r v)) ≡ t
+      → cond t (record { answer = Ok tt; state = after_permit x v k }) (call_refused x 12 0) ≡ taken_by rs m x (Permit v n k)
   unfolding taken_by
   taken rs q t f = sym (simp (tested rs q ∙ f))
 
-  pub permit_none : {c : ModuleCalled} → r ≡ Nothing → c ≡ call_refused x 12 0 → (rs : List Record) → adjacent ≡ neighbours rs m → c ≡ taken_by rs m x (Permit v n k)
+  pub permit_none : {c : ModuleCalled} → r ≡ None → c ≡ call_refused x 12 0 → (rs : List Record) → adjacent ≡ neighbours rs m → c ≡ taken_by rs m x (Permit v n k)
   unfolding is_for
-  permit_none f g rs q = g ∙ taken rs q false (ap (λ (y : Maybe). eqb n m && (x.bid && is_for (option_of y) v)) f ∙ no_bid (eqb n m) x.bid)
+  permit_none f g rs q = g ∙ taken rs q false (ap (λ (y : Option ℕ). eqb n m && (x.bid && is_for y v)) f ∙ no_bid (eqb n m) x.bid)
 
-  module _ {w : ℕ} (f : r ≡ Just w) where
-    found : (t : Bool) → (eqb n m && (x.bid && eqb w v)) ≡ t → (eqb n m && (x.bid && is_for (option_of r) v)) ≡ t
+  module _ {w : ℕ} (f : r ≡ Some w) where
+    found : (t : Bool) → (eqb n m && (x.bid && eqb w v)) ≡ t → (eqb n m && (x.bid && is_for r v)) ≡ t
     unfolding is_for
-    found t q = ap (λ (y : Maybe). eqb n m && (x.bid && is_for (option_of y) v)) f ∙ q
+    found t q = ap (λ (y : Option ℕ). eqb n m && (x.bid && is_for y v)) f ∙ q
 
     pub permit_taken : {h : ℕ} {s : Module} → (eqb n m && (x.bid && eqb w v)) ≡ true → h ≡ put_bit x.held v true
         → s ≡ with_bid (with_permits x h (bit_or x.received k)) false → (rs : List Record) → adjacent ≡ neighbours rs m
-        → (record { answer = Done; state = s }) ≡ taken_by rs m x (Permit v n k)
+        → (record { answer = Ok tt; state = s }) ≡ taken_by rs m x (Permit v n k)
     permit_taken t g e rs q =
-        ap (λ (y : Module). record { answer = Done; state = y }) (e ∙ ap (λ (y : ℕ). with_bid (with_permits x y (bit_or x.received k)) false) g)
+        ap (λ (y : Module). record { answer = Ok tt; state = y }) (e ∙ ap (λ (y : ℕ). with_bid (with_permits x y (bit_or x.received k)) false) g)
         ∙ taken rs q true (found true t)
 
     pub permit_other : {c : ModuleCalled} → (eqb n m && (x.bid && eqb w v)) ≡ false → c ≡ call_refused x 12 0 → (rs : List Record) → adjacent ≡ neighbours rs m → c ≡ taken_by rs m x (Permit v n k)
@@ -126,12 +120,12 @@ module _ (adjacent m : ℕ) (x : Module) {g : Message} {c : ModuleCalled} where
       → c ≡ taken_by rs m x g
   take_permit e f rs q = f rs q ∙ ap (taken_by rs m x) (sym e)
 
-module _ (rs : List Record) (m adjacent : ℕ) (x : Module) {p : Parsed} where
-  pub deliver_fitting_misshapen : {c : ModuleCalled} → p ≡ Misshapen → c ≡ call_refused x 10 0 → c ≡ deliver_in rs m x p
+module _ (rs : List Record) (m adjacent : ℕ) (x : Module) {p : Option Message} where
+  pub deliver_fitting_misshapen : {c : ModuleCalled} → p ≡ None → c ≡ call_refused x 10 0 → c ≡ deliver_in rs m x p
   unfolding deliver_in
   deliver_fitting_misshapen e f = f ∙ ap (deliver_in rs m x) (sym e)
 
-  module _ {g : Message} {t : Bool} (e : p ≡ Whole g) (f : t ≡ named rs g) where
+  module _ {g : Message} {t : Bool} (e : p ≡ Some g) (f : t ≡ named rs g) where
     hears : cond t (taken_by rs m x g) (call_refused x 11 0) ≡ deliver_in rs m x p
     unfolding deliver_in
     hears = ap (λ (b : Bool). cond b (taken_by rs m x g) (call_refused x 11 0)) f ∙ ap (deliver_in rs m x) (sym e)
@@ -142,36 +136,36 @@ module _ (rs : List Record) (m adjacent : ℕ) (x : Module) {p : Parsed} where
     pub deliver_fitting_unnamed : {c : ModuleCalled} → t ≡ false → c ≡ call_refused x 11 0 → c ≡ deliver_in rs m x p
     deliver_fitting_unnamed h u = u ∙ ap (λ (b : Bool). cond b (taken_by rs m x g) (call_refused x 11 0)) (sym h) ∙ hears
 
-pub absent_misshapen : (x : Module) {p : Parsed} {c : ModuleCalled} → p ≡ Misshapen → c ≡ call_refused x 10 0 → c ≡ absent x p
+pub absent_misshapen : (x : Module) {p : Option Message} {c : ModuleCalled} → p ≡ None → c ≡ call_refused x 10 0 → c ≡ absent x p
 unfolding absent
 absent_misshapen x e f = f ∙ ap (absent x) (sym e)
 
-pub absent_whole : (x : Module) {p : Parsed} {g : Message} {c : ModuleCalled} → p ≡ Whole g → c ≡ call_refused x 11 0 → c ≡ absent x p
+pub absent_whole : (x : Module) {p : Option Message} {g : Message} {c : ModuleCalled} → p ≡ Some g → c ≡ call_refused x 11 0 → c ≡ absent x p
 unfolding absent
 absent_whole x e f = f ∙ ap (absent x) (sym e)
 
 -- ---- of an accepted plan
 
 module _ (rs : List Record) (m : ℕ) (x : Module) {k : ℕ} {c : ModuleCalled} (e : k ≡ modules_of rs) where
-  pub deliver_absent : (p : Parsed) → k ≤ m → c ≡ absent x p → c ≡ deliver_by IsAccepted rs m x p
+  pub deliver_absent : (p : Option Message) → k ≤ m → c ≡ absent x p → c ≡ deliver_by (Ok tt) rs m x p
   unfolding deliver_by
   deliver_absent p l h = h ∙ lacking rs m x (deliver_in rs m x p) (call_refused x 9 0) (absent x p) e l
 
   module _ {t : Bool} {adjacent : ℕ} (l : m < k) (n : adjacent ≡ neighbours rs m) (f : t ≡ fits_in rs m adjacent x) where
-    pub deliver_unfit : (p : Parsed) → t ≡ false → c ≡ call_refused x 9 0 → c ≡ deliver_by IsAccepted rs m x p
+    pub deliver_unfit : (p : Option Message) → t ≡ false → c ≡ call_refused x 9 0 → c ≡ deliver_by (Ok tt) rs m x p
     unfolding deliver_by
     deliver_unfit p q h = h ∙ unfit rs m x (deliver_in rs m x p) (call_refused x 9 0) (absent x p) e l n f q
 
-    pub deliver_fit : (p : Parsed) → t ≡ true → c ≡ deliver_in rs m x p → c ≡ deliver_by IsAccepted rs m x p
+    pub deliver_fit : (p : Option Message) → t ≡ true → c ≡ deliver_in rs m x p → c ≡ deliver_by (Ok tt) rs m x p
     unfolding deliver_by
     deliver_fit p q h = h ∙ fit rs m x (deliver_in rs m x p) (call_refused x 9 0) (absent x p) e l n f q
 
 -- ---- the image as it was examined
 
-module _ (image : List ℕ) (m : ℕ) (x : Module) (bytes : List ℕ) {d : Examined} {c : ModuleCalled} (e : d ≡ examined_of image) where
-  pub deliver_accepted : {q : Places} {p : Parsed} → d ≡ Accepted q → p ≡ parse bytes → c ≡ deliver_by IsAccepted (records_by image q) m x p → c ≡ module_deliver image m x bytes
-  deliver_accepted {q} f g h = h ∙ ap (deliver_by IsAccepted (records_by image q) m x) g ∙ call_by image e (λ v rs. deliver_by v rs m x (parse bytes)) f
+module _ (image : List ℕ) (m : ℕ) (x : Module) (bytes : List ℕ) {d : Result Places Refusal} {c : ModuleCalled} (e : d ≡ examined_of image) where
+  pub deliver_accepted : {q : Places} {p : Option Message} → d ≡ Ok q → p ≡ parse bytes → c ≡ deliver_by (Ok tt) (records_by image q) m x p → c ≡ module_deliver image m x bytes
+  deliver_accepted {q} f g h = h ∙ ap (deliver_by (Ok tt) (records_by image q) m x) g ∙ call_by image e (λ v rs. deliver_by v rs m x (parse bytes)) f
 
-  pub deliver_refused : {n o : ℕ} → d ≡ Refused n o → c ≡ call_refused x n o → c ≡ module_deliver image m x bytes
+  pub deliver_refused : {n o : ℕ} → d ≡ Err (refusal n o) → c ≡ call_refused x n o → c ≡ module_deliver image m x bytes
   unfolding deliver_by
   deliver_refused f h = h ∙ refused_call image e (λ v rs. deliver_by v rs m x (parse bytes)) f

@@ -1,21 +1,17 @@
 // A message delivered to a module: definitions in permits/specs/Module.antt.
 #![tactic(auto)]
 
-ghost use Rattle.std.specs.Prelude.{◌≡◌, List, true, ◌<◌};
+ghost use Rattle.std.specs.Prelude.{◌≡◌, List, true, ◌<◌, Ok};
 ghost use Rattle.bits.specs.Bit.{put_bit};
 ghost use Rattle.places.specs.Places.{records_by};
 ghost use Rattle.records.specs.declared.Record.{Record};
-ghost use Rattle.rules.specs.declared.Verdict.TheVariants.{Accepted};
 ghost use Rattle.rules.specs.LookUp.{modules_of};
 ghost use Rattle.plan.specs.Plan.{neighbours};
 ghost use Rattle.messages.specs.declared.Message.TheVariants.{Permit};
 ghost use Rattle.permits.specs.Names.{named};
 ghost use Rattle.permits.specs.Module.{taken_by, deliver_in, absent, deliver_by, module_deliver};
 
-use bits::Maybe;
-use checker::Examined;
-use messages::{Message, Parsed};
-use modules::Called;
+use messages::Message;
 use permits::{Module, ModuleCalled};
 use places::Places;
 
@@ -31,13 +27,13 @@ fn hold(held: u32, v: u8) -> u32
 fn take_permit(m: u8, adjacent: u32, x: Module, v: u8, n: u8, k: u64) -> ModuleCalled
     ensures { (rs : List Record) → adjacent ≡ neighbours rs m → result ≡ taken_by rs m x (Permit v n k) }
 {
-    let Maybe::Just(w) = holding::missing(adjacent, x.held) else {
+    let Some(w) = holding::missing(adjacent, x.held) else {
         return holding::refused(x, 12, 0);
     };
     if (n == m) & (x.bid & (w == v)) {
         let state = permits::with_permits(x, hold(x.held, v), x.received | k, false);
         ModuleCalled {
-            answer: Called::Done,
+            answer: Ok(()),
             state,
         }
     } else {
@@ -86,12 +82,12 @@ fn deliver_fitting(
     m: u8,
     adjacent: u32,
     x: Module,
-    p: Parsed,
+    p: Option<Message>,
 ) -> ModuleCalled
     requires { (adjacent ≡ neighbours (records_by image.now places) m) × (m < modules_of (records_by image.now places)) }
     ensures { result ≡ deliver_in (records_by image.now places) m x p }
 {
-    let Parsed::Whole(g) = p else {
+    let Some(g) = p else {
         return holding::refused(x, 10, 0);
     };
     if is_named(image, places, m, adjacent, g) {
@@ -102,17 +98,17 @@ fn deliver_fitting(
 }
 
 // A delivery to a module that the plan lacks.
-fn absent(x: Module, p: Parsed) -> ModuleCalled
+fn absent(x: Module, p: Option<Message>) -> ModuleCalled
     ensures { result ≡ absent x p }
 {
-    let Parsed::Whole(_) = p else {
+    let Some(_) = p else {
         return holding::refused(x, 10, 0);
     };
     holding::refused(x, 11, 0)
 }
 
-fn deliver_in(image: &[u8], places: Places, m: u8, x: Module, p: Parsed) -> ModuleCalled
-    ensures { result ≡ deliver_by Accepted (records_by image.now places) m x p }
+fn deliver_in(image: &[u8], places: Places, m: u8, x: Module, p: Option<Message>) -> ModuleCalled
+    ensures { result ≡ deliver_by (Ok tt) (records_by image.now places) m x p }
 {
     if m < plan::modules_of(image, places) {
         let adjacent = masks::neighbours(image, places, m);
@@ -131,10 +127,10 @@ pub fn deliver(image: &[u8], m: u8, x: Module, bytes: &[u8]) -> ModuleCalled
     ensures { result ≡ module_deliver image.now m x bytes.now }
 {
     match checker::examine(image) {
-        Examined::Accepted(places) => {
+        Ok(places) => {
             let p = messages::read(bytes);
             deliver_in(image, places, m, x, p)
         }
-        Examined::Refused(n, at) => holding::refused(x, n, at),
+        Err(e) => holding::refused(x, e.number, e.offset),
     }
 }

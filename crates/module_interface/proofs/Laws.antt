@@ -1,4 +1,7 @@
 -- The calls over lent bytes, from what the code is told.
+use Rattle.std.specs.Prelude.{Ok, Err}
+use Rattle.refusal.specs.Refusal.{refused_number}
+use Rattle.refusal.specs.declared.Refusal.{Refusal}
 use mathlib.Core.Path.{◌≡◌, refl, ap, ap₂, ◌∙◌, subst}
 use mathlib.Core.List.{List, []}
 use mathlib.Core.Bool.{Bool, true, false}
@@ -11,9 +14,6 @@ use borrow.Author.Tests.{lt-ltb, le-ltb}
 use Rattle.messages.specs.Message.{put_at, short}
 use Rattle.messages.proofs.Writing.{put_start}
 use Rattle.water.specs.declared.Flow.{Flow}
-use Rattle.modules.specs.Numbers.{called_number}
-use Rattle.modules.specs.declared.Called.TheVariants.{Done, Refused}
-use Rattle.permits.specs.Numbers.{stepped_number}
 use Rattle.permits.specs.Module.{StepCall, module_start, module_step, module_deliver, module_respond, module_tick}
 use Rattle.permits.specs.declared.Module.{Module}
 use Rattle.permits.specs.declared.ModuleCalled.{ModuleCalled}
@@ -27,34 +27,34 @@ use Rattle.packing.specs.Flow.{flow_of}
 use Rattle.module_interface.specs.Calls.{called_on, stepped_on, start_bytes, step_bytes, deliver_bytes, respond_bytes, tick_bytes}
 
 module _ (c : ModuleCalled) (s : List ℕ) {t : Bool} {r : ℕ} where
-  pub keep_yes : {after : List ℕ} → t ≡ eqb (called_number c.answer) 0 → t ≡ true → after ≡ put_at (module_bytes c.state) 0 s → r ≡ called_answer c.answer → Answered (called_on c s) r after []
-  keep_yes e h w z = record { answer = z; state = w ∙ after_yes (called_number c.answer) (put_at (module_bytes c.state) 0 s) s e h; buffer = refl }
+  pub keep_yes : {after : List ℕ} → t ≡ eqb (refused_number c.answer) 0 → t ≡ true → after ≡ put_at (module_bytes c.state) 0 s → r ≡ called_answer c.answer → Answered (called_on c s) r after []
+  keep_yes e h w z = record { answer = z; state = w ∙ after_yes (refused_number c.answer) (put_at (module_bytes c.state) 0 s) s e h; buffer = refl }
 
-  pub keep_no : t ≡ eqb (called_number c.answer) 0 → t ≡ false → r ≡ called_answer c.answer → Answered (called_on c s) r s []
-  keep_no e h z = record { answer = z; state = after_no (called_number c.answer) (put_at (module_bytes c.state) 0 s) s e h; buffer = refl }
+  pub keep_no : t ≡ eqb (refused_number c.answer) 0 → t ≡ false → r ≡ called_answer c.answer → Answered (called_on c s) r s []
+  keep_no e h z = record { answer = z; state = after_no (refused_number c.answer) (put_at (module_bytes c.state) 0 s) s e h; buffer = refl }
 
 module _ (c : ModuleStepped) (s : List ℕ) {t : Bool} {r : ℕ} where
-  pub keep_step_yes : {after : List ℕ} → t ≡ eqb (stepped_number c.answer) 0 → t ≡ true → after ≡ put_at (module_bytes c.state) 0 s → r ≡ stepped_answer c.answer → Answered (stepped_on c.answer c.state s []) r after []
-  keep_step_yes e h w z = record { answer = z; state = w ∙ after_yes (stepped_number c.answer) (put_at (module_bytes c.state) 0 s) s e h; buffer = refl }
+  pub keep_step_yes : {after : List ℕ} → t ≡ eqb (refused_number c.answer) 0 → t ≡ true → after ≡ put_at (module_bytes c.state) 0 s → r ≡ stepped_answer c.answer → Answered (stepped_on c.answer c.state s []) r after []
+  keep_step_yes e h w z = record { answer = z; state = w ∙ after_yes (refused_number c.answer) (put_at (module_bytes c.state) 0 s) s e h; buffer = refl }
 
-  pub keep_step_no : t ≡ eqb (stepped_number c.answer) 0 → t ≡ false → r ≡ stepped_answer c.answer → Answered (stepped_on c.answer c.state s []) r s []
-  keep_step_no e h z = record { answer = z; state = after_no (stepped_number c.answer) (put_at (module_bytes c.state) 0 s) s e h; buffer = refl }
+  pub keep_step_no : t ≡ eqb (refused_number c.answer) 0 → t ≡ false → r ≡ stepped_answer c.answer → Answered (stepped_on c.answer c.state s []) r s []
+  keep_step_no e h z = record { answer = z; state = after_no (refused_number c.answer) (put_at (module_bytes c.state) 0 s) s e h; buffer = refl }
 
 -- ---- a start
 
 module _ (c : ModuleCalled) (b : List ℕ) {r : ℕ} where
-  pub give_short : c.answer ≡ Done → length b < module_size → r ≡ packed 15 0 0 0 → Answered (start_answer module_size c.answer (module_bytes c.state) b) r [] b
+  pub give_short : c.answer ≡ Ok tt → length b < module_size → r ≡ packed 15 0 0 0 → Answered (start_answer module_size c.answer (module_bytes c.state) b) r [] b
   unfolding start_answer
   give_short e h w = rw e (simp (lt-ltb (length b) module_size h) (record { answer = w; state = refl; buffer = refl }))
 
-  pub give_done : {after : List ℕ} → length c.state.own.queue ≡ 8 → c.answer ≡ Done → module_size ≤ length b → after ≡ put_at (module_bytes c.state) 0 b → r ≡ packed 0 0 0 module_size
+  pub give_done : {after : List ℕ} → length c.state.own.queue ≡ 8 → c.answer ≡ Ok tt → module_size ≤ length b → after ≡ put_at (module_bytes c.state) 0 b → r ≡ packed 0 0 0 module_size
       → Answered (start_answer module_size c.answer (module_bytes c.state) b) r [] after
   unfolding start_answer
   give_done n e h w z =
       let fit : short (module_bytes c.state) b ≡ false = le-ltb (length b) (length (module_bytes c.state)) (omega (arith, length_module c.state n)) in
       rw e (simp (le-ltb (length b) module_size h) (record { answer = z; state = refl; buffer = w ∙ put_start (module_bytes c.state) b fit }))
 
-  pub give_refused : {n o : ℕ} → c.answer ≡ Refused n o → r ≡ packed n 0 0 o → Answered (start_answer module_size c.answer (module_bytes c.state) b) r [] b
+  pub give_refused : {e : Refusal} → c.answer ≡ Err e → r ≡ packed e.number 0 0 e.offset → Answered (start_answer module_size c.answer (module_bytes c.state) b) r [] b
   unfolding start_answer
   give_refused e w = rw e (record { answer = w; state = refl; buffer = refl })
 

@@ -1,8 +1,8 @@
 -- The calls of a module on its own device over lent bytes. Each is the call of crate permits on the module that the state's bytes are.
-use Rattle.std.specs.Prelude.{ℕ, List, [], Float}
+use Rattle.refusal.specs.Refusal.{refused_number}
+use Rattle.refusal.specs.declared.Refusal.{Refusal}
+use Rattle.std.specs.Prelude.{ℕ, List, [], Float, Result}
 use Rattle.messages.specs.Message.{put_at}
-use Rattle.modules.specs.Numbers.{called_number}
-use Rattle.permits.specs.Numbers.{stepped_number}
 use Rattle.permits.specs.Module.{StepCall, module_start, module_step, module_deliver, module_respond, module_tick}
 use Rattle.permits.specs.declared.Module.{Module}
 use Rattle.permits.specs.declared.ModuleCalled.{ModuleCalled}
@@ -16,10 +16,10 @@ abbrev pub module_bytes_after : ℕ → Module → List ℕ → List ℕ
 module_bytes_after n x s = lent_after n (put_at (module_bytes x) 0 s) s
 
 abbrev pub called_on : ModuleCalled → List ℕ → Answer
-called_on c s = record { number = called_answer c.answer; state = module_bytes_after (called_number c.answer) c.state s; buffer = [] }
+called_on c s = record { number = called_answer c.answer; state = module_bytes_after (refused_number c.answer) c.state s; buffer = [] }
 
-abbrev pub stepped_on : Stepped → Module → List ℕ → List ℕ → Answer
-stepped_on a x s buffer = record { number = stepped_answer a; state = module_bytes_after (stepped_number a) x s; buffer = buffer }
+abbrev pub stepped_on : Result Stepped Refusal → Module → List ℕ → List ℕ → Answer
+stepped_on a x s buffer = record { number = stepped_answer a; state = module_bytes_after (refused_number a) x s; buffer = buffer }
 
 unfoldable pub start_bytes : List ℕ → ℕ → List ℕ → Answer
 start_bytes image m b = start_answer module_size (module_start image m).answer (module_bytes (module_start image m).state) b

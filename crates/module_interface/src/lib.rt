@@ -6,7 +6,6 @@ ghost use Rattle.party_bytes.specs.Module.{module_size, module_bytes};
 ghost use Rattle.packing.specs.Answer.{Answered, start_answer};
 ghost use Rattle.module_interface.specs.Calls.{called_on, stepped_on, start_bytes, step_bytes, deliver_bytes, respond_bytes, tick_bytes};
 
-use modules::Called;
 use permits::{ModuleCalled, ModuleStepped};
 
 // The answer, and the state if the call is accepted.
@@ -15,7 +14,7 @@ fn keep(state: &mut [u8], c: ModuleCalled) -> u64
 {
     let answer = c.answer;
     let x = c.state;
-    if packing::is_done(answer) {
+    if packing::is_accepted(answer) {
         party_bytes::put_module(&mut *state, x);
         return packing::called(answer);
     }
@@ -27,7 +26,7 @@ fn keep_step(state: &mut [u8], c: ModuleStepped) -> u64
 {
     let answer = c.answer;
     let x = c.state;
-    if packing::is_stepped(answer) {
+    if packing::is_accepted(answer) {
         party_bytes::put_module(&mut *state, x);
         return packing::stepped(answer);
     }
@@ -41,14 +40,14 @@ fn give(buffer: &mut [u8], c: ModuleCalled) -> u64
     let answer = c.answer;
     let x = c.state;
     match answer {
-        Called::Done => {
+        Ok(()) => {
             if buffer.len() < party_bytes::MODULE_SIZE {
                 return packing::pack(15, 0, 0, 0);
             }
             party_bytes::put_module(&mut *buffer, x);
             packing::pack(0, 0, 0, party_bytes::MODULE_SIZE)
         }
-        Called::Refused(n, o) => packing::pack(n, 0, 0, o),
+        Err(e) => packing::pack(e.number, 0, 0, e.offset),
     }
 }
 

@@ -1,14 +1,11 @@
 -- The choice of a step, from what the code is told: adjacent are the neighbours, l says whether a permit is missing.
+use Rattle.std.specs.Prelude.{Option, Some, None, is_some}
 use mathlib.Core.Path.{◌≡◌, refl, sym, ap, ap₂, ◌∙◌}
 use mathlib.Core.List.{List}
-use mathlib.Core.Option.{Option, none, some}
 use mathlib.Core.Bool.{Bool, true, false, not, ◌||◌, true≢false}
 use Prim.Native.Nat.{ℕ}
 use lib.Dec.{eqb}
 use borrow.Author.Tests.{not-true, not-false}
-use Rattle.bits.specs.Bit.{is_some, option_of}
-use Rattle.bits.specs.declared.Maybe.{Maybe}
-use Rattle.bits.specs.declared.Maybe.TheVariants.{Just, Nothing}
 use Rattle.records.specs.declared.Record.{Record}
 use Rattle.plan.specs.Plan.{neighbours}
 use Rattle.modules.specs.declared.Own.{Own}
@@ -31,32 +28,32 @@ module _ (rs : List Record) (m : ℕ) (sure : Bool) (own : Own) where
 
 turns : (o : Option ℕ) (n b h w : Bool) → is_some o ≡ false → (n || w) ≡ true → takes_turn ≡ choice_on o n b h w
 unfolding choice_on
-turns none true b h w p q = refl
-turns none false b h true p q = refl
-turns none false b h false p q = absurd (true≢false (sym q))
-turns (some v) n b h w p q = absurd (true≢false p)
+turns None true b h w p q = refl
+turns None false b h true p q = refl
+turns None false b h false p q = absurd (true≢false (sym q))
+turns (Some v) n b h w p q = absurd (true≢false p)
 
 rests : (o : Option ℕ) (n b h w : Bool) → is_some o ≡ false → (n || w) ≡ false → waits ≡ choice_on o n b h w
 unfolding choice_on
-rests none true b h w p q = absurd (true≢false q)
-rests none false b h true p q = absurd (true≢false q)
-rests none false b h false p q = refl
-rests (some v) n b h w p q = absurd (true≢false p)
+rests None true b h w p q = absurd (true≢false q)
+rests None false b h true p q = absurd (true≢false q)
+rests None false b h false p q = refl
+rests (Some v) n b h w p q = absurd (true≢false p)
 
 stands : (o : Option ℕ) (n h w : Bool) → is_some o ≡ true → waits ≡ choice_on o n true h w
 unfolding choice_on
-stands none n h w p = absurd (true≢false (sym p))
-stands (some v) n h w p = refl
+stands None n h w p = absurd (true≢false (sym p))
+stands (Some v) n h w p = refl
 
 idles : (o : Option ℕ) (n b h w : Bool) → is_some o ≡ true → (h || w) ≡ false → waits ≡ choice_on o n b h w
 unfolding choice_on
-idles none n b h w p q = absurd (true≢false (sym p))
-idles (some v) n true h w p q = refl
-idles (some v) n false true w p q = absurd (true≢false q)
-idles (some v) n false false true p q = absurd (true≢false q)
-idles (some v) n false false false p q = refl
+idles None n b h w p q = absurd (true≢false (sym p))
+idles (Some v) n true h w p q = refl
+idles (Some v) n false true w p q = absurd (true≢false q)
+idles (Some v) n false false true p q = absurd (true≢false q)
+idles (Some v) n false false false p q = refl
 
-bids : (v : ℕ) (n h w : Bool) → (h || w) ≡ true → bids_to v ≡ choice_on (some v) n false h w
+bids : (v : ℕ) (n h w : Bool) → (h || w) ≡ true → bids_to v ≡ choice_on (Some v) n false h w
 unfolding choice_on
 bids v n true w q = refl
 bids v n false true q = refl
@@ -78,11 +75,11 @@ module _ (rs : List Record) (m adjacent : ℕ) (x : Module) (e : adjacent ≡ ne
   by_is = ap (λ (n : ℕ). choice_on lowest (not (eqb n 0)) x.bid (not (eqb x.held 0)) wishes) e
 
   -- w is whether a permit is held or there is a wish
-  pub bid_by : {w : Bool} {r : Maybe} {v : ℕ} → x.bid ≡ false → w ≡ (not (eqb x.held 0) || wish rs m x.own) → not w ≡ false
-      → option_of r ≡ missing_in adjacent x.held → r ≡ Just v → bids_to v ≡ choice rs m x
+  pub bid_by : {w : Bool} {r : Option ℕ} {v : ℕ} → x.bid ≡ false → w ≡ (not (eqb x.held 0) || wish rs m x.own) → not w ≡ false
+      → r ≡ missing_in adjacent x.held → r ≡ Some v → bids_to v ≡ choice rs m x
   bid_by {w} {v = v} p g q h t =
       bids v (not (eqb adjacent 0)) (not (eqb x.held 0)) wishes (sym g ∙ not-false w q)
-      ∙ ap₂ by (ap option_of (sym t) ∙ h ∙ missing_is adjacent x.held rs m e) (sym p) ∙ by_is
+      ∙ ap₂ by ((sym t) ∙ h ∙ missing_is adjacent x.held rs m e) (sym p) ∙ by_is
 
   module _ {l : Bool} (u : held_fits rs m x.held ≡ true) (f : Lacking adjacent x.held l) where
     is : is_some lowest ≡ l
@@ -102,6 +99,6 @@ module _ (rs : List Record) (m adjacent : ℕ) (x : Module) (e : adjacent ≡ ne
     idle_by {w} p g q = idles lowest (not (eqb adjacent 0)) x.bid (not (eqb x.held 0)) wishes (is ∙ p) (sym g ∙ not-true w q) ∙ by_is
 
     -- where a permit is missing there is a lowest
-    pub none_by : {r : Maybe} → l ≡ true → option_of r ≡ missing_in adjacent x.held → r ≡ Nothing → waits ≡ choice rs m x
+    pub none_by : {r : Option ℕ} → l ≡ true → r ≡ missing_in adjacent x.held → r ≡ None → waits ≡ choice rs m x
     none_by p h t =
-        absurd (true≢false (sym p ∙ sym is ∙ ap is_some (sym (h ∙ missing_is adjacent x.held rs m e)) ∙ ap (λ (y : Maybe). is_some (option_of y)) t))
+        absurd (true≢false (sym p ∙ sym is ∙ ap is_some (sym (h ∙ missing_is adjacent x.held rs m e)) ∙ ap (λ (y : Option ℕ). is_some y) t))

@@ -1,7 +1,7 @@
 // The module's step on many devices: definitions in permits/specs/Module.antt.
 #![tactic(auto)]
 
-ghost use Rattle.std.specs.Prelude.{◌≡◌, List, true, ◌||◌};
+ghost use Rattle.std.specs.Prelude.{◌≡◌, List, true, ◌||◌, Err};
 ghost use Rattle.places.specs.Places.{records_by};
 ghost use Rattle.records.specs.declared.Record.{Record};
 ghost use Rattle.plan.specs.Plan.{neighbours};
@@ -9,13 +9,13 @@ ghost use Rattle.modules.specs.Turn.{wish};
 ghost use Rattle.permits.specs.Module.{held_fits, choice, takes_turn, bids_to, step_in, module_step};
 ghost use Rattle.permits.specs.Step.{Gave};
 ghost use Rattle.module_steps.specs.Choice.{choice_of};
+ghost use Rattle.refusal.specs.Refusal.{refusal};
 
-use bits::Maybe;
-use checker::Examined;
 use messages::Message;
 use modules::Own;
 use permits::{Module, ModuleStepped, Stepped};
 use places::Places;
+use refusal::Refusal;
 
 // What a step does.
 #[derive(Clone, Copy)]
@@ -26,10 +26,13 @@ enum Chosen {
 }
 
 fn step_refused(x: Module, n: u8, at: usize) -> ModuleStepped
-    ensures { result ≡ record { answer = Stepped.Refused n at; state = x } }
+    ensures { result ≡ record { answer = Err (refusal n at); state = x } }
 {
     ModuleStepped {
-        answer: Stepped::Refused(n, at),
+        answer: Err(Refusal {
+            number: n,
+            offset: at,
+        }),
         state: x,
     }
 }
@@ -58,7 +61,7 @@ fn choose(image: &[u8], places: Places, m: u8, adjacent: u32, x: Module) -> Chos
         if !or_wish(image, places, m, held != 0, own) {
             return Chosen::Wait;
         }
-        let Maybe::Just(v) = holding::missing(adjacent, held) else {
+        let Some(v) = holding::missing(adjacent, held) else {
             return Chosen::Wait;
         };
         Chosen::Bid(v)
@@ -94,7 +97,7 @@ fn take_turn(
         state.held = 0;
         state.received = 0;
         ModuleStepped {
-            answer: Stepped::Turns(did, n),
+            answer: Ok(Stepped::Turns(did, n)),
             state,
         }
     } else {
@@ -114,7 +117,7 @@ fn bid(m: u8, v: u8, x: Module, buffer: &mut [u8]) -> ModuleStepped
         let mut state = x;
         state.bid = true;
         ModuleStepped {
-            answer: Stepped::Bids(v, messages::length_of(g)),
+            answer: Ok(Stepped::Bids(v, messages::length_of(g))),
             state,
         }
     } else {
@@ -138,7 +141,7 @@ fn act(
         Chosen::Turn => take_turn(image, places, m, adjacent, x, buffer),
         Chosen::Bid(to) => bid(m, to, x, buffer),
         Chosen::Wait => ModuleStepped {
-            answer: Stepped::Waits,
+            answer: Ok(Stepped::Waits),
             state: x,
         },
     }
@@ -149,7 +152,7 @@ pub fn step(image: &[u8], m: u8, x: Module, buffer: &mut [u8]) -> ModuleStepped
     ensures { Gave (module_step image.now m x buffer.old) result.answer result.state buffer.new }
 {
     match checker::examine(image) {
-        Examined::Accepted(places) => {
+        Ok(places) => {
             if m < plan::modules_of(image, places) {
                 let adjacent = masks::neighbours(image, places, m);
                 if holding::fits(image, places, m, adjacent, x) {
@@ -161,6 +164,6 @@ pub fn step(image: &[u8], m: u8, x: Module, buffer: &mut [u8]) -> ModuleStepped
                 step_refused(x, 11, 0)
             }
         }
-        Examined::Refused(n, at) => step_refused(x, n, at),
+        Err(e) => step_refused(x, e.number, e.offset),
     }
 }

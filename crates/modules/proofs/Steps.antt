@@ -1,4 +1,5 @@
 -- A step that a look-up finds: it is a step with that key, and its fields are in range.
+use Rattle.std.specs.Prelude.{Option, Some, None}
 use Prim.Native.Nat.{ℕ, ◌≤◌, ◌<◌}
 use native.Mathlib.Omega.{arith}
 use mathlib.Core.Path.{◌≡◌, refl, sym, ap, ap₂, ◌∙◌, subst}
@@ -14,8 +15,6 @@ use Rattle.records.specs.declared.Record.{Record}
 use Rattle.records.specs.declared.Record.TheVariants.{Step, Disabling, End, Event, Head, Marking, Module, ModuleMove, Supervisor, SupervisorMove}
 use Rattle.records.specs.declared.RecordKey.{RecordKey}
 use Rattle.reader.specs.Find.{find_in, found}
-use Rattle.reader.specs.declared.Found.{Found}
-use Rattle.reader.specs.declared.Found.TheVariants.{It, Missing}
 use Rattle.rules.specs.LookUp.{field3, word_field, field_of}
 use Rattle.rules.proofs.Valid.{both}
 use Rattle.plan.specs.Plan.{counts, counting, procedure_step, operation_of, operand_of}
@@ -23,12 +22,12 @@ use Rattle.modules.specs.declared.StepFields.{StepFields}
 use Rattle.modules.specs.StepFields.{step_fields_of}
 
 -- what a look-up finds has the kind and key
-found_key : (p : RecordKey) (rs : List Record) (r : Record) → find_in p rs ≡ It r → T (same_key (key_of r) p)
+found_key : (p : RecordKey) (rs : List Record) (r : Record) → find_in p rs ≡ Some r → T (same_key (key_of r) p)
 unfolding find_in
 found_key p [] r e = let z : ◌≡◌ {A = ℕ} 0 1 = cc in absurd (omega arith)
 found_key p (x ∷ rs) r e = go (same_key (key_of x) p) refl e (found_key p rs r)
   where
-    go : (b : Bool) → same_key (key_of x) p ≡ b → cond b (It x) (find_in p rs) ≡ It r → (find_in p rs ≡ It r → T (same_key (key_of r) p)) → T (same_key (key_of r) p)
+    go : (b : Bool) → same_key (key_of x) p ≡ b → cond b (Some x) (find_in p rs) ≡ Some r → (find_in p rs ≡ Some r → T (same_key (key_of r) p)) → T (same_key (key_of r) p)
     go true s e f = let q : x ≡ r = cc in subst (λ (y : Record). T (same_key (key_of y) p)) q (passes _ s)
     go false s e f = f e
 
@@ -51,41 +50,41 @@ step_key e i (Step a b o x) t =
 
 module _ (rs : List Record) (e i : ℕ) where
   -- what is found as a step counts
-  step_found : (r : Record) → procedure_step rs e i ≡ It r → (Step e i (field3 r) (word_field r) ≡ r) × (counts r ≡ true)
+  step_found : (r : Record) → procedure_step rs e i ≡ Some r → (Step e i (field3 r) (word_field r) ≡ r) × (counts r ≡ true)
   unfolding counting
   step_found r h = go (find_in (key_by 0x17 e i 0) rs) refl h
     where
-      picked : (x : Record) (b : Bool) → counts x ≡ b → find_in (key_by 0x17 e i 0) rs ≡ It x → cond b (It x) Missing ≡ It r → (Step e i (field3 r) (word_field r) ≡ r) × (counts r ≡ true)
+      picked : (x : Record) (b : Bool) → counts x ≡ b → find_in (key_by 0x17 e i 0) rs ≡ Some x → cond b (Some x) None ≡ Some r → (Step e i (field3 r) (word_field r) ≡ r) × (counts r ≡ true)
       picked x true c k h =
           let q : x ≡ r = cc in
-          (step_key e i r (found_key (key_by 0x17 e i 0) rs r (k ∙ ap It q)), ap counts (sym q) ∙ c)
+          (step_key e i r (found_key (key_by 0x17 e i 0) rs r (k ∙ ap Some q)), ap counts (sym q) ∙ c)
       picked x false c k h = let z : ◌≡◌ {A = ℕ} 0 1 = cc in absurd (omega arith)
 
-      go : (f : Found) → find_in (key_by 0x17 e i 0) rs ≡ f → counting f ≡ It r → (Step e i (field3 r) (word_field r) ≡ r) × (counts r ≡ true)
-      go (It x) k h = picked x (counts x) refl k h
-      go Missing k h = let z : ◌≡◌ {A = ℕ} 0 1 = cc in absurd (omega arith)
+      go : (f : Option Record) → find_in (key_by 0x17 e i 0) rs ≡ f → counting f ≡ Some r → (Step e i (field3 r) (word_field r) ≡ r) × (counts r ≡ true)
+      go (Some x) k h = picked x (counts x) refl k h
+      go None k h = let z : ◌≡◌ {A = ℕ} 0 1 = cc in absurd (omega arith)
 
   -- the same by its fields
   pub step_counts : found (procedure_step rs e i) ≡ true → counts (Step e i (operation_of rs e i) (operand_of rs e i)) ≡ true
   unfolding found field_of
   step_counts h = go (procedure_step rs e i) refl h
     where
-      go : (f : Found) → procedure_step rs e i ≡ f → found f ≡ true → counts (Step e i (field_of field3 f) (field_of word_field f)) ≡ true
-      go (It r) k h = let p = step_found r k in ap counts p.0 ∙ p.1
-      go Missing k h = absurd (false≢true h)
+      go : (f : Option Record) → procedure_step rs e i ≡ f → found f ≡ true → counts (Step e i (field_of field3 f) (field_of word_field f)) ≡ true
+      go (Some r) k h = let p = step_found r k in ap counts p.0 ∙ p.1
+      go None k h = absurd (false≢true h)
 
   -- ---- what the code is told of a step
 
-  module _ {y : Found} (p : y ≡ procedure_step rs e i) where
-    pub no_step : {w : StepFields} → y ≡ Missing → w ≡ record { present = false; operation = 0; operand = 0 } → w ≡ step_fields_of rs e i
+  module _ {y : Option Record} (p : y ≡ procedure_step rs e i) where
+    pub no_step : {w : StepFields} → y ≡ None → w ≡ record { present = false; operation = 0; operand = 0 } → w ≡ step_fields_of rs e i
     unfolding found field_of
-    no_step q z = z ∙ ap (λ (f : Found). record { present = found f; operation = field_of field3 f; operand = field_of word_field f }) (sym q ∙ p)
+    no_step q z = z ∙ ap (λ (f : Option Record). record { present = found f; operation = field_of field3 f; operand = field_of word_field f }) (sym q ∙ p)
 
-    pub a_step : {r : Record} {a b o x : ℕ} → y ≡ It r → r ≡ Step a b o x → record { present = true; operation = o; operand = x } ≡ step_fields_of rs e i
+    pub a_step : {r : Record} {a b o x : ℕ} → y ≡ Some r → r ≡ Step a b o x → record { present = true; operation = o; operand = x } ≡ step_fields_of rs e i
     unfolding found field_of field3 word_field
-    a_step {r} {a} {b} {o} {x} q s = ap (λ (f : Found). record { present = found f; operation = field_of field3 f; operand = field_of word_field f }) (ap It (sym s) ∙ sym q ∙ p)
+    a_step {r} {a} {b} {o} {x} q s = ap (λ (f : Option Record). record { present = found f; operation = field_of field3 f; operand = field_of word_field f }) (ap Some (sym s) ∙ sym q ∙ p)
 
-    pub not_a_step : {r : Record} {w : StepFields} → y ≡ It r → ((a b o x : ℕ) → r ≡ Step a b o x → ⊥) → w ≡ step_fields_of rs e i
+    pub not_a_step : {r : Record} {w : StepFields} → y ≡ Some r → ((a b o x : ℕ) → r ≡ Step a b o x → ⊥) → w ≡ step_fields_of rs e i
     not_a_step {r} q o = absurd (o e i (field3 r) (word_field r) (sym (step_found r (sym p ∙ q)).0))
 
 -- ---- the ranges of a step that counts

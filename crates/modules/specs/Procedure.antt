@@ -1,5 +1,7 @@
 -- Document 01, "Procedures and water", and the responses: what a response and a tick do to a module's own part.
-use Rattle.std.specs.Prelude.{ℕ, suc, ◌-◌, ◌^◌, List, true, false, cond, ◌&&◌, eqb, ltb}
+use Rattle.refusal.specs.Refusal.{refusal}
+use Rattle.refusal.specs.declared.Refusal.{Refusal}
+use Rattle.std.specs.Prelude.{ℕ, suc, ◌-◌, ◌^◌, List, true, false, cond, ◌&&◌, eqb, ltb, Result, Ok, Err, ⊤}
 use Rattle.std.specs.Int.Bits.{bit_or, bit_and}
 use Rattle.records.specs.declared.Record.{Record}
 use Rattle.reader.specs.Find.{found}
@@ -9,11 +11,7 @@ use Rattle.water.specs.declared.Water.{Water}
 use Rattle.water.specs.declared.Flow.{Flow}
 use Rattle.modules.specs.declared.Procedure.{Procedure}
 use Rattle.modules.specs.declared.Own.{Own}
-use Rattle.modules.specs.declared.Reply.{Reply}
-use Rattle.modules.specs.declared.Reply.TheVariants.{Taken, Refused}
 use Rattle.modules.specs.declared.Replied.{Replied}
-use Rattle.modules.specs.declared.Called.{Called}
-use Rattle.modules.specs.declared.Called.TheVariants.{Done, Refused as CallRefused}
 use Rattle.modules.specs.Own.{with_procedure, with_outputs}
 use Rattle.modules.specs.Queue.{full, queued}
 
@@ -73,15 +71,15 @@ ticked rs f own =
     own
 
 abbrev pub taken : Own → Replied
-taken own = record { reply = Taken; own = own }
+taken own = record { reply = Ok tt; own = own }
 
 abbrev pub refused : ℕ → Own → Replied
-refused n own = record { reply = Refused n; own = own }
+refused n own = record { reply = Err n; own = own }
 
 -- a reply as a call's answer: the number stands at offset 0
-unfoldable pub called_by : Reply → Called
-called_by Taken = Done
-called_by (Refused n) = CallRefused n 0
+unfoldable pub called_by : Result ⊤ ℕ → Result ⊤ Refusal
+called_by (Ok u) = Ok tt
+called_by (Err n) = Err (refusal n 0)
 
 -- document 01's term "tick": "A tick is one module's"; 14 "bad flow reading", "checked even when idle"
 unfoldable pub tick_of : List Record → Flow → Own → Replied

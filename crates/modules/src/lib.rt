@@ -14,8 +14,8 @@ ghost use Rattle.modules.specs.StepFields.{step_fields_of};
 ghost use Rattle.modules.specs.Turn.{empty_own, start_own};
 
 use places::Places;
-use reader::Found;
 use records::Record;
+use refusal::Refusal;
 use std::array;
 use water::{Flow, Water};
 
@@ -40,39 +40,18 @@ pub struct Own {
     pub outputs: u32,
 }
 
-// What a turn did: an event fired, or nothing.
-#[derive(Clone, Copy)]
-pub enum Turn {
-    Event(u8),
-    Nothing,
-}
-
-// The module's own part after a turn, and what the turn did: the larger first, so that taking it out copies it whole.
+// The module's own part after a turn, and what the turn did, an event fired or nothing: the larger first, so that taking it out copies it whole.
 #[derive(Clone, Copy)]
 pub struct Turned {
     pub own: Own,
-    pub turn: Turn,
+    pub turn: Option<u8>,
 }
 
-// What a response or a tick got: taken, or the number.
-#[derive(Clone, Copy)]
-pub enum Reply {
-    Taken,
-    Refused(u8),
-}
-
-// A reply and the module's own part after it.
+// What a response or a tick got, taken or the number, and the module's own part after it.
 #[derive(Clone, Copy)]
 pub struct Replied {
-    pub reply: Reply,
+    pub reply: Result<(), u8>,
     pub own: Own,
-}
-
-// What a call got that has no other answer: done, or the number and the offset.
-#[derive(Clone, Copy)]
-pub enum Called {
-    Done,
-    Refused(u8, usize),
 }
 
 // ---- the queue
@@ -159,30 +138,30 @@ pub fn respond(image: &[u8], places: Places, m: u8, e: u8, own: Own) -> Replied
         if own.length < 8 {
             let next = with_response(own, e);
             Replied {
-                reply: Reply::Taken,
+                reply: Ok(()),
                 own: next,
             }
         } else {
             Replied {
-                reply: Reply::Refused(13),
+                reply: Err(13),
                 own,
             }
         }
     } else {
         Replied {
-            reply: Reply::Refused(11),
+            reply: Err(11),
             own,
         }
     }
 }
 
-// A reply as a call's answer.
-pub fn answer(reply: Reply) -> Called
+// A reply as a call's answer: done, or the number and the offset.
+pub fn answer(reply: Result<(), u8>) -> Result<(), Refusal>
     ensures { result ≡ called_by reply }
 {
     match reply {
-        Reply::Taken => Called::Done,
-        Reply::Refused(n) => Called::Refused(n, 0),
+        Ok(()) => Ok(()),
+        Err(number) => Err(Refusal { number, offset: 0 }),
     }
 }
 
@@ -221,7 +200,7 @@ fn no_fields() -> StepFields
 pub fn step_fields(image: &[u8], places: Places, e: u8, i: u8) -> StepFields
     ensures { result ≡ step_fields_of (records_by image.now places) e i }
 {
-    let Found::It(r) = plan::step(image, places, e, i) else {
+    let Some(r) = plan::step(image, places, e, i) else {
         return no_fields();
     };
     // No other record is found by the key of a step.
@@ -407,12 +386,12 @@ pub fn tick(image: &[u8], places: Places, f: Flow, own: Own) -> Replied
             if litres::litres_ok(x) {
                 let next = ticked(image, places, f, own);
                 Replied {
-                    reply: Reply::Taken,
+                    reply: Ok(()),
                     own: next,
                 }
             } else {
                 Replied {
-                    reply: Reply::Refused(14),
+                    reply: Err(14),
                     own,
                 }
             }
@@ -420,7 +399,7 @@ pub fn tick(image: &[u8], places: Places, f: Flow, own: Own) -> Replied
         Flow::NoSensor => {
             let next = ticked(image, places, f, own);
             Replied {
-                reply: Reply::Taken,
+                reply: Ok(()),
                 own: next,
             }
         }

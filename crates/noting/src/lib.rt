@@ -3,13 +3,12 @@
 
 ghost use Rattle.std.specs.Prelude.{◌≡◌, not, ◌&&◌, ◌||◌, ◌<◌};
 ghost use Rattle.places.specs.Places.{records_by};
-ghost use Rattle.bits.specs.Bit.{bit, all_below, every_event, least, option_of};
+ghost use Rattle.bits.specs.Bit.{bit, all_below, every_event, least};
 ghost use Rattle.plan.specs.Plan.{modules_near};
 ghost use Rattle.permits.specs.Names.{neighbours?};
 ghost use Rattle.permits.specs.Supervisor.{holder_fits, supervisor_fits, module_after, served};
 ghost use Rattle.noting.specs.Notes.{put_note};
 
-use bits::Maybe;
 use permits::{Holder, Supervisor};
 use places::Places;
 
@@ -77,19 +76,17 @@ fn rotated(noted: u16, last: u8) -> u64
 }
 
 // The module to which the permit goes, if it is home. A place past the last is taken round, as in the definition.
-pub fn served(y: Supervisor) -> Maybe
-    ensures { option_of result ≡ served y }
+pub fn served(y: Supervisor) -> Option<u8>
+    ensures { result ≡ served y }
 {
     let holder = y.holder;
     let last = y.last % 16;
     match holder {
         Holder::Home => {
-            let Maybe::Just(k) = bits::lowest(rotated(y.noted, last)) else {
-                return Maybe::Nothing;
-            };
-            Maybe::Just((last + 1 + k) % 16)
+            let k = bits::lowest(rotated(y.noted, last))?;
+            Some((last + 1 + k) % 16)
         }
-        Holder::Out(_) => Maybe::Nothing,
+        Holder::Out(_) => None,
     }
 }
 

@@ -1,24 +1,13 @@
 -- include/pewterslug.h, from which the quotations of this file are: "An answer is one number. Bits 0..7 are the refusal's number, 0 if the call is
 -- accepted. Of a refused call bits 32..63 are the byte offset. Of an accepted one bits 8..15 say what was done, bits 16..23 of what, and bits 32..63
 -- how many bytes were written (for a read record or message: how many it has). All other bits are 0."
-use Rattle.std.specs.Prelude.{ℕ, ◌+◌, ◌*◌, ◌%◌, ◌≡◌, List, [], cond, length, eqb, ltb}
+use Rattle.refusal.specs.declared.Refusal.{Refusal}
+use Rattle.std.specs.Prelude.{ℕ, ◌+◌, ◌*◌, ◌%◌, ◌≡◌, List, [], cond, length, eqb, ltb, Option, Some, None, Result, Ok, Err, ⊤}
 use Rattle.messages.specs.Message.{written}
-use Rattle.rules.specs.Numbers.{verdict_number, verdict_offset}
-use Rattle.rules.specs.declared.Verdict.{Verdict}
-use Rattle.rules.specs.declared.Verdict.TheVariants.{Accepted, Refused as CheckRefused}
-use Rattle.modules.specs.Numbers.{called_number, called_offset}
-use Rattle.modules.specs.declared.Turn.{Turn}
-use Rattle.modules.specs.declared.Turn.TheVariants.{Event, Nothing}
-use Rattle.modules.specs.declared.Called.{Called}
-use Rattle.modules.specs.declared.Called.TheVariants.{Done, Refused}
-use Rattle.device.specs.Numbers.{turning_number, turning_offset}
-use Rattle.device.specs.declared.Turning.{Turning}
-use Rattle.device.specs.declared.Turning.TheVariants.{Done as TurnDone, Refused as TurnRefused}
-use Rattle.permits.specs.Numbers.{stepped_number, stepped_offset, served_number, served_offset}
 use Rattle.permits.specs.declared.Stepped.{Stepped}
-use Rattle.permits.specs.declared.Stepped.TheVariants.{Turns, Bids, Waits, Refused as StepRefused}
+use Rattle.permits.specs.declared.Stepped.TheVariants.{Turns, Bids, Waits}
 use Rattle.permits.specs.declared.Served.{Served}
-use Rattle.permits.specs.declared.Served.TheVariants.{Sends, Waits as ServedWaits, Refused as ServeRefused}
+use Rattle.permits.specs.declared.Served.TheVariants.{Sends, Waits as ServedWaits}
 
 -- An offset or a length has 32 bits; of one past them, which only bytes longer than any plan can have, the lower 32 stand.
 unfoldable pub packed : ℕ → ℕ → ℕ → ℕ → ℕ
@@ -32,37 +21,38 @@ refused n o = packed n 0 0 o
 abbrev pub done : ℕ → ℕ → ℕ → ℕ
 done did value size = packed 0 did value size
 
-unfoldable pub verdict_answer : Verdict → ℕ
-verdict_answer Accepted = done 0 0 0
-verdict_answer (CheckRefused n o) = refused (verdict_number (CheckRefused n o)) (verdict_offset (CheckRefused n o))
-
 -- PEWTERSLUG_DONE, 0: "taken; the value is 0"
-unfoldable pub called_answer : Called → ℕ
-called_answer Done = done 0 0 0
-called_answer (Refused n o) = refused (called_number (Refused n o)) (called_offset (Refused n o))
+unfoldable pub called_answer : Result ⊤ Refusal → ℕ
+called_answer (Ok u) = done 0 0 0
+called_answer (Err e) = refused e.number e.offset
+
+-- PEWTERSLUG_DONE, of a call that writes so many bytes
+unfoldable pub length_answer : Result ℕ Refusal → ℕ
+length_answer (Ok n) = done 0 0 n
+length_answer (Err e) = refused e.number e.offset
 
 -- PEWTERSLUG_EVENT, 1: "a turn: an event fired, the value is the event"; PEWTERSLUG_NONE, 3: "a turn: none". 2 stood for a turn that
 -- document 02, 2.5, took out, and is not given again.
-unfoldable pub turn_answer : Turn → ℕ → ℕ
-turn_answer (Event e) size = done 1 e size
-turn_answer Nothing size = done 3 0 size
+unfoldable pub turn_answer : Option ℕ → ℕ → ℕ
+turn_answer (Some e) size = done 1 e size
+turn_answer None size = done 3 0 size
 
-unfoldable pub turning_answer : Turning → ℕ
-turning_answer (TurnDone t) = turn_answer t 0
-turning_answer (TurnRefused n o) = refused (turning_number (TurnRefused n o)) (turning_offset (TurnRefused n o))
+unfoldable pub turning_answer : Result (Option ℕ) Refusal → ℕ
+turning_answer (Ok t) = turn_answer t 0
+turning_answer (Err e) = refused e.number e.offset
 
 -- PEWTERSLUG_BIDS, 4: "a module bids, the value is the supervisor"; PEWTERSLUG_WAITS, 6: "a step that waits"
-unfoldable pub stepped_answer : Stepped → ℕ
-stepped_answer (Turns t size) = turn_answer t size
-stepped_answer (Bids v size) = done 4 v size
-stepped_answer Waits = done 6 0 0
-stepped_answer (StepRefused n o) = refused (stepped_number (StepRefused n o)) (stepped_offset (StepRefused n o))
+unfoldable pub stepped_answer : Result Stepped Refusal → ℕ
+stepped_answer (Ok (Turns t size)) = turn_answer t size
+stepped_answer (Ok (Bids v size)) = done 4 v size
+stepped_answer (Ok Waits) = done 6 0 0
+stepped_answer (Err e) = refused e.number e.offset
 
 -- PEWTERSLUG_SENDS, 5: "a supervisor sends its permit, the value is the module"
-unfoldable pub served_answer : Served → ℕ
-served_answer (Sends m size) = done 5 m size
-served_answer ServedWaits = done 6 0 0
-served_answer (ServeRefused n o) = refused (served_number (ServeRefused n o)) (served_offset (ServeRefused n o))
+unfoldable pub served_answer : Result Served Refusal → ℕ
+served_answer (Ok (Sends m size)) = done 5 m size
+served_answer (Ok ServedWaits) = done 6 0 0
+served_answer (Err e) = refused e.number e.offset
 
 -- ---- a whole call
 
@@ -84,8 +74,8 @@ lent_after n after before = cond (eqb n 0) after before
 
 -- a start, whose state has so many bytes: the refusal's number, then 15, document 01's "output buffer shorter than the answer"; an accepted one
 -- writes the state from the buffer's start
-unfoldable pub start_answer : ℕ → Called → List ℕ → List ℕ → Answer
-start_answer size Done bytes b =
+unfoldable pub start_answer : ℕ → Result ⊤ Refusal → List ℕ → List ℕ → Answer
+start_answer size (Ok u) bytes b =
     cond (ltb (length b) size) (record { number = refused 15 0; state = []; buffer = b })
     (record { number = done 0 0 size; state = []; buffer = written bytes b })
-start_answer size (Refused n o) bytes b = record { number = refused (called_number (Refused n o)) (called_offset (Refused n o)); state = []; buffer = b }
+start_answer size (Err e) bytes b = record { number = refused e.number e.offset; state = []; buffer = b }

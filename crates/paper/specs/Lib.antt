@@ -1,4 +1,3 @@
 pub mod Paper
 pub mod Print
-pub mod Numbers
 pub mod Put

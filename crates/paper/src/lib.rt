@@ -9,15 +9,8 @@ ghost use Rattle.paper.specs.Paper.{left, name_of, byte_column, byte_columns, wo
 ghost use Rattle.paper.specs.Put.{given, listed, byte_count, words_in, Taken, Known};
 ghost use Rattle.paper.specs.Print.{PagesAs};
 
-use reader::Shape;
-use rules::Verdict;
-
-// The length written, or the number and the offset.
-#[derive(Clone, Copy)]
-pub enum Printed {
-    Length(usize),
-    Refused(u8, usize),
-}
+use reader::NoRecord;
+use refusal::Refusal;
 
 // The fields of a record by their columns: the first `count` of the four bytes, and the word if it is `wide`.
 #[derive(Clone, Copy)]
@@ -169,7 +162,12 @@ fn put_line(kind: u8, size: usize, image: &[u8], b: usize, line: &mut [u8])
 }
 
 // What stands at an offset, first tried as one more record of a kind, so that a run of them is passed without a look-up of each body's length.
-fn shape_after(kind: u8, size: usize, image: &[u8], at: usize) -> Shape
+fn shape_after(
+    kind: u8,
+    size: usize,
+    image: &[u8],
+    at: usize,
+) -> Result<(u8, usize, usize), NoRecord>
     requires { Known kind size }
     ensures { result ≡ shape_at image.now at }
 {
@@ -177,7 +175,7 @@ fn shape_after(kind: u8, size: usize, image: &[u8], at: usize) -> Shape
         if image[at] == kind {
             let b = at + 1;
             if size <= image.len() - b {
-                return Shape::Whole(kind, b, b + size);
+                return Ok((kind, b, b + size));
             }
         }
     }
@@ -193,7 +191,7 @@ fn put_lines(image: &[u8], buf: &mut [u8])
     let mut o: usize = 0;
     let mut kind: u8 = 0x1f;
     let mut size: usize = 0;
-    while let Shape::Whole(k, b, next) = shape_after(kind, size, image, i) {
+    while let Ok((k, b, next)) = shape_after(kind, size, image, i) {
         kind = k;
         size = next - b;
         put_line(k, size, image, b, &mut buf[o..o + 73]);
@@ -228,7 +226,7 @@ fn count_of(image: &[u8]) -> usize
     let mut i: usize = 0;
     let mut kind: u8 = 0x1f;
     let mut size: usize = 0;
-    while let Shape::Whole(k, b, next) = shape_after(kind, size, image, i) {
+    while let Ok((k, b, next)) = shape_after(kind, size, image, i) {
         kind = k;
         size = next - b;
         n += 1;
@@ -244,22 +242,22 @@ fn lacking_of(n: usize) -> usize
     (60 - n % 60) % 60
 }
 
-// Prints an accepted plan. A refused image, and a buffer shorter than the page set, number 15, leave the buffer as it was.
-pub fn print(image: &[u8], buf: &mut [u8]) -> Printed
+// Prints an accepted plan: the length written, or the number and the offset. A refused image, and a buffer shorter than the page set, number 15, leave
+// the buffer as it was.
+pub fn print(image: &[u8], buf: &mut [u8]) -> Result<usize, Refusal>
     ensures { PagesAs image.now buf.old result buf.new }
 {
-    match checker::check(image) {
-        Verdict::Refused(n, o) => Printed::Refused(n, o),
-        Verdict::Accepted => {
-            let lines = count_of(image);
-            let blank = lacking_of(lines);
-            let size = (lines + blank) * 73;
-            if buf.len() < size {
-                return Printed::Refused(15, 0);
-            }
-            put_lines(image, &mut *buf);
-            put_blank_lines(blank, &mut *buf, lines * 73);
-            Printed::Length(size)
-        }
+    checker::check(image)?;
+    let lines = count_of(image);
+    let blank = lacking_of(lines);
+    let size = (lines + blank) * 73;
+    if buf.len() < size {
+        return Err(Refusal {
+            number: 15,
+            offset: 0,
+        });
     }
+    put_lines(image, &mut *buf);
+    put_blank_lines(blank, &mut *buf, lines * 73);
+    Ok(size)
 }

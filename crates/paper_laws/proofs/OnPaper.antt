@@ -1,4 +1,7 @@
 -- `OnPaper` of specs/OnPaper.antt.
+use Rattle.std.specs.Prelude.{Result, Ok, Err, ⊤}
+use Rattle.refusal.specs.Refusal.{refusal}
+use Rattle.refusal.specs.declared.Refusal.{Refusal}
 use mathlib.Core.Path.{◌≡◌, refl, sym, ap, ◌∙◌}
 use mathlib.Core.List.{List}
 use mathlib.Core.Bool.{Bool, true, false, cond}
@@ -8,16 +11,12 @@ use lib.ListN.{length, take, drop}
 use lib.Seq.{take_at}
 use lib.Dec.{ltb}
 use Rattle.records.specs.Bytes.{bytes_of_all}
-use Rattle.records.specs.declared.Record.{Record}
 use Rattle.reader.specs.Walk.{records_of}
 use Rattle.roundtrip.specs.Fits.{Bytes}
 use Rattle.roundtrip.proofs.AllFit.{all_fit}
 use Rattle.rules.specs.Check.{verdict_of, IsPlan}
-use Rattle.rules.specs.declared.Verdict.{Verdict}
-use Rattle.rules.specs.declared.Verdict.TheVariants.{Accepted, Refused as CheckRefused}
 use Rattle.rewrite.proofs.Apart.{own_bytes_lem}
 use Rattle.paper.specs.Print.{plan_page_set, answer_by, buffer_by, PagesAs}
-use Rattle.paper.specs.declared.Printed.TheVariants.{Length, Refused}
 use Rattle.paper.proofs.Lengths.{line_length, size}
 use Rattle.paper_laws.specs.Columns.{page_set_read}
 use Rattle.paper_laws.specs.OnPaper.{OnPaper}
@@ -27,16 +26,16 @@ image_back : (s : List ℕ) → Bytes s → IsPlan s → bytes_of_all (page_set_
 image_back s g a = ap bytes_of_all (read_back (records_of s) (all_fit s g)) ∙ own_bytes_lem s g a
 
 -- an accepted call: the plan is accepted, and the length is that of its page set
-printed : (s b : List ℕ) (n : ℕ) (v : Verdict) → verdict_of s ≡ v → Length n ≡ answer_by v s b → IsPlan s × (length (plan_page_set s) ≡ n)
+printed : (s b : List ℕ) (n : ℕ) (v : Result ⊤ Refusal) → verdict_of s ≡ v → Ok n ≡ answer_by v s b → IsPlan s × (length (plan_page_set s) ≡ n)
 unfolding answer_by
-printed s b n Accepted a e = (a, go (ltb (length b) (length (plan_page_set s))) e)
+printed s b n (Ok u) a e = (a, go (ltb (length b) (length (plan_page_set s))) e)
   where
-    go : (q : Bool) → Length n ≡ cond q (Refused 15 0) (Length (length (plan_page_set s))) → length (plan_page_set s) ≡ n
+    go : (q : Bool) → Ok n ≡ cond q (Err (refusal 15 0)) (Ok (length (plan_page_set s))) → length (plan_page_set s) ≡ n
     go true f = let z : ◌≡◌ {A = ℕ} 0 1 = cc in absurd (omega arith)
     go false f = cc
-printed s b n (CheckRefused k o) a e = let z : ◌≡◌ {A = ℕ} 0 1 = cc in absurd (omega arith)
+printed s b n (Err why) a e = let z : ◌≡◌ {A = ℕ} 0 1 = cc in absurd (omega arith)
 
-printed_back : (s b : List ℕ) (n : ℕ) (after : List ℕ) → Bytes s → PagesAs s b (Length n) after → bytes_of_all (page_set_read (take n after)) ≡ s
+printed_back : (s b : List ℕ) (n : ℕ) (after : List ℕ) → Bytes s → PagesAs s b (Ok n) after → bytes_of_all (page_set_read (take n after)) ≡ s
 unfolding buffer_by
 printed_back s b n after g p =
     let h = printed s b n (verdict_of s) refl p.answer in

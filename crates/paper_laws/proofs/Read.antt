@@ -1,9 +1,9 @@
 -- What is read from the columns of a line that was printed.
+use Rattle.std.specs.Prelude.{Some}
 use mathlib.Core.Path.{◌≡◌, refl, sym, ap, ◌∙◌}
 use mathlib.Core.List.Memᴰ
 use mathlib.Core.List.{List, [], ◌∷◌, ◌++◌, append_assoc, append-nil}
 use mathlib.Core.Bool.{cond, Bool, true, false}
-use mathlib.Core.Option.{some}
 use Prim.Native.Nat.{ℕ, zero, suc, ◌+◌, ◌*◌, ◌-◌, ◌/◌, ◌%◌, ◌^◌, ◌≤◌, ◌<◌}
 use native.Mathlib.Nat.{suc-add, zero-add, pow-suc}
 use native.Mathlib.Omega.{arith}
@@ -29,7 +29,7 @@ use Rattle.paper.proofs.Lengths.{by_digits, byte_column_length, Small, small, by
 
 -- ---- the name
 
-named : (r : Record) → kind_named kinds (left 16 (name_of (kind_of r))) ≡ some (kind_of r)
+named : (r : Record) → kind_named kinds (left 16 (name_of (kind_of r))) ≡ Some (kind_of r)
 unfolding kind_named same_list left name_of kind_of ascii
 named (Head m v e) = refl
 named (Event n o c) = refl

@@ -1,8 +1,7 @@
 -- Document 02, 2.4: "A page set read by its columns determines the plan." The reader: a line's first 16 characters are a name, the next four times
 -- six its one-byte fields, the last 32 its 8-byte field.
-use Rattle.std.specs.Prelude.{ℕ, zero, suc, ◌+◌, ◌*◌, ◌-◌, ◌/◌, List, [], ◌∷◌, ◌++◌, Bool, true, cond, ◌&&◌, length, take, drop, eqb, ltb}
+use Rattle.std.specs.Prelude.{ℕ, zero, suc, ◌+◌, ◌*◌, ◌-◌, ◌/◌, List, [], ◌∷◌, ◌++◌, Bool, true, cond, ◌&&◌, length, take, drop, eqb, ltb, Option, Some, None}
 use Prim.Native.Char.{code}
-use Rattle.std.proofs.Math.Option.{Option, none, some}
 use Rattle.words.specs.Word.{word_bytes}
 use Rattle.systems.specs.Order.{same_list}
 use Rattle.records.specs.declared.Record.{Record}
@@ -39,8 +38,8 @@ byte_columns_read (suc n) text = byte_column_read (take 6 text) ++ byte_columns_
 
 -- the first of some kinds whose name a column has
 unfoldable pub kind_named : List ℕ → List ℕ → Option ℕ
-kind_named [] column = none
-kind_named (k ∷ ks) column = cond (same_list (left 16 (name_of k)) column) (some k) (kind_named ks column)
+kind_named [] column = None
+kind_named (k ∷ ks) column = cond (same_list (left 16 (name_of k)) column) (Some k) (kind_named ks column)
 
 abbrev pub kinds : List ℕ
 kinds = 0x10 ∷ 0x11 ∷ 0x12 ∷ 0x13 ∷ 0x14 ∷ 0x15 ∷ 0x16 ∷ 0x17 ∷ 0x18 ∷ 0x1f ∷ []
@@ -53,8 +52,8 @@ body_read text = byte_columns_read 4 (drop 16 text) ++ word_column_read (take 32
 
 -- a line without the name of a kind, as a blank one, has no record
 unfoldable pub record_read : Option ℕ → List ℕ → List Record
-record_read none body = []
-record_read (some k) body = record_of k body ∷ []
+record_read None body = []
+record_read (Some k) body = record_of k body ∷ []
 
 unfoldable pub line_read : List ℕ → List Record
 line_read text = record_read (kind_named kinds (take 16 text)) (body_read text)

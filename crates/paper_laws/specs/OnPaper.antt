@@ -1,5 +1,6 @@
 -- Document 02, 2.4: what the page set of records, and of a plan, keeps.
-use Rattle.std.specs.Prelude.{ℕ, ◌+◌, ◌*◌, ◌/◌, ◌≤◌, ◌<◌, ◌≡◌, List, length, take}
+use Rattle.refusal.specs.Refusal.{refusal}
+use Rattle.std.specs.Prelude.{ℕ, ◌+◌, ◌*◌, ◌/◌, ◌≤◌, ◌<◌, ◌≡◌, List, length, take, Ok, Err}
 use Rattle.records.specs.Bytes.{bytes_of_all}
 use Rattle.records.specs.declared.Record.{Record}
 use Rattle.reader.specs.Walk.{records_of}
@@ -7,7 +8,6 @@ use Rattle.roundtrip.specs.Fits.{Fits, AllFit, Bytes}
 use Rattle.rules.specs.Check.{verdict_of, IsPlan}
 use Rattle.paper.specs.Paper.{line_of, page_set_of}
 use Rattle.paper.specs.Print.{plan_page_set, answer_by, PagesAs}
-use Rattle.paper.specs.declared.Printed.TheVariants.{Length, Refused}
 use Rattle.paper_laws.specs.Columns.{page_set_read}
 
 pub record OnPaper : Type 0 where
@@ -19,7 +19,7 @@ pub record OnPaper : Type 0 where
   pub read_back : (rs : List Record) → AllFit rs → page_set_read (page_set_of rs) ≡ rs
   pub image_back : (s : List ℕ) → Bytes s → IsPlan s → bytes_of_all (page_set_read (plan_page_set s)) ≡ s
   -- the same of the bytes that an accepted call leaves in a buffer
-  pub printed_back : (s b : List ℕ) (n : ℕ) (after : List ℕ) → Bytes s → PagesAs s b (Length n) after → bytes_of_all (page_set_read (take n after)) ≡ s
+  pub printed_back : (s b : List ℕ) (n : ℕ) (after : List ℕ) → Bytes s → PagesAs s b (Ok n) after → bytes_of_all (page_set_read (take n after)) ≡ s
   -- "determines the plan"
   pub determines : (s t : List ℕ) → Bytes s → Bytes t → IsPlan s → IsPlan t → plan_page_set s ≡ plan_page_set t → s ≡ t
 
@@ -27,4 +27,4 @@ pub record OnPaper : Type 0 where
 pub record Enough : Type 0 where
   pub records : (s : List ℕ) → Bytes s → IsPlan s → length (records_of s) ≤ 10052
   pub bytes : (s : List ℕ) → Bytes s → IsPlan s → length (plan_page_set s) ≤ 735840
-  pub never : (s b : List ℕ) → Bytes s → IsPlan s → answer_by (verdict_of s) s b ≡ Refused 15 0 → length b < 735840
+  pub never : (s b : List ℕ) → Bytes s → IsPlan s → answer_by (verdict_of s) s b ≡ Err (refusal 15 0) → length b < 735840

@@ -1,26 +1,22 @@
 -- Document 01, "Permits and messages": the supervisor's calls on many devices.
-use Rattle.std.specs.Prelude.{ℕ, List, [], ◌∷◌, Bool, true, false, cond, not, ◌&&◌, ◌||◌, length, eqb, ltb}
-use Rattle.std.proofs.Math.Option.{Option, none, some}
+use Rattle.refusal.specs.Refusal.{refusal}
+use Rattle.refusal.specs.declared.Refusal.{Refusal}
+use Rattle.std.specs.Prelude.{ℕ, List, [], ◌∷◌, Bool, true, false, cond, not, ◌&&◌, ◌||◌, length, eqb, ltb, Option, Some, None, Result, Ok, Err, ⊤}
 use Rattle.bits.specs.Bit.{bit, all_below, least, put_bit}
 use Rattle.records.specs.declared.Record.{Record}
 use Rattle.reader.specs.Walk.{records_of}
 use Rattle.rules.specs.LookUp.{supervisors_of, supervisor_state}
 use Rattle.rules.specs.Check.{verdict_of}
-use Rattle.rules.specs.declared.Verdict.{Verdict}
-use Rattle.rules.specs.declared.Verdict.TheVariants.{Accepted, Refused}
 use Rattle.plan.specs.Plan.{supervisor_moved, supervisor_initial, shown}
-use Rattle.modules.specs.declared.Called.TheVariants.{Done, Refused as CallRefused}
 use Rattle.messages.specs.Message.{no_event, short, written, parse, parsed_number}
 use Rattle.messages.specs.declared.Message.{Message}
 use Rattle.messages.specs.declared.Message.TheVariants.{Bid, Permit, Release}
-use Rattle.messages.specs.declared.Parsed.{Parsed}
-use Rattle.messages.specs.declared.Parsed.TheVariants.{Whole, Misshapen}
 use Rattle.permits.specs.declared.Supervisor.{Supervisor}
 use Rattle.permits.specs.declared.SupervisorCalled.{SupervisorCalled}
 use Rattle.permits.specs.declared.Holder.{Holder}
 use Rattle.permits.specs.declared.Holder.TheVariants.{Home, Out}
 use Rattle.permits.specs.declared.Served.{Served}
-use Rattle.permits.specs.declared.Served.TheVariants.{Sends, Waits, Refused as StepRefused}
+use Rattle.permits.specs.declared.Served.TheVariants.{Sends, Waits}
 use Rattle.permits.specs.Names.{neighbours?, named}
 use Rattle.permits.specs.Step.{bytes_of_messages, Call}
 -- the modules' cyclic order, passed on
@@ -50,12 +46,12 @@ supervisor_fits rs v y =
 
 -- "the first noted module cyclically after the last served"
 unfoldable pub next_noted : Supervisor → Option ℕ → Option ℕ
-next_noted y none = none
-next_noted y (some k) = some (module_after y.last k)
+next_noted y None = None
+next_noted y (Some k) = Some (module_after y.last k)
 
 -- "A supervisor step with the permit home sends it .. Otherwise it waits."
 unfoldable pub served_on : Supervisor → Holder → Option ℕ
-served_on y (Out m) = none
+served_on y (Out m) = None
 served_on y Home = next_noted y (least (λ k. bit y.noted (module_after y.last k)) 16)
 
 abbrev pub served : Supervisor → Option ℕ
@@ -67,43 +63,43 @@ after_send y m = with_last (with_holder (with_noted y (put_bit y.noted m false))
 
 -- "sends it, with its shown mask"
 unfoldable pub sent_to : List Record → ℕ → Supervisor → Option ℕ → List Message
-sent_to rs v y none = []
-sent_to rs v y (some m) = Permit v m (shown rs v y.state) ∷ []
+sent_to rs v y None = []
+sent_to rs v y (Some m) = Permit v m (shown rs v y.state) ∷ []
 
 abbrev pub step_bytes : List Record → ℕ → Supervisor → Option ℕ → List ℕ
 step_bytes rs v y t = bytes_of_messages (sent_to rs v y t)
 
-unfoldable pub answer_by : List ℕ → Option ℕ → Served
-answer_by bytes none = Waits
-answer_by bytes (some m) = Sends m (length bytes)
+unfoldable pub answer_by : List ℕ → Option ℕ → Result Served Refusal
+answer_by bytes None = Ok Waits
+answer_by bytes (Some m) = Ok (Sends m (length bytes))
 
 unfoldable pub state_by : Supervisor → Option ℕ → Supervisor
-state_by y none = y
-state_by y (some m) = after_send y m
+state_by y None = y
+state_by y (Some m) = after_send y m
 
 -- a whole call: its answer, the state after it, and the buffer's final contents
 abbrev pub ServeCall : Type 0
-ServeCall = Call Served Supervisor
+ServeCall = Call (Result Served Refusal) Supervisor
 
 abbrev pub step_refused : Supervisor → List ℕ → ℕ → ℕ → ServeCall
-step_refused y b n o = record { answer = StepRefused n o; state = y; buffer = b }
+step_refused y b n o = record { answer = Err (refusal n o); state = y; buffer = b }
 
 unfoldable pub step_in : List Record → ℕ → Supervisor → List ℕ → Option ℕ → ServeCall
 step_in rs v y b t =
     cond (short (step_bytes rs v y t) b) (step_refused y b 15 0)
     (record { answer = answer_by (step_bytes rs v y t) t; state = state_by y t; buffer = written (step_bytes rs v y t) b })
 
-unfoldable pub step_by : Verdict → List Record → ℕ → Supervisor → List ℕ → ServeCall
-step_by Accepted rs v y b =
+unfoldable pub step_by : Result ⊤ Refusal → List Record → ℕ → Supervisor → List ℕ → ServeCall
+step_by (Ok u) rs v y b =
     cond (ltb v (supervisors_of rs)) (cond (supervisor_fits rs v y) (step_in rs v y b (served y)) (step_refused y b 9 0)) (step_refused y b 11 0)
-step_by (Refused n o) rs v y b = step_refused y b n o
+step_by (Err e) rs v y b = step_refused y b e.number e.offset
 
 abbrev pub supervisor_step : List ℕ → ℕ → Supervisor → List ℕ → ServeCall
 supervisor_step image v y b = step_by (verdict_of image) (records_of image) v y b
 
 -- a call without a buffer
 abbrev pub call_refused : Supervisor → ℕ → ℕ → SupervisorCalled
-call_refused y n o = record { answer = CallRefused n o; state = y }
+call_refused y n o = record { answer = Err (refusal n o); state = y }
 
 -- "a bid is noted; a second noted bid of that module is 12"
 abbrev pub after_note : Supervisor → ℕ → Supervisor
@@ -122,21 +118,21 @@ held_by (Out n) m = eqb n m
 
 -- "A message that names another party than the one given it, or is of a kind that party never takes, is 12."
 unfoldable pub taken_by : List Record → ℕ → Supervisor → Message → SupervisorCalled
-taken_by rs v y (Bid m w) = cond (eqb w v && not (bit y.noted m)) (record { answer = Done; state = after_note y m }) (call_refused y 12 0)
+taken_by rs v y (Bid m w) = cond (eqb w v && not (bit y.noted m)) (record { answer = Ok tt; state = after_note y m }) (call_refused y 12 0)
 taken_by rs v y (Permit w m k) = call_refused y 12 0
-taken_by rs v y (Release m w e) = cond (eqb w v && held_by y.holder m) (record { answer = Done; state = after_release rs v y e }) (call_refused y 12 0)
+taken_by rs v y (Release m w e) = cond (eqb w v && held_by y.holder m) (record { answer = Ok tt; state = after_release rs v y e }) (call_refused y 12 0)
 
-unfoldable pub deliver_in : List Record → ℕ → Supervisor → Parsed → SupervisorCalled
-deliver_in rs v y Misshapen = call_refused y (parsed_number Misshapen) 0
-deliver_in rs v y (Whole g) = cond (named rs g) (taken_by rs v y g) (call_refused y 11 0)
+unfoldable pub deliver_in : List Record → ℕ → Supervisor → Option Message → SupervisorCalled
+deliver_in rs v y None = call_refused y (parsed_number None) 0
+deliver_in rs v y (Some g) = cond (named rs g) (taken_by rs v y g) (call_refused y 11 0)
 
-unfoldable pub absent : Supervisor → Parsed → SupervisorCalled
-absent y Misshapen = call_refused y (parsed_number Misshapen) 0
-absent y (Whole g) = call_refused y 11 0
+unfoldable pub absent : Supervisor → Option Message → SupervisorCalled
+absent y None = call_refused y (parsed_number None) 0
+absent y (Some g) = call_refused y 11 0
 
-unfoldable pub deliver_by : Verdict → List Record → ℕ → Supervisor → Parsed → SupervisorCalled
-deliver_by Accepted rs v y g = cond (ltb v (supervisors_of rs)) (cond (supervisor_fits rs v y) (deliver_in rs v y g) (call_refused y 9 0)) (absent y g)
-deliver_by (Refused n o) rs v y g = call_refused y n o
+unfoldable pub deliver_by : Result ⊤ Refusal → List Record → ℕ → Supervisor → Option Message → SupervisorCalled
+deliver_by (Ok u) rs v y g = cond (ltb v (supervisors_of rs)) (cond (supervisor_fits rs v y) (deliver_in rs v y g) (call_refused y 9 0)) (absent y g)
+deliver_by (Err e) rs v y g = call_refused y e.number e.offset
 
 abbrev pub supervisor_deliver : List ℕ → ℕ → Supervisor → List ℕ → SupervisorCalled
 supervisor_deliver image v y bytes = deliver_by (verdict_of image) (records_of image) v y (parse bytes)
@@ -149,9 +145,9 @@ empty_supervisor = record { state = 0; noted = 0; holder = Home; last = 0 }
 abbrev pub start_supervisor : List Record → ℕ → Supervisor
 start_supervisor rs v = with_last (with_state empty_supervisor (supervisor_initial rs v)) 15
 
-unfoldable pub start_by : Verdict → List Record → ℕ → SupervisorCalled
-start_by Accepted rs v = cond (ltb v (supervisors_of rs)) (record { answer = Done; state = start_supervisor rs v }) (call_refused empty_supervisor 11 0)
-start_by (Refused n o) rs v = call_refused empty_supervisor n o
+unfoldable pub start_by : Result ⊤ Refusal → List Record → ℕ → SupervisorCalled
+start_by (Ok u) rs v = cond (ltb v (supervisors_of rs)) (record { answer = Ok tt; state = start_supervisor rs v }) (call_refused empty_supervisor 11 0)
+start_by (Err e) rs v = call_refused empty_supervisor e.number e.offset
 
 abbrev pub supervisor_start : List ℕ → ℕ → SupervisorCalled
 supervisor_start image v = start_by (verdict_of image) (records_of image) v

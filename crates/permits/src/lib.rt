@@ -10,8 +10,9 @@ ghost use Rattle.permits.specs.Module.{with_permits, with_bid, empty_module};
 ghost use Rattle.permits.specs.Supervisor.{with_holder, empty_supervisor};
 
 use messages::Message;
-use modules::{Called, Own, Turn};
+use modules::Own;
 use places::Places;
+use refusal::Refusal;
 
 // A module on its own device: its own part, the supervisors whose permits it holds, the union of the masks received with them, and whether
 // a bid is outstanding, which is always with its lowest neighbour not held.
@@ -40,13 +41,12 @@ pub struct Supervisor {
     pub last: u8,
 }
 
-// What a module step did, with the bytes written: a turn and its releases, a bid, or nothing; or the number and the offset.
+// What a module step did, with the bytes written: a turn, the event that fired or nothing, and its releases; a bid; or nothing.
 #[derive(Clone, Copy)]
 pub enum Stepped {
-    Turns(Turn, usize),
+    Turns(Option<u8>, usize),
     Bids(u8, usize),
     Waits,
-    Refused(u8, usize),
 }
 
 // What a supervisor step did: sent its permit to a module, with the bytes written, or nothing.
@@ -54,31 +54,30 @@ pub enum Stepped {
 pub enum Served {
     Sends(u8, usize),
     Waits,
-    Refused(u8, usize),
 }
 
-// The answers with the states after them. The buffer lent to a step is the caller's.
+// The answers, or the number and the offset, with the states after them. The buffer lent to a step is the caller's.
 #[derive(Clone, Copy)]
 pub struct ModuleStepped {
-    pub answer: Stepped,
+    pub answer: Result<Stepped, Refusal>,
     pub state: Module,
 }
 
 #[derive(Clone, Copy)]
 pub struct ModuleCalled {
-    pub answer: Called,
+    pub answer: Result<(), Refusal>,
     pub state: Module,
 }
 
 #[derive(Clone, Copy)]
 pub struct SupervisorStepped {
-    pub answer: Served,
+    pub answer: Result<Served, Refusal>,
     pub state: Supervisor,
 }
 
 #[derive(Clone, Copy)]
 pub struct SupervisorCalled {
-    pub answer: Called,
+    pub answer: Result<(), Refusal>,
     pub state: Supervisor,
 }
 

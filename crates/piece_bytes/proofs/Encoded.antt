@@ -1,21 +1,21 @@
 -- A state is read back from its bytes.
 use mathlib.Core.Path.{◌≡◌, refl, sym, ap, ap₂, ◌∙◌, subst}
 use mathlib.Core.List.{List, [], ◌∷◌, ◌++◌, append_assoc}
-use mathlib.Core.Bool.{Bool, true, ◌&&◌}
+use mathlib.Core.Bool.{true, ◌&&◌}
 use Prim.Native.Nat.{ℕ, ◌^◌, ◌<◌}
 use native.Mathlib.Omega.{arith}
 use lib.ListN.{length, get_or, drop}
 use lib.Dec.{lit<}
-use lib.Seq.{get_or-drop, drop_at}
+use lib.Seq.{drop_at}
 use borrow.Author.Tests.{eq-eqb, le-leb}
 use Rattle.roundtrip.specs.Fits.{Byte, Bytes}
 use Rattle.words.specs.Word.{quad_at, quad_bytes}
 use Rattle.words.proofs.Laws.{length_quad}
 use Rattle.context.specs.declared.Context.{Context}
-use Rattle.fields.specs.Fields.{bytes_from, flag_byte}
+use Rattle.fields.specs.Fields.{bytes_from}
 use Rattle.fields.proofs.Back.{flag_is}
-use Rattle.context_bytes.specs.Encoding.{context_bytes, context_at, ContextEncodable}
-use Rattle.context_bytes.proofs.Encoded.{All, none, one, all_of, bytes_of, both, quad_bytes_lem, later, byte_there, quad_there, bytes_there}
+use Rattle.context_bytes.specs.Encoding.{context_bytes, ContextEncodable}
+use Rattle.context_bytes.proofs.Encoded.{All, one, all_of, bytes_of, both, quad_bytes_lem, later, byte_there, quad_there, bytes_there}
 use Rattle.context_bytes.proofs.Encoded.{context_bytes_lem, context_back, context_flag}
 use Rattle.pieces.specs.declared.Stage.{Stage}
 use Rattle.pieces.specs.declared.Stage.TheVariants.{Open, Ended, Faulty}

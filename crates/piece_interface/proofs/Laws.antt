@@ -1,4 +1,6 @@
 -- The calls over lent bytes, from what the code is told.
+use Rattle.std.specs.Prelude.{Result, ⊤}
+use Rattle.refusal.specs.declared.Refusal.{Refusal}
 use mathlib.Core.Path.{◌≡◌, refl, sym, ap, ◌∙◌}
 use mathlib.Core.List.{List, []}
 use mathlib.Core.Bool.{Bool, true, false}
@@ -6,7 +8,6 @@ use Prim.Native.Nat.{ℕ, ◌≤◌, ◌<◌}
 use native.Mathlib.Omega.{arith}
 use lib.ListN.{length}
 use borrow.Author.Tests.{lt-ltb, le-ltb}
-use Rattle.rules.specs.declared.Verdict.{Verdict}
 use Rattle.messages.specs.Message.{put_at, written, short}
 use Rattle.messages.proofs.Writing.{put_start}
 use Rattle.pieces.specs.Pieces.{starting, verdict_by}
@@ -15,7 +16,7 @@ use Rattle.piece_bytes.specs.State.{is_state, state_at, state_bytes}
 use Rattle.piece_bytes.proofs.Parts.{parts as state-parts}
 use Rattle.piece_laws.proofs.Encodable.{stays_encodable}
 use Rattle.taking.specs.Taken.{piece_taken_in}
-use Rattle.packing.specs.Answer.{Answered, packed, verdict_answer, start_answer}
+use Rattle.packing.specs.Answer.{Answered, packed, called_answer, start_answer}
 use Rattle.piece_interface.specs.Calls.{check_start_bytes, check_piece_bytes, check_answer_bytes}
 
 -- ---- the start
@@ -48,9 +49,9 @@ module _ (s p : List ℕ) {t : Bool} {after : List ℕ} (e : (t ≡ is_state s) 
 -- ---- the answer
 
 module _ (s : List ℕ) {t : Bool} (e : t ≡ is_state s) {r : ℕ} where
-  pub answer_given : {k : CheckState} {v : Verdict} → t ≡ true → k ≡ state_at s → v ≡ verdict_by k → r ≡ verdict_answer v → r ≡ check_answer_bytes s
+  pub answer_given : {k : CheckState} {v : Result ⊤ Refusal} → t ≡ true → k ≡ state_at s → v ≡ verdict_by k → r ≡ called_answer v → r ≡ check_answer_bytes s
   unfolding check_answer_bytes
-  answer_given h a b w = simp (sym e ∙ h) (w ∙ ap verdict_answer (b ∙ ap verdict_by a))
+  answer_given h a b w = simp (sym e ∙ h) (w ∙ ap called_answer (b ∙ ap verdict_by a))
 
   pub answer_none : t ≡ false → r ≡ packed 9 0 0 0 → r ≡ check_answer_bytes s
   unfolding check_answer_bytes

@@ -35,7 +35,7 @@ pub fn check_answer(state: &[u8]) -> u64
 {
     if piece_bytes::is_state(state) {
         let k = piece_bytes::state_at(state);
-        return packing::verdict(pieces::verdict(k));
+        return packing::called(pieces::verdict(k));
     }
     packing::pack(9, 0, 0, 0)
 }

@@ -1,4 +1,6 @@
 -- What is kept after a whole record, from what the code is told.
+use Rattle.std.specs.Prelude.{Ok, Err}
+use Rattle.refusal.specs.Refusal.{refusal}
 use mathlib.Core.List.{List, map}
 use lib.ListN.{length, get_or, drop, set, length-map}
 use Prim.Native.Nat.{ℕ, suc, ◌+◌, ◌-◌, ◌≤◌, ◌<◌}
@@ -12,7 +14,6 @@ use borrow.Author.Tests.{ne_eqb, eq-eqb, lt-leb, le-leb, lt-ltb, le-ltb}
 use Rattle.records.specs.Kinds.{body_len, no_len, kind_of}
 use Rattle.reader.specs.Read.{record_of}
 use Rattle.rules.specs.Check.{limit}
-use Rattle.rules.specs.declared.Verdict.TheVariants.{Accepted, Refused}
 use Rattle.records.specs.declared.Record.{Record}
 use Rattle.context.specs.Context.{with_record}
 use Rattle.context.specs.declared.Context.{Context}
@@ -85,20 +86,20 @@ taken_all s k x i h f = sym (ap (piece_taken x) (drop_of_length-le s h)) ∙ f
 -- ---- the answer
 
 module _ (k : CheckState) where
-  pub too_many : limit < k.taken → Refused 1 0 ≡ verdict_by k
+  pub too_many : limit < k.taken → Err (refusal 1 0) ≡ verdict_by k
   unfolding verdict_by
   too_many h = simp (lt-ltb limit k.taken h)
 
   module _ (h : k.taken ≤ limit) where
-    pub still_open : {o : ℕ} → k.stage ≡ Open → o ≡ k.taken - k.held → Refused 3 o ≡ verdict_by k
+    pub still_open : {o : ℕ} → k.stage ≡ Open → o ≡ k.taken - k.held → Err (refusal 3 o) ≡ verdict_by k
     unfolding verdict_by stage_verdict
-    still_open s e = simp (le-ltb limit k.taken h, s) (ap (Refused 3) e)
+    still_open s e = simp (le-ltb limit k.taken h, s) (ap (λ (o : ℕ). Err (refusal 3 o)) e)
 
-    pub all_ended : k.stage ≡ Ended → Accepted ≡ verdict_by k
+    pub all_ended : k.stage ≡ Ended → Ok tt ≡ verdict_by k
     unfolding verdict_by stage_verdict
     all_ended s = simp (le-ltb limit k.taken h, s)
 
-    pub found_faulty : (n o : ℕ) → k.stage ≡ Faulty n o → Refused n o ≡ verdict_by k
+    pub found_faulty : (n o : ℕ) → k.stage ≡ Faulty n o → Err (refusal n o) ≡ verdict_by k
     unfolding verdict_by stage_verdict
     found_faulty n o s = simp (le-ltb limit k.taken h, s)
 

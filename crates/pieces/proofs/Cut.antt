@@ -1,4 +1,7 @@
 -- The check in pieces is the check of the whole image.
+use Rattle.std.specs.Prelude.{Result, Err, ⊤}
+use Rattle.refusal.specs.Refusal.{refusal}
+use Rattle.refusal.specs.declared.Refusal.{Refusal}
 use Prim.Native.Nat.{ℕ, zero, suc, ◌+◌, ◌-◌, ◌≤◌, ◌<◌}
 use native.Mathlib.Omega.{arith}
 use mathlib.Core.Path.{◌≡◌, refl, sym, ap, ap₂, ◌∙◌, subst}
@@ -18,8 +21,6 @@ use Rattle.reader.specs.Walk.{Walk, more, stop, walk_of, walk_from}
 use Rattle.reader.proofs.Reading.{skips, kind_kept}
 use Rattle.rules.specs.Check.{end_at, check_walk, limit, verdict_of}
 use Rattle.rules.specs.Valid.{Valid}
-use Rattle.rules.specs.declared.Verdict.{Verdict}
-use Rattle.rules.specs.declared.Verdict.TheVariants.{Refused}
 use Rattle.context.specs.Context.{with_record, start, context_of}
 use Rattle.context.specs.declared.Context.{Context}
 use Rattle.judge.specs.Judge.{judge_by}
@@ -60,7 +61,7 @@ end_empty k b u e = let z : k ≡ 0x1f = sym (kind_kept k b u) ∙ key_kind (rec
 
 -- ---- after a refusal, and after the end
 
-faulty : (c : Context) (n o : ℕ) (bs : List ℕ) (t : ℕ) → t + length bs ≤ limit → verdict_by (piece_taken (between c (Faulty n o) t) bs) ≡ Refused n o
+faulty : (c : Context) (n o : ℕ) (bs : List ℕ) (t : ℕ) → t + length bs ≤ limit → verdict_by (piece_taken (between c (Faulty n o) t) bs) ≡ Err (refusal n o)
 unfolding verdict_by piece_taken byte_taken byte_by stage_verdict
 faulty c n o [] t h = simp (le-ltb limit t (omega arith))
 faulty c n o (b ∷ bs) t h = simp (lt-ltb t limit (omega arith)) (faulty c n o bs (suc t) (omega arith))
@@ -141,8 +142,8 @@ leb_both m n = go (leb m n) refl
     go false e = let h : n < m = leb-false m n e in lt-leb (suc m) (suc n) (omega arith)
 
 -- all that are left of it, and then what follows; or the image ends before
-rest : Context → ℕ → ℕ → List ℕ → ℕ → List ℕ → Verdict
-rest c t k body m bs = cond (leb m (length bs)) (verdict_by (piece_taken (record_taken (between c Open t) (t + suc (body_len k)) t (record_of k body)) (drop m bs))) (Refused 3 t)
+rest : Context → ℕ → ℕ → List ℕ → ℕ → List ℕ → Result ⊤ Refusal
+rest c t k body m bs = cond (leb m (length bs)) (verdict_by (piece_taken (record_taken (between c Open t) (t + suc (body_len k)) t (record_of k body)) (drop m bs))) (Err (refusal 3 t))
 
 Collects : Context → ℕ → ℕ → List ℕ → List ℕ → Type 0
 Collects c t k bs got = verdict_by (piece_taken (holding c t k got) bs) ≡ rest c t k (got ++ bs) (body_len k - length got) bs
@@ -151,7 +152,7 @@ collect : (c : Context) (t k : ℕ) → (body_len k ≡ no_len → ⊥) → (bs 
 unfolding piece_taken verdict_by stage_verdict Collects rest
 collect c t k u [] got l h =
     let z : (t + suc (length got)) - suc (length got) ≡ t = omega arith in
-    simp (le-ltb limit (t + suc (length got)) (omega arith), lt-leb (body_len k - length got) 0 (omega arith)) (ap (Refused 3) z)
+    simp (le-ltb limit (t + suc (length got)) (omega arith), lt-leb (body_len k - length got) 0 (omega arith)) (ap (λ (o : ℕ). Err (refusal 3 o)) z)
 collect c t k u (b ∷ bs) got l h = go (leb (body_len k) (suc (length got))) refl (collect c t k u bs (got ++ (b ∷ [])))
   where
     n : length (got ++ (b ∷ [])) ≡ suc (length got)
@@ -223,7 +224,7 @@ module _ (c : Context) (t k : ℕ) (u : body_len k ≡ no_len → ⊥) (body bs 
     where
       go : (a e : Bool) → eqb (kind_of r) 0x1f ≡ e
           → verdict_by (piece_taken (cond a (between (with_record c r) (cond e Ended Open) next) (between c (Faulty (judge_by c r) t) next)) bs)
-          ≡ cond a (cond e (end_at (next + length bs) t) (check_by (next + length bs) (with_record c r) (walk_of zero next bs))) (Refused (judge_by c r) t)
+          ≡ cond a (cond e (end_at (next + length bs) t) (check_by (next + length bs) (with_record c r) (walk_of zero next bs))) (Err (refusal (judge_by c r) t))
       go true true q =
           let z : body_len k ≡ 0 = end_empty k body u (eqb-true _ _ q) in
           let n : next ≡ suc t = omega arith in
@@ -302,7 +303,7 @@ Within m =
 
 nothing_left : (c : Context) (t : ℕ) → t ≤ limit → verdict_by (piece_taken (between c Open t) []) ≡ check_by (t + 0) c (walk_of zero t [])
 unfolding verdict_by piece_taken stage_verdict check_by walk_of
-nothing_left c t h = simp (le-ltb limit t h) (ap (Refused 3) (let z : t - 0 ≡ t = omega arith in z))
+nothing_left c t h = simp (le-ltb limit t h) (ap (λ (o : ℕ). Err (refusal 3 o)) (let z : t - 0 ≡ t = omega arith in z))
 
 one_record : (m : ℕ) → Within m → Within (suc m)
 unfolding Within verdict_by piece_taken stage_verdict check_by walk_of rest
@@ -317,7 +318,7 @@ one_record m f c t (k ∷ bs) l h = go (eqb (body_len k) no_len) refl
     go false q = record_from c t k (omega arith) (eqb-false _ _ q) bs h ∙ cases (leb (body_len k) (length bs)) refl
       where
         cases : (x : Bool) → leb (body_len k) (length bs) ≡ x
-            → cond x (verdict_by (piece_taken (record_taken (between c Open t) (t + suc (body_len k)) t (record_of k bs)) (drop (body_len k) bs))) (Refused 3 t)
+            → cond x (verdict_by (piece_taken (record_taken (between c Open t) (t + suc (body_len k)) t (record_of k bs)) (drop (body_len k) bs))) (Err (refusal 3 t))
             ≡ check_by (t + suc (length bs)) c (cond x (more t (record_of k bs) (walk_of (body_len k) (suc t) bs)) (stop 3 t))
         cases true p =
             let a : body_len k ≤ length bs = leb-true _ _ p in
@@ -380,7 +381,7 @@ too_many k b (d ∷ bs) h = go (ltb k.taken limit) refl (too_many (byte_taken k 
 
 -- ---- the whole, and any cutting of it
 
-long : (s : List ℕ) → limit < length s → verdict_by (piece_taken starting s) ≡ Refused 1 0
+long : (s : List ℕ) → limit < length s → verdict_by (piece_taken starting s) ≡ Err (refusal 1 0)
 unfolding verdict_by
 long [] h = absurd (omega arith)
 long (b ∷ s) h = ap verdict_by (too_many starting b s (omega arith))
@@ -389,7 +390,7 @@ at_once : (s : List ℕ) → verdict_by (piece_taken starting s) ≡ verdict_of 
 unfolding verdict_of context_of Valid Within
 at_once s = go (ltb limit (length s)) refl
   where
-    go : (b : Bool) → ltb limit (length s) ≡ b → verdict_by (piece_taken starting s) ≡ cond b (Refused 1 0) (check_walk (length s) [] (walk_from s 0))
+    go : (b : Bool) → ltb limit (length s) ≡ b → verdict_by (piece_taken starting s) ≡ cond b (Err (refusal 1 0)) (check_walk (length s) [] (walk_from s 0))
     go true q = long s (ltb-true _ _ q)
     go false q =
         let h : length s ≤ limit = ltb-false _ _ q in

@@ -1,4 +1,5 @@
 -- Bytes of a record that has begun, gathered at once: as many as are still missing, or as many as the piece has.
+use Rattle.std.specs.Prelude.{Ok, Err}
 use Prim.Native.Nat.{ℕ, zero, suc, ◌+◌, ◌-◌, ◌≤◌, ◌<◌}
 use native.Mathlib.Nat.{add-zero}
 use native.Mathlib.Numerals.{add-one}
@@ -14,7 +15,7 @@ use Rattle.words.proofs.Lists.{sets_append}
 use Rattle.records.specs.Kinds.{body_len, no_len, kind_of}
 use Rattle.records.specs.declared.Record.{Record}
 use Rattle.reader.specs.Read.{read_at, record_of}
-use Rattle.reader.specs.declared.Read.TheVariants.{Nothing, Whole}
+use Rattle.reader.specs.declared.NoRecord.TheVariants.{Nothing}
 use Rattle.reader.proofs.Reading.{shapes_nothing, reads_by, reads_whole}
 use Rattle.rules.specs.Check.{limit}
 use Rattle.context.specs.Context.{with_record}
@@ -22,7 +23,7 @@ use Rattle.context.specs.declared.Context.{Context}
 use Rattle.judge.specs.Judge.{judge_by}
 use Rattle.judge.specs.Past.{past_from}
 use Rattle.judge.specs.declared.Past.{Past}
-use Rattle.judge.proofs.Passing.{cut_by, faulty_by, end_by, on_by}
+use Rattle.judge.proofs.Passing.{stops_by, faulty_by, end_by, on_by}
 use Rattle.pieces.specs.declared.Stage.TheVariants.{Open}
 use Rattle.pieces.specs.Pieces.{between, piece_taken}
 use Rattle.pieces.specs.Taking.{holding, Holds, PastBegun}
@@ -105,10 +106,10 @@ passed_alone w c p u l e g = cases (eqb (judge_by c r) 0) (eqb (kind_of r) 0x1f)
     n : ℕ
     n = 0 + 1 + body_len (get_or w 0 0)
 
-    whole : Whole r n ≡ read_at w 0
+    whole : Ok (r, n) ≡ read_at w 0
     whole = sym (reads_whole w 0 (omega arith) u (omega arith))
 
-    behind : Nothing ≡ read_at w n
+    behind : Err Nothing ≡ read_at w n
     behind = sym (reads_by w n (sym (shapes_nothing w n (omega arith))))
 
     stuck : record { context = c; next = 0 } ≡ past_from w 0 c → Alone w c p.context
@@ -121,7 +122,7 @@ passed_alone w c p u l e g = cases (eqb (judge_by c r) 0) (eqb (kind_of r) 0x1f)
         let z : judge_by c r ≡ 0 = eqb-true _ _ x in
         let v : kind_of r ≡ 0x1f → ⊥ = eqb-false _ _ y in
         let on : past_from w n (with_record c r) ≡ past_from w 0 c = on_by w c c 0 0 refl whole refl refl z refl v refl in
-        let at : record { context = with_record c r; next = n } ≡ past_from w 0 c = cut_by w c (with_record c r) 0 n on behind refl refl in
+        let at : record { context = with_record c r; next = n } ≡ past_from w 0 c = stops_by w c (with_record c r) 0 n on Nothing behind refl in
         record { faultless = z; no_end = v; is = ap (λ (x : Past). x.context) (e ∙ sym at) }
 
 -- ---- a record that is whole with them

@@ -1,4 +1,5 @@
 -- How far a piece is taken, from what the code is told: bytes of a record that has begun, whole records, and bytes after a refusal.
+use Rattle.std.specs.Prelude.{Result, Ok, Err}
 use Prim.Native.Nat.{ℕ, zero, suc, ◌+◌, ◌-◌, ◌≤◌, ◌<◌}
 use native.Mathlib.Nat.{le_refl}
 use native.Mathlib.Numerals.{add-one}
@@ -15,8 +16,7 @@ use Rattle.judge.proofs.Represents.{both}
 use Rattle.records.specs.Kinds.{body_len, no_len, kind_of}
 use Rattle.records.specs.declared.Record.{Record}
 use Rattle.reader.specs.Read.{read_at, record_of}
-use Rattle.reader.specs.declared.Read.{Read}
-use Rattle.reader.specs.declared.Read.TheVariants.{Nothing, Cut, Unknown, Whole}
+use Rattle.reader.specs.declared.NoRecord.{NoRecord}
 use Rattle.reader.proofs.Reading.{told_by}
 use Rattle.rules.specs.Check.{limit}
 use Rattle.context.specs.Context.{with_record}
@@ -24,7 +24,7 @@ use Rattle.context.specs.declared.Context.{Context}
 use Rattle.judge.specs.Judge.{judge_by}
 use Rattle.judge.specs.Past.{past_from}
 use Rattle.judge.specs.declared.Past.{Past}
-use Rattle.judge.proofs.Passing.{cut_by, unknown_by, faulty_by, end_by, on_by}
+use Rattle.judge.proofs.Passing.{stops_by, faulty_by, end_by, on_by}
 use Rattle.pieces.specs.declared.Stage.TheVariants.{Open, Faulty}
 use Rattle.pieces.specs.declared.CheckState.{CheckState}
 use Rattle.pieces.specs.Pieces.{between, overlong, record_taken, byte_open, byte_by, byte_taken, piece_taken}
@@ -86,7 +86,7 @@ ran_none : (s : List ℕ) (c : Context) (t i : ℕ) → i ≤ length s → Ran s
 ran_none s c t i h = record { further = le_refl i; inside = h; same = ap (λ (m : ℕ). piece_taken (between c Open m) (drop i s)) (let z : t + (i - i) ≡ t = omega arith in z) }
 
 -- past one that is faultless and no end
-module _ (s : List ℕ) (c : Context) (t i : ℕ) {r : Record} {n : ℕ} (g : Whole r n ≡ read_at s i) (h : t + (length s - i) ≤ limit) where
+module _ (s : List ℕ) (c : Context) (t i : ℕ) {r : Record} {n : ℕ} (g : Ok (r, n) ≡ read_at s i) (h : t + (length s - i) ≤ limit) where
   abbrev k : ℕ
   k = get_or s i 0
 
@@ -115,7 +115,7 @@ module _ (s : List ℕ) (c : Context) (t i : ℕ) (l : i ≤ length s) (h : t + 
   stays : {p : Past} → record { context = c; next = i } ≡ p → Ran s c t i p
   stays e = subst (Ran s c t i) e (ran_none s c t i l)
 
-  goes : {r : Record} {n : ℕ} {p : Past} → Whole r n ≡ read_at s i → judge_by c r ≡ 0 → (kind_of r ≡ 0x1f → ⊥) → Ran s (with_record c r) (t + (n - i)) n p → Ran s c t i p
+  goes : {r : Record} {n : ℕ} {p : Past} → Ok (r, n) ≡ read_at s i → judge_by c r ≡ 0 → (kind_of r ≡ 0x1f → ⊥) → Ran s (with_record c r) (t + (n - i)) n p → Ran s c t i p
   goes {r} {n} {p} g z v a =
       let b : n ≡ i + 1 + body_len (get_or s i 0) = (told_by s i g refl).next in
       let d : n ≤ p.next = a.further in
@@ -130,11 +130,9 @@ module _ (s : List ℕ) (c : Context) (t i : ℕ) (l : i ≤ length s) (h : t + 
   unfolding Runs
   runs_by m f b = go (read_at s i) refl
     where
-      go : (x : Read) → x ≡ read_at s i → Ran s c t i (past_from s i c)
-      go Nothing e = stays (cut_by s c c i i refl e refl refl)
-      go Cut e = stays (cut_by s c c i i refl e refl refl)
-      go Unknown e = stays (unknown_by s c c i i refl e refl refl)
-      go (Whole r n) e = cases (eqb (judge_by c r) 0) (eqb (kind_of r) 0x1f) refl refl
+      go : (x : Result (Record × ℕ) NoRecord) → x ≡ read_at s i → Ran s c t i (past_from s i c)
+      go (Err why) e = stays (stops_by s c c i i refl why e refl)
+      go (Ok (r, n)) e = cases (eqb (judge_by c r) 0) (eqb (kind_of r) 0x1f) refl refl
         where
           o1 : n ≡ i + 1 + body_len (get_or s i 0)
           o1 = (told_by s i e refl).next

@@ -1,13 +1,13 @@
 -- Document 02, 2.3: "Let the check take the image in pieces, cut anywhere, each handed over once and in order, with the state that the last call left
 -- and at most 4,096 bytes kept between them." The definitions take each byte by itself, in every state, also in one that no call left; that they say
 -- document 01's check is `CutAnywhere`, below.
-use Rattle.std.specs.Prelude.{ℕ, suc, ◌-◌, ◌≡◌, List, [], ◌∷◌, ◌++◌, cond, get_or, set, drop, replicate, eqb, leb, ltb}
+use Rattle.refusal.specs.Refusal.{refusal}
+use Rattle.refusal.specs.declared.Refusal.{Refusal}
+use Rattle.std.specs.Prelude.{ℕ, suc, ◌-◌, ◌≡◌, List, [], ◌∷◌, ◌++◌, cond, get_or, set, drop, replicate, eqb, leb, ltb, Result, Ok, Err, ⊤}
 use Rattle.records.specs.Kinds.{body_len, no_len, kind_of}
 use Rattle.records.specs.declared.Record.{Record}
 use Rattle.reader.specs.Read.{record_of}
 use Rattle.rules.specs.Check.{limit, verdict_of}
-use Rattle.rules.specs.declared.Verdict.{Verdict}
-use Rattle.rules.specs.declared.Verdict.TheVariants.{Accepted, Refused}
 use Rattle.context.specs.Context.{with_record, start}
 use Rattle.context.specs.declared.Context.{Context}
 use Rattle.judge.specs.Judge.{judge_by}
@@ -70,14 +70,14 @@ pieces_taken k (p ∷ ps) = pieces_taken (piece_taken k p) ps
 
 -- 3, "body cut, or no end record", is at the kind byte of a record that has begun, or at the image's length; a state that no call left has an answer by
 -- its stage too, whatever number it holds
-unfoldable pub stage_verdict : Stage → ℕ → Verdict
-stage_verdict Open o = Refused 3 o
-stage_verdict Ended o = Accepted
-stage_verdict (Faulty n at) o = Refused n at
+unfoldable pub stage_verdict : Stage → ℕ → Result ⊤ Refusal
+stage_verdict Open o = Err (refusal 3 o)
+stage_verdict Ended o = Ok tt
+stage_verdict (Faulty n at) o = Err (refusal n at)
 
 -- the answer for the bytes handed over so far; the offset is "0 for 1"
-unfoldable pub verdict_by : CheckState → Verdict
-verdict_by k = cond (ltb limit k.taken) (Refused 1 0) (stage_verdict k.stage (k.taken - k.held))
+unfoldable pub verdict_by : CheckState → Result ⊤ Refusal
+verdict_by k = cond (ltb limit k.taken) (Err (refusal 1 0)) (stage_verdict k.stage (k.taken - k.held))
 
 -- pieces one behind the other
 unfoldable pub joined : List (List ℕ) → List ℕ

@@ -11,7 +11,7 @@ ghost use Rattle.pieces.specs.declared.Stage.TheVariants.{Open};
 use context::Context;
 use judge::Past;
 use records::Record;
-use rules::Verdict;
+use refusal::Refusal;
 
 // The longest image, in bytes.
 const LIMIT: u32 = 49152;
@@ -343,6 +343,7 @@ pub fn take(k: CheckState, piece: &[u8]) -> CheckState
     }
     let mut s = k;
     let mut i: usize = 0;
+    // No `for`: how far a turn goes is what it answers.
     while i < piece.len() {
         let on = onward(s, piece, i);
         let next = on.state;
@@ -353,16 +354,25 @@ pub fn take(k: CheckState, piece: &[u8]) -> CheckState
 }
 
 // The check of the bytes handed over so far.
-pub fn verdict(k: CheckState) -> Verdict
+pub fn verdict(k: CheckState) -> Result<(), Refusal>
     ensures { result ≡ verdict_by k }
 {
     let st = k.stage;
     if LIMIT < k.taken {
-        return Verdict::Refused(1, 0);
+        return Err(Refusal {
+            number: 1,
+            offset: 0,
+        });
     }
     match st {
-        Stage::Open => Verdict::Refused(3, first_of(k.taken, k.held) as usize),
-        Stage::Ended => Verdict::Accepted,
-        Stage::Faulty(n, o) => Verdict::Refused(n, o as usize),
+        Stage::Open => Err(Refusal {
+            number: 3,
+            offset: first_of(k.taken, k.held) as usize,
+        }),
+        Stage::Ended => Ok(()),
+        Stage::Faulty(n, o) => Err(Refusal {
+            number: n,
+            offset: o as usize,
+        }),
     }
 }

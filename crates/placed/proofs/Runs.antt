@@ -1,4 +1,5 @@
 -- A walk as runs of records, one run for each kind.
+use Rattle.std.specs.Prelude.{Result, Ok, Err}
 use Prim.Native.Nat.{ℕ, zero, suc, ◌+◌, ◌-◌, ◌*◌, ◌≤◌, ◌<◌}
 use native.Mathlib.Omega.{arith}
 use mathlib.Core.Path.{◌≡◌, refl, sym, ap, ap₂, ◌∙◌, subst}
@@ -16,8 +17,8 @@ use Rattle.records.specs.declared.Record.{Record}
 use Rattle.records.specs.declared.Record.TheVariants.{Head, Event, Module, ModuleMove, Supervisor, SupervisorMove, Disabling, Step, Marking, End}
 use Rattle.reader.specs.Read.{record_of, read_at}
 use Rattle.reader.specs.Walk.{Walk, more, stop, walk_from, records_in}
-use Rattle.reader.specs.declared.Read.{Read}
-use Rattle.reader.specs.declared.Read.TheVariants.{Whole, Unknown, Cut, Nothing}
+use Rattle.reader.specs.declared.NoRecord.{NoRecord}
+use Rattle.reader.specs.declared.NoRecord.TheVariants.{Unknown, Cut, Nothing}
 use Rattle.reader.proofs.Reading.{Seen, seen, next, walks, kind_kept}
 use Rattle.accepted.specs.Plan.{◌∈◌}
 use Rattle.records.proofs.Order.{key_kind}
@@ -41,8 +42,8 @@ unfolding Along
 along_from s zero i h = absurd (omega arith)
 along_from s (suc n) i h = subst (Along s i) (sym (walks s i)) (go (read_at s i) (seen s i) (along_from s n))
   where
-    go : (r : Read) → Seen s i r → ((j : ℕ) → length s - j < n → Along s j (walk_from s j)) → Along s i (next s i r)
-    go (Whole r m) t f =
+    go : (r : Result (Record × ℕ) NoRecord) → Seen s i r → ((j : ℕ) → length s - j < n → Along s j (walk_from s j)) → Along s i (next s i r)
+    go (Ok (r, m)) t f =
         let k : kind_of r ≡ get_or s i 0 = sym (key_kind r) ∙ ap (λ (x : Record). (key_of x).kind) t.is ∙ kind_kept _ _ t.known in
         let l : body_len (kind_of r) ≡ body_len (get_or s i 0) = ap body_len k in
         let e : m ≡ i + size_of r = t.next ∙ omega arith in
@@ -55,9 +56,9 @@ along_from s (suc n) i h = subst (Along s i) (sym (walks s i)) (go (read_at s i)
           },
           subst (λ (x : ℕ). Along s x (walk_from s m)) e (f m (omega arith)),
         )
-    go Unknown t f = tt
-    go Cut t f = tt
-    go Nothing t f = tt
+    go (Err Unknown) t f = tt
+    go (Err Cut) t f = tt
+    go (Err Nothing) t f = tt
 
 pub along : (s : List ℕ) → Along s 0 (walk_from s 0)
 along s = along_from s (suc (length s)) 0 (omega arith)

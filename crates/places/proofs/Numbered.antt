@@ -1,4 +1,5 @@
 -- The records of the kinds whose records have the number of their place, from what the code is told of the kind.
+use Rattle.std.specs.Prelude.{Some, None}
 use mathlib.Core.Path.{◌≡◌, refl, ap, ◌∙◌}
 use mathlib.Core.List.{List}
 use mathlib.Core.Bool.{true, ◌&&◌, and-true}
@@ -17,7 +18,6 @@ use Rattle.records.specs.declared.Record.{Record}
 use Rattle.records.specs.declared.Record.TheVariants.{Event, Module, Supervisor}
 use Rattle.reader.specs.Read.{record_of}
 use Rattle.reader.specs.Find.{find_in}
-use Rattle.reader.specs.declared.Found.TheVariants.{It, Missing}
 use Rattle.places.specs.Places.{numbered, position_of, records_by}
 use Rattle.places.specs.Runs.{run_of}
 use Rattle.places.specs.declared.Places.{Places}
@@ -48,7 +48,7 @@ module _ (s : List ℕ) (p : Places) (k x : ℕ) (n : numbered k ≡ true) {r : 
   place : i ≡ position_of s p (key_by k x 0 0)
   place = numbered_by s p (key_by k x 0 0) n f
 
-  pub number_past : r.count ≤ i → Missing ≡ find_in (key_by k x 0 0) (records_by s p)
+  pub number_past : r.count ≤ i → None ≡ find_in (key_by k x 0 0) (records_by s p)
   number_past l = look_missing s p (key_by k x 0 0) (seek_past s p (key_by k x 0 0) e place l) refl
 
   module _ (l : i < r.count) {a : ℕ} (g : a ≡ suc (r.begin + i * r.size)) where
@@ -69,9 +69,9 @@ module _ (s : List ℕ) (p : Places) (k x : ℕ) (n : numbered k ≡ true) {r : 
         byte : (eqb (get_or (drop a s) 0 0) x && true && true) ≡ eqb (get_or s a 0) x
         byte = and-true _ ∙ and-true _ ∙ ap (λ (y : ℕ). eqb y x) (simp (get_or-drop, add-zero))
 
-    pub number_it : {v : Record} → get_or s a 0 ≡ x → v ≡ record_of k (drop a s) → It v ≡ find_in (key_by k x 0 0) (records_by s p)
+    pub number_it : {v : Record} → get_or s a 0 ≡ x → v ≡ record_of k (drop a s) → Some v ≡ find_in (key_by k x 0 0) (records_by s p)
     number_it h z =
         look_it s p (key_by k x 0 0) (seek_it s p (key_by k x 0 0) e place l g refl refl (same_number ∙ eq-eqb _ _ h)) (λ w. absurd (omega arith)) z
 
-    pub number_other : (get_or s a 0 ≡ x → ⊥) → Missing ≡ find_in (key_by k x 0 0) (records_by s p)
+    pub number_other : (get_or s a 0 ≡ x → ⊥) → None ≡ find_in (key_by k x 0 0) (records_by s p)
     number_other h = look_missing s p (key_by k x 0 0) (seek_none s p (key_by k x 0 0) e place l g refl refl (same_number ∙ ne_eqb _ _ h)) refl

@@ -1,4 +1,5 @@
 -- Where a look-up ends, from what the code is told.
+use Rattle.std.specs.Prelude.{Some, None}
 use mathlib.Core.Path.{◌≡◌, refl, sym, ap, ap₂, ◌∙◌}
 use mathlib.Core.List.{List}
 use mathlib.Core.Bool.{Bool, true, false, cond, false≢true, ◌&&◌}
@@ -13,7 +14,6 @@ use Rattle.records.specs.declared.Record.{Record}
 use Rattle.records.specs.declared.RecordKey.{RecordKey}
 use Rattle.reader.specs.Read.{record_of}
 use Rattle.reader.specs.Find.{find_in, found}
-use Rattle.reader.specs.declared.Found.TheVariants.{It, Missing}
 use Rattle.places.specs.Places.{begin_of, count_of, record_by, halved, onward, numbered, least_key, is_before, first_of, position_of, spot_of, records_by}
 use Rattle.places.specs.Runs.{run_by, run_of, Inside, is_move, keyed}
 use Rattle.places.specs.declared.Places.{Places}
@@ -69,19 +69,19 @@ module _ (s : List ℕ) (p : Places) (q : RecordKey) where
 
   -- what a look-up finds
   module _ {a : ℕ} (e : a ≡ spot_of s p q) where
-    pub look_missing : a ≡ 0 → Missing ≡ find_in q (records_by s p)
+    pub look_missing : a ≡ 0 → None ≡ find_in q (records_by s p)
     look_missing z = go ends (sym e ∙ z)
       where
-        go : {x : ℕ} → Ends x → x ≡ 0 → Missing ≡ find_in q (records_by s p)
+        go : {x : ℕ} → Ends x → x ≡ 0 → None ≡ find_in q (records_by s p)
         go (at_it l m) w = absurd (omega arith)
         go (not_there h) w = sym (missing s p q h)
 
-    pub look_it : {v : Record} → (a ≡ 0 → ⊥) → v ≡ record_of q.kind (drop a s) → It v ≡ find_in q (records_by s p)
+    pub look_it : {v : Record} → (a ≡ 0 → ⊥) → v ≡ record_of q.kind (drop a s) → Some v ≡ find_in q (records_by s p)
     unfolding record_by
     look_it {v} z f = go ends e
       where
-        go : {x : ℕ} → Ends x → a ≡ x → It v ≡ find_in q (records_by s p)
-        go (at_it l m) w = ap It (f ∙ ap (λ (y : ℕ). record_of q.kind (drop y s)) w) ∙ sym (it s p q l m)
+        go : {x : ℕ} → Ends x → a ≡ x → Some v ≡ find_in q (records_by s p)
+        go (at_it l m) w = ap Some (f ∙ ap (λ (y : ℕ). record_of q.kind (drop y s)) w) ∙ sym (it s p q l m)
         go (not_there h) w = absurd (z w)
 
   pub found_is : found (find_in q (records_by s p)) ≡ (ltb (position_of s p q) (count_of s p q.kind) && same_key (key_of here) q)
@@ -192,7 +192,7 @@ module _ (s : List ℕ) (p : Places) (x : ℕ) where
   unfolding record_by record_of key_of
   head_key_lem i = refl
 
-  pub head_other : 0 < x → Missing ≡ find_in (key_by 0x10 x 0 0) (records_by s p)
+  pub head_other : 0 < x → None ≡ find_in (key_by 0x10 x 0 0) (records_by s p)
   unfolding same_key
   head_other l =
       let w : 0 ≡ x → ⊥ = λ e. absurd (omega arith) in
@@ -211,14 +211,14 @@ module _ (s : List ℕ) (p : Places) (x : ℕ) where
     head_same =
         ap (λ (y : RecordKey). same_key y (key_by 0x10 x 0 0)) (head_key_lem (position_of s p (key_by 0x10 x 0 0))) ∙ ap (λ (y : ℕ). same_key head_key (key_by 0x10 y 0 0)) none
 
-    pub head_missing : r.count ≡ 0 → Missing ≡ find_in (key_by 0x10 x 0 0) (records_by s p)
+    pub head_missing : r.count ≡ 0 → None ≡ find_in (key_by 0x10 x 0 0) (records_by s p)
     head_missing c =
         let w : r.count ≡ count_of s p 0x10 = counts s p 0x10 e in
         sym (missing s p (key_by 0x10 x 0 0) (λ m. absurd (omega arith)))
 
-    pub head_it : (r.count ≡ 0 → ⊥) → {v : Record} → v ≡ record_of 0x10 (drop 1 s) → It v ≡ find_in (key_by 0x10 x 0 0) (records_by s p)
+    pub head_it : (r.count ≡ 0 → ⊥) → {v : Record} → v ≡ record_of 0x10 (drop 1 s) → Some v ≡ find_in (key_by 0x10 x 0 0) (records_by s p)
     unfolding record_by begin_of body_len
     head_it c v =
         let w : r.count ≡ count_of s p 0x10 = counts s p 0x10 e in
         let o : 0 ≡ position_of s p (key_by 0x10 x 0 0) = head_place in
-        ap It v ∙ sym (it s p (key_by 0x10 x 0 0) (omega arith) head_same ∙ ap (λ (i : ℕ). It (record_by s p 0x10 i)) (sym o))
+        ap Some v ∙ sym (it s p (key_by 0x10 x 0 0) (omega arith) head_same ∙ ap (λ (i : ℕ). Some (record_by s p 0x10 i)) (sym o))

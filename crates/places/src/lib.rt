@@ -9,7 +9,6 @@ ghost use Rattle.reader.specs.Read.{record_of};
 ghost use Rattle.places.specs.Places.{nowhere, place_by, noted_at, count_of, halved, onward, numbered, position_of, spot_of, records_by, moves_of};
 ghost use Rattle.places.specs.Runs.{run_by, run_of, Inside, is_move, keyed, before};
 
-use reader::Found;
 use records::{Record, RecordKey};
 
 // The offsets at which the records of each kind begin; those of a kind end where the next kind's begin. An image that is accepted is shorter
@@ -308,14 +307,14 @@ pub fn seek(image: &[u8], p: Places, key: RecordKey) -> usize
 }
 
 // The record with a kind and key, found by its place.
-pub fn look(image: &[u8], p: Places, key: RecordKey) -> Found
+pub fn look(image: &[u8], p: Places, key: RecordKey) -> Option<Record>
     ensures { result ≡ find_in key (records_by image.now p) }
 {
     let at = seek(image, p, key);
     if at == 0 {
-        Found::Missing
+        None
     } else {
-        Found::It(reader::record_of(key.kind, image, at))
+        Some(reader::record_of(key.kind, image, at))
     }
 }
 
@@ -351,38 +350,38 @@ fn numbered_record(image: &[u8], kind: u8, at: usize) -> Record
 }
 
 // The record with a kind and a number, where the number is the place.
-fn look_at_number(image: &[u8], p: Places, kind: u8, first: u8) -> Found
+fn look_at_number(image: &[u8], p: Places, kind: u8, first: u8) -> Option<Record>
     requires { numbered kind ≡ true }
     ensures { result ≡ find_in (key_by kind first 0 0) (records_by image.now p) }
 {
     let run = numbered_run(image, p, kind);
     let n = words::wide(first);
     if run.count <= n {
-        return Found::Missing;
+        return None;
     }
     let at = body_at(image, run, kind, n);
     if image[at] == first {
-        Found::It(numbered_record(image, kind, at))
+        Some(numbered_record(image, kind, at))
     } else {
-        Found::Missing
+        None
     }
 }
 
 // The head, which has no key, is the first of its kind.
-fn look_head(image: &[u8], p: Places, first: u8) -> Found
+fn look_head(image: &[u8], p: Places, first: u8) -> Option<Record>
     ensures { result ≡ find_in (key_by 0x10 first 0 0) (records_by image.now p) }
 {
     if 0 < first {
-        return Found::Missing;
+        return None;
     }
     if run_of(image, p, 0x10).count == 0 {
-        return Found::Missing;
+        return None;
     }
-    Found::It(reader::record_of(0x10, image, 1))
+    Some(reader::record_of(0x10, image, 1))
 }
 
 // The same where the key is one number: of an event, a module or a supervisor it is the place itself.
-pub fn look_number(image: &[u8], p: Places, kind: u8, first: u8) -> Found
+pub fn look_number(image: &[u8], p: Places, kind: u8, first: u8) -> Option<Record>
     ensures { result ≡ find_in (key_by kind first 0 0) (records_by image.now p) }
 {
     if (kind == 0x11) | (kind == 0x12) | (kind == 0x14) {

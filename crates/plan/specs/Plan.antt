@@ -1,15 +1,12 @@
 -- Look-ups on the records of a plan. 004, 2.1: an automaton has states, an alphabet and a partial move by an event; chapter 2:
 -- supervisors; 4.2: modules and disablings; document 01 gives the bytes.
-use Rattle.std.specs.Prelude.{ℕ, List, Bool, cond, not, ◌&&◌, ◌||◌, eqb, ltb}
-use Rattle.std.proofs.Math.Option.{Option, none, some}
+use Rattle.std.specs.Prelude.{ℕ, List, Bool, cond, not, ◌&&◌, ◌||◌, eqb, ltb, Option, Some, None, is_some}
 use Rattle.std.specs.Int.Count.{ones}
-use Rattle.bits.specs.Bit.{bit, some_below, mask_of, is_some}
+use Rattle.bits.specs.Bit.{bit, some_below, mask_of}
 use Rattle.records.specs.Key.{key_by}
 use Rattle.records.specs.Range.{in_range}
 use Rattle.records.specs.declared.Record.{Record}
 use Rattle.records.specs.declared.Record.TheVariants.{Head, Event, Module, ModuleMove, Supervisor, SupervisorMove, Disabling, Step, Marking, End}
-use Rattle.reader.specs.declared.Found.{Found}
-use Rattle.reader.specs.declared.Found.TheVariants.{It, Missing}
 use Rattle.reader.specs.Find.{find_in}
 use Rattle.rules.specs.LookUp.{field3, word_field, field_of, modules_of, supervisors_of, events_of, module_in, supervisor_in, owner_of, controllable, alphabet_of}
 
@@ -27,9 +24,9 @@ field4 (Marking m st) = 0
 field4 End = 0
 
 -- where the found move leads, or nothing where none is listed
-unfoldable pub target : Found → Option ℕ
-target (It r) = some (field4 r)
-target Missing = none
+unfoldable pub target : Option Record → Option ℕ
+target (Some r) = Some (field4 r)
+target None = None
 
 -- the listed moves of a module and of a supervisor
 abbrev pub module_move : List Record → ℕ → ℕ → ℕ → Option ℕ
@@ -40,8 +37,8 @@ supervisor_move rs v st e = target (find_in (key_by 0x15 v st e) rs)
 
 -- the state after a move, which stays where none is listed
 unfoldable pub state_or : Option ℕ → ℕ → ℕ
-state_or none st = st
-state_or (some t) st = t
+state_or None st = st
+state_or (Some t) st = t
 
 -- a supervisor by its listed move
 abbrev pub supervisor_moved : List Record → ℕ → ℕ → ℕ → ℕ
@@ -103,12 +100,12 @@ neighbour_count neighbour_mask = ones neighbour_mask
 abbrev pub counts : Record → Bool
 counts r = in_range r && (not (eqb (field3 r) 5) || ltb (word_field r) 64)
 
-unfoldable pub counting : Found → Found
-counting (It r) = cond (counts r) (It r) Missing
-counting Missing = Missing
+unfoldable pub counting : Option Record → Option Record
+counting (Some r) = cond (counts r) (Some r) None
+counting None = None
 
 -- a step of an event's procedure
-abbrev pub procedure_step : List Record → ℕ → ℕ → Found
+abbrev pub procedure_step : List Record → ℕ → ℕ → Option Record
 procedure_step rs e i = counting (find_in (key_by 0x17 e i 0) rs)
 
 abbrev pub operation_of : List Record → ℕ → ℕ → ℕ

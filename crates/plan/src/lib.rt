@@ -2,7 +2,6 @@
 #![tactic(auto)]
 
 ghost use Rattle.std.specs.Prelude.{◌≡◌, true};
-ghost use Rattle.bits.specs.Bit.{option_of};
 ghost use Rattle.places.specs.Places.{records_by};
 ghost use Rattle.places.specs.Runs.{is_move};
 ghost use Rattle.records.specs.Key.{key_by};
@@ -11,9 +10,7 @@ ghost use Rattle.rules.specs.LookUp.{modules_of, supervisors_of, events_of, modu
 ghost use Rattle.plan.specs.Plan.{target, module_initial, supervisor_initial, own_event, own_uncontrollable, in_alphabet, shown, module_move, supervisor_moved, supervisor_after, procedure_step};
 ghost use Rattle.plan.specs.Fields.{fields_of, FieldsFound};
 
-use bits::Maybe;
 use places::Places;
-use reader::Found;
 use records::{Record, RecordKey};
 
 // The first fields of a record in their order, the one of eight bytes last, and 0 for those that it lacks.
@@ -93,7 +90,7 @@ fn fields_of(r: Record) -> Fields
 fn numbered_fields(image: &[u8], places: Places, kind: u8, first: u8) -> Fields
     ensures { FieldsFound (find_in (key_by kind first 0 0) (records_by image.now places)) result }
 {
-    let Found::It(r) = places::look_number(image, places, kind, first) else {
+    let Some(r) = places::look_number(image, places, kind, first) else {
         return fields_by(0, 0, 0, 0);
     };
     fields_of(r)
@@ -201,9 +198,9 @@ pub fn shown(image: &[u8], places: Places, v: u8, st: u8) -> u64
 }
 
 // Where a listed move of a kind leads: the state behind the three numbers of its record.
-fn target_of(image: &[u8], places: Places, kind: u8, owner: u8, from: u8, event: u8) -> Maybe
+fn target_of(image: &[u8], places: Places, kind: u8, owner: u8, from: u8, event: u8) -> Option<u8>
     requires { is_move kind ≡ true }
-    ensures { option_of result ≡ target (find_in (key_by kind owner from event) (records_by image.now places)) }
+    ensures { result ≡ target (find_in (key_by kind owner from event) (records_by image.now places)) }
 {
     let key = RecordKey {
         kind,
@@ -213,14 +210,14 @@ fn target_of(image: &[u8], places: Places, kind: u8, owner: u8, from: u8, event:
     };
     let at = places::seek(image, places, key);
     if at == 0 {
-        Maybe::Nothing
+        None
     } else {
-        Maybe::Just(words::byte_at(image, at + 3))
+        Some(words::byte_at(image, at + 3))
     }
 }
 
-pub fn module_move(image: &[u8], places: Places, m: u8, st: u8, e: u8) -> Maybe
-    ensures { option_of result ≡ module_move (records_by image.now places) m st e }
+pub fn module_move(image: &[u8], places: Places, m: u8, st: u8, e: u8) -> Option<u8>
+    ensures { result ≡ module_move (records_by image.now places) m st e }
 {
     target_of(image, places, 0x13, m, st, e)
 }
@@ -229,7 +226,7 @@ pub fn module_move(image: &[u8], places: Places, m: u8, st: u8, e: u8) -> Maybe
 pub fn supervisor_moved(image: &[u8], places: Places, v: u8, st: u8, e: u8) -> u8
     ensures { result ≡ supervisor_moved (records_by image.now places) v st e }
 {
-    let Maybe::Just(t) = target_of(image, places, 0x15, v, st, e) else {
+    let Some(t) = target_of(image, places, 0x15, v, st, e) else {
         return st;
     };
     t
@@ -247,7 +244,7 @@ pub fn supervisor_after(image: &[u8], places: Places, v: u8, st: u8, e: u8) -> u
 }
 
 // A step of an event's procedure, which counts with its fields in range and, where it is a respond, with the number of an event.
-pub fn step(image: &[u8], places: Places, e: u8, i: u8) -> Found
+pub fn step(image: &[u8], places: Places, e: u8, i: u8) -> Option<Record>
     ensures { result ≡ procedure_step (records_by image.now places) e i }
 {
     let key = RecordKey {
@@ -256,13 +253,13 @@ pub fn step(image: &[u8], places: Places, e: u8, i: u8) -> Found
         second: i,
         third: 0,
     };
-    let Found::It(r) = places::look(image, places, key) else {
-        return Found::Missing;
+    let Some(r) = places::look(image, places, key) else {
+        return None;
     };
     let f = fields_of(r);
     if records::in_range(r) & (!(f.third == 5) | (f.word < 64)) {
-        Found::It(r)
+        Some(r)
     } else {
-        Found::Missing
+        None
     }
 }

@@ -1,7 +1,6 @@
 // The program for the workstation: the plan of `plan.bin` on paper, one line for each record, page by page.
 #![tactic(auto)]
 
-use paper::Printed;
 use std::{fs, io};
 use texts::Text;
 
@@ -25,8 +24,8 @@ fn zeroed_pages() -> [u8; PAGES] {
 fn run(rt: &impl Print, image: &[u8]) -> io::Result<()> {
     let mut pages = zeroed_pages();
     match paper::print(image, &mut pages) {
-        Printed::Length(n) => rt.write_all(texts::first(&pages, n)),
-        Printed::Refused(n, at) => print(rt, script::plan_refused_line(n, at)),
+        Ok(n) => rt.write_all(texts::first(&pages, n)),
+        Err(e) => print(rt, script::plan_refused_line(e.number, e.offset)),
     }
 }
 

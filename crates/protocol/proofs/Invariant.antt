@@ -1,5 +1,6 @@
 -- The invariant: for each pair of a module and a supervisor two counts, for each module the shape of its held permits and received masks,
 -- what the messages under way name and carry, and the agreement with the one device.
+use Rattle.std.specs.Prelude.{Option, Some}
 use Prim.Native.Nat.{ℕ, ◌+◌, ◌^◌, ◌≤◌, ◌<◌}
 use native.Mathlib.Nat.{not-suc-le-zero}
 use native.Mathlib.Decide.{dec_le}
@@ -8,7 +9,6 @@ use mathlib.Core.Path.{◌≡◌, refl, sym, ap, ◌∙◌}
 use mathlib.Core.Logic.{◌≢◌, ◌⊎◌, inl, inr}
 use mathlib.Core.Bool.{Bool, true, false, ◌&&◌}
 use mathlib.Core.List.{List, [], ◌∷◌}
-use mathlib.Core.Option.{Option, some}
 use lib.Dec.{eqb}
 use borrow.Author.Tests.{ne_eqb, eqb-true}
 use Rattle.bits.specs.Bit.{bit}
@@ -79,7 +79,7 @@ pub record PairLaw (w : List Message) (m s : ℕ) (x : ModuleState) (y : Supervi
 pub record ModuleLaw (P : Plan) (z : ℕ → ℕ) (m : ℕ) (x : ModuleState) : Type 0 where
   pub neighbours : (s : ℕ) → bit x.held s ≡ true → neighbour P m s ≡ true
   pub lowest : (s t : ℕ) → bit x.held s ≡ true → t < s → neighbour P m t ≡ true → bit x.held t ≡ true
-  pub bid_lowest : (s : ℕ) → x.outstanding ≡ some s → missing P m x.held ≡ some s
+  pub bid_lowest : (s : ℕ) → x.outstanding ≡ Some s → missing P m x.held ≡ Some s
   pub received_all : (s e : ℕ) → bit x.held s ≡ true → bit (P.shown s (z s)) e ≡ true → bit x.received e ≡ true
   pub received_only : (e : ℕ) → bit x.received e ≡ true → (s : ℕ) × (bit x.held s ≡ true) × (bit (P.shown s (z s)) e ≡ true)
   pub none_received : x.held ≡ 0 → x.received ≡ 0
@@ -202,7 +202,7 @@ module _ (P : Plan) (D : System) (O : OneDevice) (I : Inv P D O) (m s : ℕ) whe
   pub noted_neighbour : bit (D.supervisor_at s).noted m ≡ true → neighbour P m s ≡ true
   noted_neighbour h = bid_neighbour (omega (arith, (I.pairs m s).bids, ap digit h))
 
-  pub holder_neighbour : (D.supervisor_at s).holder ≡ some m → neighbour P m s ≡ true
+  pub holder_neighbour : (D.supervisor_at s).holder ≡ Some m → neighbour P m s ≡ true
   holder_neighbour h = go (either_way (bit (D.module_at m).held s)) (dec_le 1 (count (permit_of m s) D.under_way))
     where
       go : (bit (D.module_at m).held s ≡ true) ⊎ (bit (D.module_at m).held s ≡ false) → Dec (1 ≤ count (permit_of m s) D.under_way) → neighbour P m s ≡ true

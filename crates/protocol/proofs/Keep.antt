@@ -1,11 +1,11 @@
 -- The invariant is kept by each call that sends or takes a message, and by responses and ticks.
+use Rattle.std.specs.Prelude.{Option, Some, None, unwrap_or}
 use Prim.Native.Nat.{ℕ, ◌<◌}
 use native.Mathlib.Omega.{arith}
 use mathlib.Core.Path.{◌≡◌, refl, sym, ap, ◌∙◌}
 use mathlib.Core.Logic.{◌⊎◌, inl, inr}
 use mathlib.Core.Bool.{true, false}
 use mathlib.Core.List.{List, [], ◌∷◌, ◌++◌}
-use mathlib.Core.Option.{Option, none, some, get_or}
 use lib.Bits.{bit_or}
 use Rattle.bits.specs.Bit.{bit, put_bit}
 use Rattle.bits.proofs.Laws.{bit_none, put_fits}
@@ -47,7 +47,7 @@ module _ (P : Plan) (A : Laws P) (m s : ℕ) (n : neighbour P m s ≡ true) wher
   supervisor_bit = omega (arith, neighbour_below P A m s n, A.few_supervisors)
 
 -- ---- a supervisor sends its permit
-module _ (P : Plan) (A : Laws P) (D : System) (O : OneDevice) (I : Inv P D O) (s m : ℕ) (h : (D.supervisor_at s).holder ≡ none) (n : bit (D.supervisor_at s).noted m ≡ true) where
+module _ (P : Plan) (A : Laws P) (D : System) (O : OneDevice) (I : Inv P D O) (s m : ℕ) (h : (D.supervisor_at s).holder ≡ None) (n : bit (D.supervisor_at s).noted m ≡ true) where
   abbrev shown_now : ℕ
   shown_now = P.shown s (D.supervisor_at s).state
 
@@ -86,7 +86,7 @@ module _ (P : Plan) (A : Laws P) (D : System) (O : OneDevice) (I : Inv P D O) (s
     fits = (I.supervisors s).fits;
   }
 
-  pub sending_keeps : Inv P (after_supervisor_step P D s (some m)) O
+  pub sending_keeps : Inv P (after_supervisor_step P D s (Some m)) O
   unfolding after_supervisor_step after_sending
   sending_keeps =
       let v : SupervisorState = after_sending (D.supervisor_at s) m in
@@ -105,7 +105,7 @@ module _ (P : Plan) (A : Laws P) (D : System) (O : OneDevice) (I : Inv P D O) (s
       }
 
 -- ---- a module bids
-module _ (P : Plan) (D : System) (O : OneDevice) (I : Inv P D O) (m s : ℕ) (h : (D.module_at m).outstanding ≡ none) (e : missing P m (D.module_at m).held ≡ some s) where
+module _ (P : Plan) (D : System) (O : OneDevice) (I : Inv P D O) (m s : ℕ) (h : (D.module_at m).outstanding ≡ None) (e : missing P m (D.module_at m).held ≡ Some s) where
   bidding_at : (b : ℕ) → PairLaw (D.under_way ++ (bid m s ∷ [])) m b (after_bid (D.module_at m) s) (D.supervisor_at b)
   unfolding after_bid
   bidding_at b =
@@ -152,7 +152,7 @@ module _ (P : Plan) (A : Laws P) (D : System) (O : OneDevice) (I : Inv P D O) {m
   bid_new = digit_false (bit (D.supervisor_at s).noted m)
       (omega (arith, (I.pairs m s).bids, inserted_count (bid_of m s) t, pair_self m s, one_at_most (D.module_at m).outstanding s))
 
-  pub bid_taken : take_bid (D.supervisor_at s) m ≡ some (after_noting (D.supervisor_at s) m)
+  pub bid_taken : take_bid (D.supervisor_at s) m ≡ Some (after_noting (D.supervisor_at s) m)
   unfolding take_bid
   bid_taken = rw bid_new
 
@@ -203,14 +203,14 @@ module _ (P : Plan) (A : Laws P) (D : System) (O : OneDevice) (I : Inv P D O) {m
 
 -- ---- a permit comes in
 module _ (P : Plan) (A : Laws P) (D : System) (O : OneDevice) (I : Inv P D O) {s m k : ℕ} {r : List Message} (t : Inserted (permit s m k) D.under_way r) where
-  pub permit_bid : (D.module_at m).outstanding ≡ some s
+  pub permit_bid : (D.module_at m).outstanding ≡ Some s
   permit_bid = one_at_some (D.module_at m).outstanding s (omega (arith, (I.pairs m s).bids, inserted_count (permit_of m s) t, pair_self m s))
 
   permit_free : bit (D.module_at m).held s ≡ false
   permit_free = digit_false (bit (D.module_at m).held s)
       (omega (arith, (I.pairs m s).permits, inserted_count (permit_of m s) t, pair_self m s, one_at_most (D.supervisor_at s).holder m))
 
-  pub permit_taken : take_permit (D.module_at m) s k ≡ some (after_permit (D.module_at m) s k)
+  pub permit_taken : take_permit (D.module_at m) s k ≡ Some (after_permit (D.module_at m) s k)
   unfolding take_permit is_number
   permit_taken = rw (permit_bid, eqb_self s)
 
@@ -290,21 +290,21 @@ module _ (P : Plan) (A : Laws P) (D : System) (O : OneDevice) (I : Inv P D O) {s
 -- ---- a release comes in
 applied_fits : (P : Plan) → Laws P → (s x : ℕ) (v : Option ℕ) → P.supervisor_fits s x ≡ true → P.supervisor_fits s (applied P s x v) ≡ true
 unfolding applied
-applied_fits P A s x none h = h
-applied_fits P A s x (some e) h = go (P.supervisor_move s x e) refl
+applied_fits P A s x None h = h
+applied_fits P A s x (Some e) h = go (P.supervisor_move s x e) refl
   where
-    go : (o : Option ℕ) → P.supervisor_move s x e ≡ o → P.supervisor_fits s (get_or o x) ≡ true
-    go none q = h
-    go (some y) q = A.supervisor_moves s x e y q
+    go : (o : Option ℕ) → P.supervisor_move s x e ≡ o → P.supervisor_fits s (unwrap_or o x) ≡ true
+    go None q = h
+    go (Some y) q = A.supervisor_moves s x e y q
 
 module _ (P : Plan) (A : Laws P) (D : System) (O : OneDevice) (I : Inv P D O) {m s : ℕ} {v : Option ℕ} {r : List Message} (t : Inserted (release m s v) D.under_way r) where
-  pub release_holder : (D.supervisor_at s).holder ≡ some m
+  pub release_holder : (D.supervisor_at s).holder ≡ Some m
   release_holder = one_at_some (D.supervisor_at s).holder m (omega (arith, (I.pairs m s).permits, inserted_count (release_of m s) t, pair_self m s))
 
   pub release_names : ReleaseNames P m s v
   release_names = (inserted_all t I.names).0
 
-  pub release_taken : take_release P s (D.supervisor_at s) m v ≡ some (after_release P s (D.supervisor_at s) v)
+  pub release_taken : take_release P s (D.supervisor_at s) m v ≡ Some (after_release P s (D.supervisor_at s) v)
   unfolding take_release is_number
   release_taken = rw (release_holder, eqb_self m, release_names.event)
 

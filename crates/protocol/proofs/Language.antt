@@ -1,4 +1,5 @@
 -- A legal record is a word of the supervised plant.
+use Rattle.std.specs.Prelude.{Option, Some, unwrap_or, is_some}
 use Prim.Native.Nat.{ℕ, ◌<◌}
 use native.Mathlib.Decide.{ℕ_discrete}
 use mathlib.Core.Path.{◌≡◌, refl, ap, ◌∙◌}
@@ -6,10 +7,9 @@ use mathlib.Core.Logic.{◌⊎◌, inl, inr}
 use mathlib.Core.Bool.{Bool, true, false}
 use mathlib.Core.List.Memᴰ
 use mathlib.Core.List.{List, [], ◌∷◌, ◌++◌, Memᴰ, head-eq_of_cons-eq, tail-eq_of_cons-eq, nil≢cons}
-use mathlib.Core.Option.{Option, some, get_or}
 use lib.Dec.{eqb}
 use borrow.Author.Tests.{ne_eqb}
-use Rattle.bits.specs.Bit.{bit, is_some}
+use Rattle.bits.specs.Bit.{bit}
 use Rattle.protocol.specs.Generic.{update}
 use Rattle.protocol.specs.Plan.{Plan, Laws}
 use Rattle.protocol.specs.Rules.{state_after}
@@ -47,8 +47,8 @@ module _ (P : Plan) (A : Laws P) where
   moved p a w l ih =
       let x : ℕ = p.module_states (P.owner a) in
       let y = is_some_is (P.move (P.owner a) x a) l in
-      let f : update p.module_states (P.owner a) (get_or (P.move (P.owner a) x a) x) (P.owner a) ≡ y.0 =
-      update_same p.module_states (P.owner a) (get_or (P.move (P.owner a) x a) x) ∙ ap (λ (o : Option ℕ). get_or o x) y.1 in
+      let f : update p.module_states (P.owner a) (unwrap_or (P.move (P.owner a) x a) x) (P.owner a) ≡ y.0 =
+      update_same p.module_states (P.owner a) (unwrap_or (P.move (P.owner a) x a) x) ∙ ap (λ (o : Option ℕ). unwrap_or o x) y.1 in
       rw y.1 (rw f at ih)
 
   plant_in : (p : Position) (w : List ℕ) → Legal P p w → (m : ℕ) → Generates (P.move m) (p.module_states m) (project (own_events m) w)
@@ -63,17 +63,17 @@ module _ (P : Plan) (A : Laws P) where
           rw (project_out (own_events m) a w (ne_eqb (P.owner a) m q)) (let i = ih m in rw kept at i)
 
   -- ---- the supervisors
-  led : (p : Position) (s a x : ℕ) (u : List ℕ) → along (staying P s) (some (p.supervisor_states s)) (project (P.alphabet s) (a ∷ u)) ≡ some x
-      → along (staying P s) (some ((after_event P p a).supervisor_states s)) (project (P.alphabet s) u) ≡ some x
+  led : (p : Position) (s a x : ℕ) (u : List ℕ) → along (staying P s) (Some (p.supervisor_states s)) (project (P.alphabet s) (a ∷ u)) ≡ Some x
+      → along (staying P s) (Some ((after_event P p a).supervisor_states s)) (project (P.alphabet s) u) ≡ Some x
   unfolding along project after_event state_after staying
   led p s a x u h = go (either_way (P.alphabet s a))
     where
-      go : (P.alphabet s a ≡ true) ⊎ (P.alphabet s a ≡ false) → along (staying P s) (some ((after_event P p a).supervisor_states s)) (project (P.alphabet s) u) ≡ some x
+      go : (P.alphabet s a ≡ true) ⊎ (P.alphabet s a ≡ false) → along (staying P s) (Some ((after_event P p a).supervisor_states s)) (project (P.alphabet s) u) ≡ Some x
       go (inl q) = rw q (rw q at h)
       go (inr q) = rw q (rw q at h)
 
   enabled_in : (p : Position) (w : List ℕ) → Legal P p w → (s : ℕ) → s < P.supervisors → (u v : List ℕ) (e x : ℕ) → w ≡ u ++ (e ∷ v)
-      → along (staying P s) (some (p.supervisor_states s)) (project (P.alphabet s) u) ≡ some x → bit (P.shown s x) e ≡ false
+      → along (staying P s) (Some (p.supervisor_states s)) (project (P.alphabet s) u) ≡ Some x → bit (P.shown s x) e ≡ false
   enabled_in p [] none_left s b [] v e x q h = absurd (nil≢cons q)
   enabled_in p [] none_left s b (c ∷ u) v e x q h = absurd (nil≢cons q)
   enabled_in p (a ∷ w) (next l t) s b [] v e x q h =

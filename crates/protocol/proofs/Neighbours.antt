@@ -1,8 +1,8 @@
 -- Neighbours: the event that makes one, the bounds of its numbers, and the lowest one whose permit is not held.
+use Rattle.std.specs.Prelude.{Some}
 use Prim.Native.Nat.{ℕ, ◌<◌}
 use mathlib.Core.Path.{◌≡◌}
 use mathlib.Core.Bool.{Bool, true, false, not, ◌&&◌}
-use mathlib.Core.Option.{some}
 use lib.Dec.{eqb}
 use borrow.Author.Tests.{eqb-true, not-true, not-false}
 use Rattle.bits.specs.Bit.{bit, least}
@@ -41,9 +41,9 @@ pub lacks_not : (P : Plan) (m h s : ℕ) → lacks P m h s ≡ false → neighbo
 unfolding lacks
 lacks_not P m h s e n = not-false (bit h s) (rw n at e)
 
-pub missing_some : (P : Plan) (m h s : ℕ) → missing P m h ≡ some s → Lowest (lacks P m h) P.supervisors s
+pub missing_some : (P : Plan) (m h s : ℕ) → missing P m h ≡ Some s → Lowest (lacks P m h) P.supervisors s
 unfolding missing
 missing_some P m h s e = least_some (lacks P m h) P.supervisors s e
 
-pub missing_neighbour : (P : Plan) (m h s : ℕ) → missing P m h ≡ some s → neighbour P m s ≡ true
+pub missing_neighbour : (P : Plan) (m h s : ℕ) → missing P m h ≡ Some s → neighbour P m s ≡ true
 missing_neighbour P m h s e = (lacks_parts P m h s (missing_some P m h s e).passes).0

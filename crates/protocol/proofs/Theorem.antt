@@ -1,11 +1,11 @@
 -- Demand 3 for every plan with the laws and every list of acts, from any system and one device that have the invariant.
+use Rattle.std.specs.Prelude.{Option, Some, None, Result, ⊤, unwrap_or, option_map}
 use Prim.Native.Nat.{ℕ, ◌<◌}
 use native.Mathlib.Omega.{arith}
 use mathlib.Core.Path.{◌≡◌, refl, sym, ap, ap₂, ◌∙◌}
 use mathlib.Core.Logic.{◌⊎◌, inl, inr}
 use mathlib.Core.Bool.{Bool, true, false, cond}
 use mathlib.Core.List.{List, [], ◌∷◌, ◌++◌, append_assoc}
-use mathlib.Core.Option.{Option, none, some, get_or, map}
 use lib.Dec.{ltb}
 use lib.Pow.{pow_pos}
 use borrow.Author.Tests.{ltb-true}
@@ -13,9 +13,6 @@ use Rattle.bits.specs.Bit.{bit, least, module_after}
 use Rattle.bits.proofs.Laws.{bit_none}
 use Rattle.water.specs.declared.Flow.{Flow}
 use Rattle.modules.specs.declared.Own.{Own}
-use Rattle.modules.specs.declared.Turn.{Turn}
-use Rattle.modules.specs.declared.Turn.TheVariants.{Event, Nothing}
-use Rattle.modules.specs.declared.Reply.{Reply}
 use Rattle.protocol.specs.Generic.{update, Picked, pick}
 use Rattle.protocol.specs.Plan.{Plan, Fired, TurnLaw, OwnLaws, Laws}
 use Rattle.protocol.specs.Rules.{OneDevice, state_after, shown_below, device_turn, DeviceAct, device_responds, device_ticks, device_step, Message, bid, permit, release, missing, Choice, takes_turn, waits, bids_to, choice_on, choice, SupervisorState, first_noted, served_on, served}
@@ -74,69 +71,69 @@ module _ (P : Plan) (A : Laws P) (O : OneDevice) (m : ℕ) (mine : m < P.modules
       go (inr h) c = h
 
   module _ (p : Position) (a : StandsAt P O p) where
-    move_there : (e y : ℕ) → P.move m (O.owns m).state e ≡ some y → P.move m (p.module_states m) e ≡ some y
+    move_there : (e y : ℕ) → P.move m (O.owns m).state e ≡ Some y → P.move m (p.module_states m) e ≡ Some y
     move_there e y h = ap (λ (x : ℕ). P.move m x e) (sym (a.modules m mine)) ∙ h
 
-    turn_legal : (t : Turn) (o : Own) → TurnLaw P m mask (O.owns m) t o → Legal P p (turn_events t ++ [])
+    turn_legal : (t : Option ℕ) (o : Own) → TurnLaw P m mask (O.owns m) t o → Legal P p (turn_events t ++ [])
     unfolding turn_events
-    turn_legal (Event e) o l =
+    turn_legal (Some e) o l =
         let w : P.owner e ≡ m = A.move_owner m (O.owns m).state e o.state l.listed in
         let allowed : LegalEvent P p e = record {
           listed = rw (w, move_there e o.state l.listed);
           disabled_by_none = λ s b. rw (← a.supervisors s) (disabled_by_none e s o l b);
         } in
         next allowed none_left
-    turn_legal Nothing o l = none_left
+    turn_legal None o l = none_left
 
-    turn_leads : (t : Turn) (o : Own) → TurnLaw P m mask (O.owns m) t o
+    turn_leads : (t : Option ℕ) (o : Own) → TurnLaw P m mask (O.owns m) t o
         → StandsAt P (record { owns = update O.owns m o; states = λ s. state_after P s (O.states s) t }) (replay P p (turn_events t ++ []))
     unfolding turn_events replay after_event state_after
-    turn_leads (Event e) o l =
+    turn_leads (Some e) o l =
         let w : P.owner e ≡ m = A.move_owner m (O.owns m).state e o.state l.listed in
-        let y : ℕ = get_or (P.move m (p.module_states m) e) (p.module_states m) in
+        let y : ℕ = unwrap_or (P.move m (p.module_states m) e) (p.module_states m) in
         record {
           modules = rw w (update_each (λ b x. b < P.modules → x.state ≡ update p.module_states m y b) O.owns m o
               (λ i. rw (move_there e o.state l.listed) (sym (update_same p.module_states m o.state)))
               (λ b h i. a.modules b i ∙ sym (update_other p.module_states m y b h)));
-          supervisors = λ s. ap (λ (x : ℕ). cond (P.alphabet s e) (get_or (P.supervisor_move s x e) x) x) (a.supervisors s);
+          supervisors = λ s. ap (λ (x : ℕ). cond (P.alphabet s e) (unwrap_or (P.supervisor_move s x e) x) x) (a.supervisors s);
         }
-    turn_leads Nothing o l = same_state P O m o p (λ i. l) a
+    turn_leads None o l = same_state P O m o p (λ i. l) a
 
 -- ---- what a choice says
-pub choice_turn : (o : Option ℕ) (n : Bool) (b : Option ℕ) (h w : Bool) → choice_on o n b h w ≡ takes_turn → o ≡ none
+pub choice_turn : (o : Option ℕ) (n : Bool) (b : Option ℕ) (h w : Bool) → choice_on o n b h w ≡ takes_turn → o ≡ None
 unfolding choice_on
-choice_turn none n b h w e = refl
-choice_turn (some s) n (some b) h w e = let z : ◌≡◌ {A = ℕ} 0 1 = cc in absurd (omega arith)
-choice_turn (some s) n none true w e = let z : ◌≡◌ {A = ℕ} 0 1 = cc in absurd (omega arith)
-choice_turn (some s) n none false true e = let z : ◌≡◌ {A = ℕ} 0 1 = cc in absurd (omega arith)
-choice_turn (some s) n none false false e = let z : ◌≡◌ {A = ℕ} 0 1 = cc in absurd (omega arith)
+choice_turn None n b h w e = refl
+choice_turn (Some s) n (Some b) h w e = let z : ◌≡◌ {A = ℕ} 0 1 = cc in absurd (omega arith)
+choice_turn (Some s) n None true w e = let z : ◌≡◌ {A = ℕ} 0 1 = cc in absurd (omega arith)
+choice_turn (Some s) n None false true e = let z : ◌≡◌ {A = ℕ} 0 1 = cc in absurd (omega arith)
+choice_turn (Some s) n None false false e = let z : ◌≡◌ {A = ℕ} 0 1 = cc in absurd (omega arith)
 
-pub choice_bid : (o : Option ℕ) (n : Bool) (b : Option ℕ) (h w : Bool) (s : ℕ) → choice_on o n b h w ≡ bids_to s → (o ≡ some s) × (b ≡ none)
+pub choice_bid : (o : Option ℕ) (n : Bool) (b : Option ℕ) (h w : Bool) (s : ℕ) → choice_on o n b h w ≡ bids_to s → (o ≡ Some s) × (b ≡ None)
 unfolding choice_on
-choice_bid none true b h w s e = let z : ◌≡◌ {A = ℕ} 0 1 = cc in absurd (omega arith)
-choice_bid none false b h true s e = let z : ◌≡◌ {A = ℕ} 0 1 = cc in absurd (omega arith)
-choice_bid none false b h false s e = let z : ◌≡◌ {A = ℕ} 0 1 = cc in absurd (omega arith)
-choice_bid (some t) n (some b) h w s e = let z : ◌≡◌ {A = ℕ} 0 1 = cc in absurd (omega arith)
-choice_bid (some t) n none true w s e = let z : t ≡ s = cc in (ap {B = Option ℕ} some z, refl)
-choice_bid (some t) n none false true s e = let z : t ≡ s = cc in (ap {B = Option ℕ} some z, refl)
-choice_bid (some t) n none false false s e = let z : ◌≡◌ {A = ℕ} 0 1 = cc in absurd (omega arith)
+choice_bid None true b h w s e = let z : ◌≡◌ {A = ℕ} 0 1 = cc in absurd (omega arith)
+choice_bid None false b h true s e = let z : ◌≡◌ {A = ℕ} 0 1 = cc in absurd (omega arith)
+choice_bid None false b h false s e = let z : ◌≡◌ {A = ℕ} 0 1 = cc in absurd (omega arith)
+choice_bid (Some t) n (Some b) h w s e = let z : ◌≡◌ {A = ℕ} 0 1 = cc in absurd (omega arith)
+choice_bid (Some t) n None true w s e = let z : t ≡ s = cc in (ap {B = Option ℕ} Some z, refl)
+choice_bid (Some t) n None false true s e = let z : t ≡ s = cc in (ap {B = Option ℕ} Some z, refl)
+choice_bid (Some t) n None false false s e = let z : ◌≡◌ {A = ℕ} 0 1 = cc in absurd (omega arith)
 
 -- the module served is noted, and the permit was home
-pub served_noted : (y : SupervisorState) (m : ℕ) → served y ≡ some m → (y.holder ≡ none) × (bit y.noted m ≡ true)
+pub served_noted : (y : SupervisorState) (m : ℕ) → served y ≡ Some m → (y.holder ≡ None) × (bit y.noted m ≡ true)
 unfolding served
 served_noted y m e = at_home y.holder refl e
   where
-    found : (o : Option ℕ) → least (λ k. bit y.noted (module_after y.last_served k)) 16 ≡ o → map (module_after y.last_served) o ≡ some m → bit y.noted m ≡ true
-    found none q f = let z : ◌≡◌ {A = ℕ} 0 1 = cc in absurd (omega arith)
-    found (some k) q f = let z : module_after y.last_served k ≡ m = cc in rw (← z) (least_some (λ k. bit y.noted (module_after y.last_served k)) 16 k q).passes
+    found : (o : Option ℕ) → least (λ k. bit y.noted (module_after y.last_served k)) 16 ≡ o → option_map (module_after y.last_served) o ≡ Some m → bit y.noted m ≡ true
+    found None q f = let z : ◌≡◌ {A = ℕ} 0 1 = cc in absurd (omega arith)
+    found (Some k) q f = let z : module_after y.last_served k ≡ m = cc in rw (← z) (least_some (λ k. bit y.noted (module_after y.last_served k)) 16 k q).passes
 
-    at_home : (o : Option ℕ) → y.holder ≡ o → served_on o (first_noted y) ≡ some m → (y.holder ≡ none) × (bit y.noted m ≡ true)
-    at_home (some k) q f = unfold served_on in (let z : ◌≡◌ {A = ℕ} 0 1 = cc in absurd (omega arith))
-    at_home none q f = unfold served_on first_noted in (q, found (least (λ k. bit y.noted (module_after y.last_served k)) 16) refl f)
+    at_home : (o : Option ℕ) → y.holder ≡ o → served_on o (first_noted y) ≡ Some m → (y.holder ≡ None) × (bit y.noted m ≡ true)
+    at_home (Some k) q f = unfold served_on in (let z : ◌≡◌ {A = ℕ} 0 1 = cc in absurd (omega arith))
+    at_home None q f = unfold served_on first_noted in (q, found (least (λ k. bit y.noted (module_after y.last_served k)) 16) refl f)
 
 -- ---- each act
 module _ (P : Plan) (A : Laws P) (D : System) (O : OneDevice) (I : Inv P D O) where
-  turn_good : (m : ℕ) → m < P.modules → missing P m (D.module_at m).held ≡ none
+  turn_good : (m : ℕ) → m < P.modules → missing P m (D.module_at m).held ≡ None
       → Good P O (after_module_step P D m takes_turn) (step_fed m takes_turn) (step_seen P m (D.module_at m) takes_turn)
   unfolding step_fed step_seen device_run device_seen device_act_seen
   turn_good m b h = record {
@@ -154,13 +151,13 @@ module _ (P : Plan) (A : Laws P) (D : System) (O : OneDevice) (I : Inv P D O) wh
   module_step_good m b takes_turn e = turn_good m b (unfold choice in (choice_turn (missing P m (D.module_at m).held) _ _ _ _ e))
   module_step_good m b (bids_to s) e = unfold step_fed step_seen in (nothing P O (after_module_step P D m (bids_to s)) (bidding_keeps P D O I m s c.1 c.0))
     where
-      c : (missing P m (D.module_at m).held ≡ some s) × ((D.module_at m).outstanding ≡ none)
+      c : (missing P m (D.module_at m).held ≡ Some s) × ((D.module_at m).outstanding ≡ None)
       c = unfold choice in (choice_bid (missing P m (D.module_at m).held) _ (D.module_at m).outstanding _ _ s e)
   module_step_good m b waits e = unfold step_fed step_seen after_module_step in (nothing P O D I)
 
   supervisor_step_keeps : (s : ℕ) (o : Option ℕ) → served (D.supervisor_at s) ≡ o → Inv P (after_supervisor_step P D s o) O
-  supervisor_step_keeps s none e = unfold after_supervisor_step in I
-  supervisor_step_keeps s (some m) e = let q = served_noted (D.supervisor_at s) m e in sending_keeps P A D O I s m q.0 q.1
+  supervisor_step_keeps s None e = unfold after_supervisor_step in I
+  supervisor_step_keeps s (Some m) e = let q = served_noted (D.supervisor_at s) m e in sending_keeps P A D O I s m q.0 q.1
 
   message_keeps : (g : Message) (r : List Message) → Inserted g D.under_way r → Inv P (after_message P D r g) O
   message_keeps (bid m s) r t = bid_keeps P A D O I t
@@ -168,10 +165,10 @@ module _ (P : Plan) (A : Laws P) (D : System) (O : OneDevice) (I : Inv P D O) wh
   message_keeps (release m s v) r t = release_keeps P A D O I t
 
   delivery_keeps : (k : ℕ) (o : Option (Picked Message)) → pick k D.under_way ≡ o → Inv P (after_delivery P D o) O
-  delivery_keeps k none e = unfold after_delivery in I
-  delivery_keeps k (some q) e = unfold after_delivery in (message_keeps q.item q.rest (pick_inserted k D.under_way q e))
+  delivery_keeps k None e = unfold after_delivery in I
+  delivery_keeps k (Some q) e = unfold after_delivery in (message_keeps q.item q.rest (pick_inserted k D.under_way q e))
 
-  reply_good : (m : ℕ) (n : Reply) (o : Own) (act : DeviceAct) → P.fits m o ≡ true → o.state ≡ (O.owns m).state
+  reply_good : (m : ℕ) (n : Result ⊤ ℕ) (o : Own) (act : DeviceAct) → P.fits m o ≡ true → o.state ≡ (O.owns m).state
       → device_step P O act ≡ record { owns = update O.owns m o; states = O.states } → device_act_seen P O act ≡ reply_seen m n o
       → Good P O (after_own D m o) (act ∷ []) (reply_seen m n o ∷ [])
   unfolding device_run device_seen record_of_events replay
@@ -287,7 +284,7 @@ unfolding start_device start_position
 start_stands P A = record { modules = A.start_state_lem; supervisors = λ s. refl }
 
 -- ---- a permit home: no release of that supervisor is under way
-pub home_stands : (P : Plan) (D : System) (O : OneDevice) → Inv P D O → (s : ℕ) → (D.supervisor_at s).holder ≡ none → (D.supervisor_at s).state ≡ O.states s
+pub home_stands : (P : Plan) (D : System) (O : OneDevice) → Inv P D O → (s : ℕ) → (D.supervisor_at s).holder ≡ None → (D.supervisor_at s).state ≡ O.states s
 home_stands P D O I s h = sym (I.stands s (λ m. omega (arith, (I.pairs m s).permits, ap (λ (o : Option ℕ). one_at o m) h)))
 
 -- ---- demand 3

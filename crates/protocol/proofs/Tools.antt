@@ -1,4 +1,5 @@
 -- Laws of the generic definitions, and the tools of the proofs: tests, optional numbers, weighted counts of a list, all members of a list.
+use Rattle.std.specs.Prelude.{Option, Some, None, is_some}
 use Prim.Native.Nat.{ℕ, zero, suc, ◌+◌, ◌≤◌}
 use native.Mathlib.Nat.{not-suc-le-zero}
 use native.Mathlib.Decide.{ℕ_discrete}
@@ -7,10 +8,8 @@ use mathlib.Core.Path.{◌≡◌, refl, sym, ap, ◌∙◌, subst}
 use mathlib.Core.Logic.{◌≢◌, ◌⊎◌, inl, inr}
 use mathlib.Core.Bool.{Bool, true, false, ◌&&◌, true≢false, false≢true}
 use mathlib.Core.List.{List, [], ◌∷◌, ◌++◌}
-use mathlib.Core.Option.{Option, none, some}
 use lib.Dec.{eqb}
 use borrow.Author.Tests.{eq-eqb, ne_eqb, eqb-true}
-use Rattle.bits.specs.Bit.{is_some}
 use Rattle.protocol.specs.Generic.{update, Picked, behind, pick}
 
 -- ---- tests
@@ -58,23 +57,23 @@ digit_false false h = refl
 
 -- 1 where the number is there and is n
 abbrev pub one_at : Option ℕ → ℕ → ℕ
-one_at none n = 0
-one_at (some k) n = digit (eqb k n)
+one_at None n = 0
+one_at (Some k) n = digit (eqb k n)
 
 pub one_at_most : (o : Option ℕ) (n : ℕ) → one_at o n ≤ 1
-one_at_most none n = omega arith
-one_at_most (some k) n = digit_most (eqb k n)
+one_at_most None n = omega arith
+one_at_most (Some k) n = digit_most (eqb k n)
 
-pub one_at_some : (o : Option ℕ) (n : ℕ) → 1 ≤ one_at o n → o ≡ some n
-one_at_some none n h = absurd (not-suc-le-zero h)
-one_at_some (some k) n h = ap {B = Option ℕ} some (eqb-true k n (digit_true (eqb k n) h))
+pub one_at_some : (o : Option ℕ) (n : ℕ) → 1 ≤ one_at o n → o ≡ Some n
+one_at_some None n h = absurd (not-suc-le-zero h)
+one_at_some (Some k) n h = ap {B = Option ℕ} Some (eqb-true k n (digit_true (eqb k n) h))
 
-pub one_at_is : (o : Option ℕ) (n : ℕ) → o ≡ some n → one_at o n ≡ 1
+pub one_at_is : (o : Option ℕ) (n : ℕ) → o ≡ Some n → one_at o n ≡ 1
 one_at_is o n e = rw e (ap digit (eqb_self n))
 
-pub is_some_is : (o : Option ℕ) → is_some o ≡ true → (i : ℕ) × (o ≡ some i)
-is_some_is none e = absurd (false≢true e)
-is_some_is (some i) e = (i, refl)
+pub is_some_is : (o : Option ℕ) → is_some o ≡ true → (i : ℕ) × (o ≡ Some i)
+is_some_is None e = absurd (false≢true e)
+is_some_is (Some i) e = (i, refl)
 
 -- ---- a function changed at one number
 module _ {A : Type 0} where
@@ -131,15 +130,15 @@ module _ {A : Type 0} where
     here : {r : List A} → Inserted a (a ∷ r) r
     there : {b : A} {l r : List A} → Inserted a l r → Inserted a (b ∷ l) (b ∷ r)
 
-  behind_inserted : (b : A) (l : List A) (o : Option (Picked A)) (p : Picked A) → ((q : Picked A) → o ≡ some q → Inserted q.item l q.rest) → behind b o ≡ some p
+  behind_inserted : (b : A) (l : List A) (o : Option (Picked A)) (p : Picked A) → ((q : Picked A) → o ≡ Some q → Inserted q.item l q.rest) → behind b o ≡ Some p
       → Inserted p.item (b ∷ l) p.rest
   unfolding behind
-  behind_inserted b l none p h e = let z : ◌≡◌ {A = ℕ} 0 1 = cc in absurd (omega arith)
-  behind_inserted b l (some q) p h e =
+  behind_inserted b l None p h e = let z : ◌≡◌ {A = ℕ} 0 1 = cc in absurd (omega arith)
+  behind_inserted b l (Some q) p h e =
       let f : p ≡ record { item = q.item; rest = b ∷ q.rest } = cc in
       subst (λ (x : Picked A). Inserted x.item (b ∷ l) x.rest) (sym f) (there (h q refl))
 
-  pub pick_inserted : (k : ℕ) (l : List A) (p : Picked A) → pick k l ≡ some p → Inserted p.item l p.rest
+  pub pick_inserted : (k : ℕ) (l : List A) (p : Picked A) → pick k l ≡ Some p → Inserted p.item l p.rest
   unfolding pick
   pick_inserted k [] p e = let z : ◌≡◌ {A = ℕ} 0 1 = cc in absurd (omega arith)
   pick_inserted zero (a ∷ l) p e =

@@ -1,4 +1,5 @@
 -- A turn with every neighbour's permit held: over the masks received it is the one-device turn, and the invariant is kept.
+use Rattle.std.specs.Prelude.{Option, Some, None, unwrap_or}
 use Prim.Native.Nat.{ℕ, zero, suc, ◌≤◌, ◌<◌}
 use native.Mathlib.Nat.{not-suc-le-zero}
 use native.Mathlib.Decide.{ℕ_discrete, dec_lt}
@@ -7,14 +8,11 @@ use mathlib.Core.Path.{◌≡◌, refl, sym, ap, ◌∙◌}
 use mathlib.Core.Logic.{◌≢◌, ◌⊎◌, inl, inr}
 use mathlib.Core.Bool.{Bool, true, false, cond}
 use mathlib.Core.List.{List, [], ◌∷◌, ◌++◌}
-use mathlib.Core.Option.{Option, none, some, get_or}
 use lib.Bits.{bit_or}
 use borrow.Author.Tests.{ne_eqb}
 use Rattle.bits.specs.Bit.{bit}
 use Rattle.bits.proofs.Laws.{bit_none}
 use Rattle.modules.specs.declared.Own.{Own}
-use Rattle.modules.specs.declared.Turn.{Turn}
-use Rattle.modules.specs.declared.Turn.TheVariants.{Event, Nothing}
 use Rattle.modules.specs.declared.Turned.{Turned}
 use Rattle.protocol.specs.Plan.{Plan, TurnLaw, OwnLaws, Laws}
 use Rattle.protocol.specs.Rules.{OneDevice, state_after, shown_below, device_turn, device_turns, device_step, neighbour, Message, release, ModuleState, lacks, missing, takes_turn, after_turn, event_for, releases, event_of_both, applied}
@@ -28,40 +26,40 @@ use Rattle.protocol.proofs.Invariant.{pair_self, other_module, other_supervisor,
 -- ---- what a turn does to a supervisor
 module _ (P : Plan) (A : Laws P) (m k : ℕ) (o o' : Own) where
   -- one that is no neighbour stays
-  far_stays : (s x : ℕ) (t : Turn) → TurnLaw P m k o t o' → neighbour P m s ≡ false → state_after P s x t ≡ x
+  far_stays : (s x : ℕ) (t : Option ℕ) → TurnLaw P m k o t o' → neighbour P m s ≡ false → state_after P s x t ≡ x
   unfolding state_after
-  far_stays s x (Event e) l h = go (either_way (P.alphabet s e))
+  far_stays s x (Some e) l h = go (either_way (P.alphabet s e))
     where
-      go : (P.alphabet s e ≡ true) ⊎ (P.alphabet s e ≡ false) → cond (P.alphabet s e) (get_or (P.supervisor_move s x e) x) x ≡ x
+      go : (P.alphabet s e ≡ true) ⊎ (P.alphabet s e ≡ false) → cond (P.alphabet s e) (unwrap_or (P.supervisor_move s x e) x) x ≡ x
       go (inl q) = clash (neighbour_by P A m s e (A.move_owner m o.state e o'.state l.listed) q) h
       go (inr q) = rw q
-  far_stays s x Nothing l h = refl
+  far_stays s x None l h = refl
 
-  event_of_both_lem : (s : ℕ) (t : Turn) → TurnLaw P m k o t o' → event_of_both P m s (event_for P s t) ≡ true
+  event_of_both_lem : (s : ℕ) (t : Option ℕ) → TurnLaw P m k o t o' → event_of_both P m s (event_for P s t) ≡ true
   unfolding event_of_both event_for
-  event_of_both_lem s (Event e) l = go (P.alphabet s e) refl
+  event_of_both_lem s (Some e) l = go (P.alphabet s e) refl
     where
-      go : (b : Bool) → P.alphabet s e ≡ b → event_of_both P m s (cond b (some e) none) ≡ true
+      go : (b : Bool) → P.alphabet s e ≡ b → event_of_both P m s (cond b (Some e) None) ≡ true
       go true q = and_intro q (rw (A.move_owner m o.state e o'.state l.listed) (eqb_self m))
       go false q = refl
-  event_of_both_lem s Nothing l = refl
+  event_of_both_lem s None l = refl
 
 -- the event that a release carries leads the supervisor as firing does
-applied_is : (P : Plan) (s x : ℕ) (t : Turn) → state_after P s x t ≡ applied P s x (event_for P s t)
+applied_is : (P : Plan) (s x : ℕ) (t : Option ℕ) → state_after P s x t ≡ applied P s x (event_for P s t)
 unfolding state_after applied event_for
-applied_is P s x (Event e) = go (P.alphabet s e)
+applied_is P s x (Some e) = go (P.alphabet s e)
   where
-    go : (b : Bool) → cond b (get_or (P.supervisor_move s x e) x) x ≡ applied P s x (cond b (some e) none)
+    go : (b : Bool) → cond b (unwrap_or (P.supervisor_move s x e) x) x ≡ applied P s x (cond b (Some e) None)
     go true = refl
     go false = refl
-applied_is P s x Nothing = refl
+applied_is P s x None = refl
 
 -- ---- the releases of a turn, counted
 one_or_none : (f : Message → ℕ) (c : Bool) (g : Message) → f g ≡ 0 → count f (cond c (g ∷ []) []) ≡ 0
 one_or_none f true g h = omega (arith, count_cons f g [], count_nil f)
 one_or_none f false g h = count_nil f
 
-module _ (P : Plan) (m : ℕ) (t : Turn) where
+module _ (P : Plan) (m : ℕ) (t : Option ℕ) where
   releases_none : (f : Message → ℕ) → ((s : ℕ) (v : Option ℕ) → f (release m s v) ≡ 0) → (n : ℕ) → count f (releases P m t n) ≡ 0
   unfolding releases
   releases_none f h zero = count_nil f
@@ -150,7 +148,7 @@ module _ (P : Plan) (z : ℕ → ℕ) where
 
 -- ---- a held permit: nothing of that supervisor is under way, and it stands where the one device has it
 module _ (P : Plan) (D : System) (O : OneDevice) (I : Inv P D O) (m s : ℕ) (h : bit (D.module_at m).held s ≡ true) where
-  held_holder : (D.supervisor_at s).holder ≡ some m
+  held_holder : (D.supervisor_at s).holder ≡ Some m
   held_holder = one_at_some (D.supervisor_at s).holder m (omega (arith, (I.pairs m s).permits, ap digit h))
 
   held_clear : Clear D.under_way s
@@ -166,7 +164,7 @@ module _ (P : Plan) (D : System) (O : OneDevice) (I : Inv P D O) (m s : ℕ) (h 
   held_stands = I.stands s (λ a. (held_clear a).1)
 
 -- ---- the turn
-module _ (P : Plan) (A : Laws P) (D : System) (O : OneDevice) (I : Inv P D O) (m : ℕ) (mine : m < P.modules) (full : missing P m (D.module_at m).held ≡ none) where
+module _ (P : Plan) (A : Laws P) (D : System) (O : OneDevice) (I : Inv P D O) (m : ℕ) (mine : m < P.modules) (full : missing P m (D.module_at m).held ≡ None) where
   all_held : (s : ℕ) → neighbour P m s ≡ true → bit (D.module_at m).held s ≡ true
   unfolding missing
   all_held s n = lacks_not P m (D.module_at m).held s (least_none (lacks P m (D.module_at m).held) P.supervisors full s (neighbour_below P A m s n)) n
@@ -278,7 +276,7 @@ module _ (P : Plan) (A : Laws P) (D : System) (O : OneDevice) (I : Inv P D O) (m
     fits = λ l. own_law.turn_fits (D.module_at m).received;
   }
     where
-      never : (s : ℕ) → missing P m (D.module_at m).held ≡ some s → missing P m 0 ≡ some s
+      never : (s : ℕ) → missing P m (D.module_at m).held ≡ Some s → missing P m 0 ≡ Some s
       never s e = let z : ◌≡◌ {A = ℕ} 0 1 = cc in absurd (omega arith)
 
   pub turn_keeps : Inv P (after_module_step P D m takes_turn) (device_step P O (device_turns m))

@@ -1,7 +1,6 @@
 -- Demand 3 of the abstract rules, a step of the proof: what has to be read is `Demand` of crate agreement. For every list of acts, from a system D, a
 -- one-device controller O and a position p of the replay that belong together, as the starting ones do.
-use Rattle.std.specs.Prelude.{ℕ, ◌<◌, ◌≡◌, List}
-use Rattle.std.proofs.Math.Option.{none, some}
+use Rattle.std.specs.Prelude.{ℕ, ◌<◌, ◌≡◌, List, Some, None}
 use Rattle.protocol.specs.Generic.{Picked, pick}
 use Rattle.protocol.specs.Plan.{Plan}
 use Rattle.protocol.specs.Rules.{OneDevice, Message}
@@ -19,9 +18,9 @@ pub record Demand3 (P : Plan) (D : System) (O : OneDevice) (p : Position) (acts 
   pub supervised : Supervised P p (record_of_events (seen P D acts))
   -- "A permit is out from the step that sends it until its release is accepted, else home.": a supervisor with its permit home stands where
   -- the replay puts it
-  pub home : (s : ℕ) → s < P.supervisors → ((run P D acts).supervisor_at s).holder ≡ none
+  pub home : (s : ℕ) → s < P.supervisors → ((run P D acts).supervisor_at s).holder ≡ None
       → ((run P D acts).supervisor_at s).state ≡ (replay P p (record_of_events (seen P D acts))).supervisor_states s
   -- with a permit out, some delivery or step changes a state
-  pub out : (s m : ℕ) → s < P.supervisors → ((run P D acts).supervisor_at s).holder ≡ some m → Progress P (run P D acts)
+  pub out : (s m : ℕ) → s < P.supervisors → ((run P D acts).supervisor_at s).holder ≡ Some m → Progress P (run P D acts)
   -- no message under way is refused
-  pub taken : (k : ℕ) (q : Picked Message) → pick k (run P D acts).under_way ≡ some q → Accepts P (run P D acts) q.item
+  pub taken : (k : ℕ) (q : Picked Message) → pick k (run P D acts).under_way ≡ Some q → Accepts P (run P D acts) q.item

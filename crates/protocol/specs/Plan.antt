@@ -1,12 +1,9 @@
 -- What the rules of permits use of a plan, and what an accepted plan promises of it. Modules, supervisors, events and states are numbers. `Demand` of
 -- crate agreement names the record `Plan`, by its `plan_of`; the laws are a step of its proof.
-use Rattle.std.specs.Prelude.{ℕ, ◌^◌, ◌≤◌, ◌<◌, ◌≡◌, ◌⊎◌, Bool, true, false}
-use Rattle.std.proofs.Math.Option.{Option, some}
+use Rattle.std.specs.Prelude.{ℕ, ◌^◌, ◌≤◌, ◌<◌, ◌≡◌, ◌⊎◌, Bool, true, false, Option, Some, None}
 use Rattle.bits.specs.Bit.{bit}
 use Rattle.water.specs.declared.Flow.{Flow}
 use Rattle.modules.specs.declared.Own.{Own}
-use Rattle.modules.specs.declared.Turn.{Turn}
-use Rattle.modules.specs.declared.Turn.TheVariants.{Event, Nothing}
 use Rattle.modules.specs.declared.Turned.{Turned}
 use Rattle.modules.specs.declared.Replied.{Replied}
 
@@ -40,12 +37,12 @@ pub record Plan : Type 0 where
 -- what a turn of module m over the mask k may do to its own part o: fire a listed move, of an event that is uncontrollable or in no
 -- mask, or leave the automaton's state
 pub record Fired (P : Plan) (m k : ℕ) (o : Own) (e : ℕ) (o' : Own) : Type 0 where
-  pub listed : P.move m o.state e ≡ some o'.state
+  pub listed : P.move m o.state e ≡ Some o'.state
   pub free : (P.controllable e ≡ false) ⊎ (bit k e ≡ false)
 
-abbrev pub TurnLaw : Plan → ℕ → ℕ → Own → Turn → Own → Type 0
-TurnLaw P m k o (Event e) o' = Fired P m k o e o'
-TurnLaw P m k o Nothing o' = o'.state ≡ o.state
+abbrev pub TurnLaw : Plan → ℕ → ℕ → Own → Option ℕ → Own → Type 0
+TurnLaw P m k o (Some e) o' = Fired P m k o e o'
+TurnLaw P m k o None o' = o'.state ≡ o.state
 
 -- the calls on an own part o of module m that fits
 pub record OwnLaws (P : Plan) (m : ℕ) (o : Own) : Type 0 where
@@ -65,8 +62,8 @@ pub record Laws (P : Plan) : Type 0 where
   pub few_events : P.events ≤ 64
   pub owner_below : (e : ℕ) → e < P.events → P.owner e < P.modules
   -- a module moves by its own events
-  pub move_event : (m x e y : ℕ) → P.move m x e ≡ some y → e < P.events
-  pub move_owner : (m x e y : ℕ) → P.move m x e ≡ some y → P.owner e ≡ m
+  pub move_event : (m x e y : ℕ) → P.move m x e ≡ Some y → e < P.events
+  pub move_owner : (m x e y : ℕ) → P.move m x e ≡ Some y → P.owner e ≡ m
   pub alphabet_event : (s e : ℕ) → P.alphabet s e ≡ true → e < P.events
   pub alphabet_supervisor : (s e : ℕ) → P.alphabet s e ≡ true → s < P.supervisors
   -- a supervisor shows controllable events of its alphabet, in 64 bits
@@ -79,4 +76,4 @@ pub record Laws (P : Plan) : Type 0 where
   pub own_laws : (m : ℕ) (o : Own) → m < P.modules → P.fits m o ≡ true → OwnLaws P m o
   -- supervisors: the start, and the moves
   pub supervisor_start_lem : (s : ℕ) → s < P.supervisors → P.supervisor_fits s (P.supervisor_initial s) ≡ true
-  pub supervisor_moves : (s x e y : ℕ) → P.supervisor_move s x e ≡ some y → P.supervisor_fits s y ≡ true
+  pub supervisor_moves : (s x e y : ℕ) → P.supervisor_move s x e ≡ Some y → P.supervisor_fits s y ≡ true

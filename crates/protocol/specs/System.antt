@@ -2,15 +2,11 @@
 -- from such a list, over an abstract plan and without bytes. These are steps of a proof: what has to be read is `Demand` of crate agreement,
 -- which names of this file `turn_events`, `commands_of`, `replay`, `start_position` and `Legal`, with `Position`, `after_event` and `LegalEvent`, which
 -- these name.
-use Rattle.std.specs.Prelude.{ℕ, ◌<◌, ◌≡◌, ◌≢◌, true, false, cond, List, [], ◌∷◌, ◌++◌, ltb}
-use Rattle.std.proofs.Math.Option.{Option, none, some, get_or}
-use Rattle.bits.specs.Bit.{bit, is_some}
+use Rattle.std.specs.Prelude.{ℕ, ◌<◌, ◌≡◌, ◌≢◌, true, false, cond, List, [], ◌∷◌, ◌++◌, ltb, Option, Some, None, Result, ⊤, unwrap_or, is_some}
+use Rattle.bits.specs.Bit.{bit}
 use Rattle.water.specs.declared.Flow.{Flow}
 use Rattle.modules.specs.declared.Own.{Own}
-use Rattle.modules.specs.declared.Turn.{Turn}
-use Rattle.modules.specs.declared.Turn.TheVariants.{Event, Nothing}
 use Rattle.modules.specs.declared.Turned.{Turned}
-use Rattle.modules.specs.declared.Reply.{Reply}
 use Rattle.modules.specs.declared.Replied.{Replied}
 use Rattle.protocol.specs.Generic.{update, Picked, pick}
 use Rattle.protocol.specs.Plan.{Plan}
@@ -45,20 +41,20 @@ after_module_step P D m (bids_to s) = with_module D m (after_bid (D.module_at m)
 after_module_step P D m waits = D
 
 unfoldable pub after_supervisor_step : Plan → System → ℕ → Option ℕ → System
-after_supervisor_step P D s none = D
-after_supervisor_step P D s (some m) =
+after_supervisor_step P D s None = D
+after_supervisor_step P D s (Some m) =
     let k = P.shown s (D.supervisor_at s).state in
     with_supervisor D s (after_sending (D.supervisor_at s) m) (D.under_way ++ (permit s m k ∷ []))
 
 -- a message comes to the party that it names, the rest w being under way still; a refused one changes no state
 unfoldable pub after_message : Plan → System → List Message → Message → System
-after_message P D w (bid m s) = with_supervisor D s (get_or (take_bid (D.supervisor_at s) m) (D.supervisor_at s)) w
-after_message P D w (permit s m k) = with_module D m (get_or (take_permit (D.module_at m) s k) (D.module_at m)) w
-after_message P D w (release m s v) = with_supervisor D s (get_or (take_release P s (D.supervisor_at s) m v) (D.supervisor_at s)) w
+after_message P D w (bid m s) = with_supervisor D s (unwrap_or (take_bid (D.supervisor_at s) m) (D.supervisor_at s)) w
+after_message P D w (permit s m k) = with_module D m (unwrap_or (take_permit (D.module_at m) s k) (D.module_at m)) w
+after_message P D w (release m s v) = with_supervisor D s (unwrap_or (take_release P s (D.supervisor_at s) m v) (D.supervisor_at s)) w
 
 unfoldable pub after_delivery : Plan → System → Option (Picked Message) → System
-after_delivery P D none = D
-after_delivery P D (some q) = after_message P D q.rest q.item
+after_delivery P D None = D
+after_delivery P D (Some q) = after_message P D q.rest q.item
 
 unfoldable pub after_own : System → ℕ → Own → System
 after_own D m o = with_module D m (with_own (D.module_at m) o) D.under_way
@@ -78,8 +74,8 @@ run P D (a ∷ l) = run P (step P D a) l
 -- "At the start all are in their initial states, permits are home, nothing is noted, queued or bid, procedures are idle and outputs off."
 unfoldable pub start_system : Plan → System
 start_system P = record {
-  module_at = λ m. record { own = P.start m; held = 0; received = 0; outstanding = none };
-  supervisor_at = λ s. record { state = P.supervisor_initial s; noted = 0; holder = none; last_served = 15 };
+  module_at = λ m. record { own = P.start m; held = 0; received = 0; outstanding = None };
+  supervisor_at = λ s. record { state = P.supervisor_initial s; noted = 0; holder = None; last_served = 15 };
   under_way = [];
 }
 
@@ -91,8 +87,8 @@ start_device P = record { owns = P.start; states = P.supervisor_initial }
 -- "Equal are a turn's event .. or none, any refusal's number, and after each the module's state, queue, procedure, water and outputs." Document 02,
 -- 2.5: "The comparison with one device is made with this turn on both sides."
 pub data Seen : Type 0 where
-  turn_seen : ℕ → Turn → Own → Seen
-  reply_seen : ℕ → Reply → Own → Seen
+  turn_seen : ℕ → Option ℕ → Own → Seen
+  reply_seen : ℕ → Result ⊤ ℕ → Own → Seen
 
 abbrev pub turned_seen : ℕ → Turned → Seen
 turned_seen m t = turn_seen m t.turn t.own
@@ -150,9 +146,9 @@ device_seen P O (a ∷ l) = device_act_seen P O a ∷ device_seen P (device_step
 -- ---- the record
 
 -- document 01's terms "record" and "commands": "The record lists the events fired, in order; commands are its controllable ones."
-unfoldable pub turn_events : Turn → List ℕ
-turn_events (Event e) = e ∷ []
-turn_events Nothing = []
+unfoldable pub turn_events : Option ℕ → List ℕ
+turn_events (Some e) = e ∷ []
+turn_events None = []
 
 unfoldable pub record_of_events : List Seen → List ℕ
 record_of_events [] = []
@@ -174,8 +170,8 @@ start_position P = record { module_states = P.initial; supervisor_states = P.sup
 
 unfoldable pub after_event : Plan → Position → ℕ → Position
 after_event P p e = record {
-  module_states = update p.module_states (P.owner e) (get_or (P.move (P.owner e) (p.module_states (P.owner e)) e) (p.module_states (P.owner e)));
-  supervisor_states = λ s. state_after P s (p.supervisor_states s) (Event e);
+  module_states = update p.module_states (P.owner e) (unwrap_or (P.move (P.owner e) (p.module_states (P.owner e)) e) (p.module_states (P.owner e)));
+  supervisor_states = λ s. state_after P s (p.supervisor_states s) (Some e);
 }
 
 unfoldable pub replay : Plan → Position → List ℕ → Position
@@ -192,9 +188,9 @@ pub data Legal (P : Plan) : Position → List ℕ → Type 0 where
 
 -- ---- progress
 abbrev pub Accepts : Plan → System → Message → Type 0
-Accepts P D (bid m s) = (y : SupervisorState) × (take_bid (D.supervisor_at s) m ≡ some y)
-Accepts P D (permit s m k) = (x : ModuleState) × (take_permit (D.module_at m) s k ≡ some x)
-Accepts P D (release m s v) = (y : SupervisorState) × (take_release P s (D.supervisor_at s) m v ≡ some y)
+Accepts P D (bid m s) = (y : SupervisorState) × (take_bid (D.supervisor_at s) m ≡ Some y)
+Accepts P D (permit s m k) = (x : ModuleState) × (take_permit (D.module_at m) s k ≡ Some x)
+Accepts P D (release m s v) = (y : SupervisorState) × (take_release P s (D.supervisor_at s) m v ≡ Some y)
 
 -- another state of a module or a supervisor of the plan
 pub data Changes (P : Plan) (D D' : System) : Type 0 where
@@ -202,6 +198,6 @@ pub data Changes (P : Plan) (D D' : System) : Type 0 where
   of_supervisor : (s : ℕ) → s < P.supervisors → D'.supervisor_at s ≢ D.supervisor_at s → Changes P D D'
 
 pub data Progress (P : Plan) (D : System) : Type 0 where
-  by_delivery : (k : ℕ) (q : Picked Message) → pick k D.under_way ≡ some q → Accepts P D q.item → Changes P D (step P D (deliver k)) → Progress P D
+  by_delivery : (k : ℕ) (q : Picked Message) → pick k D.under_way ≡ Some q → Accepts P D q.item → Changes P D (step P D (deliver k)) → Progress P D
   by_module_step : (m : ℕ) → Changes P D (step P D (module_step m)) → Progress P D
   by_supervisor_step : (s : ℕ) → Changes P D (step P D (supervisor_step s)) → Progress P D

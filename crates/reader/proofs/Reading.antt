@@ -1,4 +1,5 @@
 -- Laws of `read_at`, and its tie to the walk.
+use Rattle.std.specs.Prelude.{Result, Ok, Err}
 use mathlib.Core.Path.{◌≡◌, refl, sym, ap, ◌∙◌, subst}
 use mathlib.Core.List.{List, [], ◌∷◌}
 use mathlib.Core.Bool.{Bool, true, false, cond}
@@ -17,10 +18,8 @@ use Rattle.records.specs.declared.Record.{Record}
 use Rattle.records.specs.declared.Record.TheVariants.{Head, Event, Module, ModuleMove, Supervisor, SupervisorMove, Disabling, Step, Marking, End}
 use Rattle.reader.specs.Read.{record_of, shape_at, read_by, read_at, read_number, read_offset, number_at, offset_at, ReadsAs}
 use Rattle.reader.specs.Walk.{Walk, more, stop, walk_of, walk_from, Stopped, StopsAsRead, GoesOnAsRead}
-use Rattle.reader.specs.declared.Shape.{Shape}
-use Rattle.reader.specs.declared.Shape.TheVariants.{Whole as WholeThere, Unknown as UnknownThere, Cut as CutThere, Nothing as NothingThere}
-use Rattle.reader.specs.declared.Read.{Read}
-use Rattle.reader.specs.declared.Read.TheVariants.{Whole, Unknown, Cut, Nothing}
+use Rattle.reader.specs.declared.NoRecord.{NoRecord}
+use Rattle.reader.specs.declared.NoRecord.TheVariants.{Unknown, Cut, Nothing}
 
 -- past the end
 pub drop_past : (s : List ℕ) (b : ℕ) → length s < b → drop (length s) s ≡ drop b s
@@ -31,32 +30,32 @@ drop_past s b h =
 
 -- the four cases, forwards
 module _ (s : List ℕ) (i : ℕ) where
-  pub shapes_nothing : length s ≤ i → shape_at s i ≡ NothingThere
+  pub shapes_nothing : length s ≤ i → shape_at s i ≡ Err Nothing
   unfolding shape_at
   shapes_nothing h = simp (le-leb (length s) i h)
 
   module _ (h : i < length s) where
-    pub shapes_unknown : body_len (get_or s i 0) ≡ no_len → shape_at s i ≡ UnknownThere
+    pub shapes_unknown : body_len (get_or s i 0) ≡ no_len → shape_at s i ≡ Err Unknown
     unfolding shape_at
     shapes_unknown u = simp (lt-leb (length s) i h, eq-eqb _ _ u)
 
     module _ (u : body_len (get_or s i 0) ≡ no_len → ⊥) where
-      pub shapes_whole : body_len (get_or s i 0) ≤ length s - (i + 1) → shape_at s i ≡ WholeThere (get_or s i 0) (i + 1) (i + 1 + body_len (get_or s i 0))
+      pub shapes_whole : body_len (get_or s i 0) ≤ length s - (i + 1) → shape_at s i ≡ Ok (get_or s i 0, i + 1, i + 1 + body_len (get_or s i 0))
       unfolding shape_at
       shapes_whole w = simp (lt-leb (length s) i h, ne_eqb _ _ u, le-leb _ _ w)
 
-      pub shapes_cut : length s - (i + 1) < body_len (get_or s i 0) → shape_at s i ≡ CutThere
+      pub shapes_cut : length s - (i + 1) < body_len (get_or s i 0) → shape_at s i ≡ Err Cut
       unfolding shape_at
       shapes_cut w = simp (lt-leb (length s) i h, ne_eqb _ _ u, lt-leb _ _ w)
 
 -- the same, from what the code of `shape_at` is told
 pub whole_by : (s : List ℕ) (i m : ℕ) {l : ℕ} → i < length s → l ≡ body_len (get_or s i 0) → (l ≡ no_len → ⊥) → m ≡ l → m ≤ length s - (i + 1)
-    → WholeThere (get_or s i 0) (i + 1) (i + 1 + m) ≡ shape_at s i
+    → Ok (get_or s i 0, i + 1, i + 1 + m) ≡ shape_at s i
 whole_by s i m h e u w f =
     let t : m ≡ body_len (get_or s i 0) = w ∙ e in
     rw t (sym (shapes_whole s i h (λ q. u (e ∙ q)) (subst (λ (x : ℕ). x ≤ length s - (i + 1)) t f)))
 
-pub cut_by : (s : List ℕ) (i : ℕ) {l m : ℕ} → i < length s → l ≡ body_len (get_or s i 0) → (l ≡ no_len → ⊥) → m ≡ l → length s - (i + 1) < m → CutThere ≡ shape_at s i
+pub cut_by : (s : List ℕ) (i : ℕ) {l m : ℕ} → i < length s → l ≡ body_len (get_or s i 0) → (l ≡ no_len → ⊥) → m ≡ l → length s - (i + 1) < m → Err Cut ≡ shape_at s i
 cut_by s i h e u w f = sym (shapes_cut s i h (λ q. u (e ∙ q)) (subst (λ (x : ℕ). length s - (i + 1) < x) (w ∙ e) f))
 
 -- what an answer tells of the bytes
@@ -67,18 +66,18 @@ pub record Told (s : List ℕ) (i : ℕ) (r : Record) (n : ℕ) : Type 0 where
   pub fits : n ≤ length s
   pub is : r ≡ record_of (get_or s i 0) (drop (i + 1) s)
 
-abbrev pub Seen : List ℕ → ℕ → Read → Type 0
-Seen s i (Whole r n) = Told s i r n
-Seen s i Unknown = i < length s
-Seen s i Cut = i < length s
-Seen s i Nothing = length s ≤ i
+abbrev pub Seen : List ℕ → ℕ → Result (Record × ℕ) NoRecord → Type 0
+Seen s i (Ok (r, n)) = Told s i r n
+Seen s i (Err Unknown) = i < length s
+Seen s i (Err Cut) = i < length s
+Seen s i (Err Nothing) = length s ≤ i
 
 pub seen : (s : List ℕ) (i : ℕ) → Seen s i (read_at s i)
 unfolding read_at shape_at
 seen s i = go (leb (length s) i) (eqb (body_len (get_or s i 0)) no_len) (leb (body_len (get_or s i 0)) (length s - (i + 1))) refl refl refl
   where
     go : (a u w : Bool) → leb (length s) i ≡ a → eqb (body_len (get_or s i 0)) no_len ≡ u → leb (body_len (get_or s i 0)) (length s - (i + 1)) ≡ w
-        → Seen s i (read_by s (cond a NothingThere (cond u UnknownThere (cond w (WholeThere (get_or s i 0) (i + 1) (i + 1 + body_len (get_or s i 0))) CutThere))))
+        → Seen s i (read_by s (cond a (Err Nothing) (cond u (Err Unknown) (cond w (Ok (get_or s i 0, i + 1, i + 1 + body_len (get_or s i 0))) (Err Cut)))))
     go true u w p q r = leb-true _ _ p
     go false true w p q r = leb-false _ _ p
     go false false true p q r =
@@ -88,12 +87,12 @@ seen s i = go (leb (length s) i) (eqb (body_len (get_or s i 0)) no_len) (leb (bo
     go false false false p q r = leb-false _ _ p
 
 -- what a shape tells of the read
-pub reads_by : (s : List ℕ) (i : ℕ) {x : Shape} → x ≡ shape_at s i → read_at s i ≡ read_by s x
+pub reads_by : (s : List ℕ) (i : ℕ) {x : Result (ℕ × ℕ × ℕ) NoRecord} → x ≡ shape_at s i → read_at s i ≡ read_by s x
 unfolding read_at
 reads_by s i e = ap (read_by s) (sym e)
 
 -- the number and the offset of a read's case are those of the bytes
-pub reads_as : (s : List ℕ) (i : ℕ) {r : Read} → r ≡ read_at s i → ReadsAs s i r
+pub reads_as : (s : List ℕ) (i : ℕ) {r : Result (Record × ℕ) NoRecord} → r ≡ read_at s i → ReadsAs s i r
 unfolding read_at shape_at number_at offset_at
 reads_as s i e = record { answer = e; number = ap read_number e ∙ number ended unknown whole; offset = ap (read_offset s i) e ∙ offset ended unknown whole }
   where
@@ -106,8 +105,8 @@ reads_as s i e = record { answer = e; number = ap read_number e ∙ number ended
     whole : Bool
     whole = leb (body_len (get_or s i 0)) (length s - (i + 1))
 
-    read : Bool → Bool → Bool → Read
-    read a u w = read_by s (cond a NothingThere (cond u UnknownThere (cond w (WholeThere (get_or s i 0) (i + 1) (i + 1 + body_len (get_or s i 0))) CutThere)))
+    read : Bool → Bool → Bool → Result (Record × ℕ) NoRecord
+    read a u w = read_by s (cond a (Err Nothing) (cond u (Err Unknown) (cond w (Ok (get_or s i 0, i + 1, i + 1 + body_len (get_or s i 0))) (Err Cut))))
 
     number : (a u w : Bool) → read_number (read a u w) ≡ cond a 3 (cond u 2 (cond w 0 3))
     number true u w = refl
@@ -122,11 +121,11 @@ reads_as s i e = record { answer = e; number = ap read_number e ∙ number ended
     offset false false false = refl
 
 -- a walk, by what stands at its offset
-abbrev pub next : List ℕ → ℕ → Read → Walk
-next s i (Whole r n) = more i r (walk_from s n)
-next s i Cut = stop 3 i
-next s i Unknown = stop 2 i
-next s i Nothing = stop 3 i
+abbrev pub next : List ℕ → ℕ → Result (Record × ℕ) NoRecord → Walk
+next s i (Ok (r, n)) = more i r (walk_from s n)
+next s i (Err Cut) = stop 3 i
+next s i (Err Unknown) = stop 2 i
+next s i (Err Nothing) = stop 3 i
 
 -- past the end a walk stops at its own offset, so a skip must stay inside
 pub skips : (n o : ℕ) (bs : List ℕ) → n ≤ length bs → walk_of n o bs ≡ walk_of zero (o + n) (drop n bs)
@@ -137,7 +136,7 @@ skips (suc n) o (b ∷ bs) h = skips n (suc o) bs (omega arith) ∙ ap (λ (m : 
 
 module _ (s : List ℕ) (i : ℕ) where
   here : (k : ℕ) (u w : Bool) → eqb (body_len k) no_len ≡ u → leb (body_len k) (length s - (i + 1)) ≡ w
-      → walk_of zero i (k ∷ drop (suc i) s) ≡ next s i (read_by s (cond u UnknownThere (cond w (WholeThere k (i + 1) (i + 1 + body_len k)) CutThere)))
+      → walk_of zero i (k ∷ drop (suc i) s) ≡ next s i (read_by s (cond u (Err Unknown) (cond w (Ok (k, i + 1, i + 1 + body_len k)) (Err Cut))))
   unfolding walk_of
   here k true w p q = simp p
   here k false true p q =
@@ -160,39 +159,39 @@ goes_on_as_read s i r n e = walks s i ∙ ap (next s i) e
 pub stops_as_read : StopsAsRead
 stops_as_read s i = go (read_at s i) (walks s i) (seen s i)
   where
-    go : (r : Read) → walk_from s i ≡ next s i r → Seen s i r → (read_number r ≡ 0 → ⊥) → Stopped s i r
-    go (Whole r n) w k h = absurd (h refl)
-    go Unknown w k h = record { at = i; stops = w; offset = λ l. refl }
-    go Cut w k h = record { at = i; stops = w; offset = λ l. refl }
-    go Nothing w k h = record { at = i; stops = w; offset = λ l. let g : length s ≤ i = k in omega arith }
+    go : (r : Result (Record × ℕ) NoRecord) → walk_from s i ≡ next s i r → Seen s i r → (read_number r ≡ 0 → ⊥) → Stopped s i r
+    go (Ok (r, n)) w k h = absurd (h refl)
+    go (Err Unknown) w k h = record { at = i; stops = w; offset = λ l. refl }
+    go (Err Cut) w k h = record { at = i; stops = w; offset = λ l. refl }
+    go (Err Nothing) w k h = record { at = i; stops = w; offset = λ l. let g : length s ≤ i = k in omega arith }
 
 -- the same, from what a caller of `read_at` is told: its answer r, and which case r is
-module _ (s : List ℕ) (i : ℕ) {r : Read} where
-  pub walks_by : {x : Read} → r ≡ read_at s i → r ≡ x → walk_from s i ≡ next s i x
+module _ (s : List ℕ) (i : ℕ) {r : Result (Record × ℕ) NoRecord} where
+  pub walks_by : {x : Result (Record × ℕ) NoRecord} → r ≡ read_at s i → r ≡ x → walk_from s i ≡ next s i x
   walks_by e g = walks s i ∙ ap (next s i) (sym e ∙ g)
 
-  pub told_by : {t : Record} {n : ℕ} → r ≡ read_at s i → r ≡ Whole t n → Told s i t n
+  pub told_by : {t : Record} {n : ℕ} → r ≡ read_at s i → r ≡ Ok (t, n) → Told s i t n
   told_by e g = subst (Seen s i) (sym e ∙ g) (seen s i)
 
-  pub inside_by : {t : Record} {n : ℕ} → r ≡ read_at s i → r ≡ Whole t n → i < length s
+  pub inside_by : {t : Record} {n : ℕ} → r ≡ read_at s i → r ≡ Ok (t, n) → i < length s
   inside_by e g = (told_by e g).inside
 
-  pub less_by : {t : Record} (n : ℕ) → r ≡ read_at s i → r ≡ Whole t n → length s - n < length s - i
+  pub less_by : {t : Record} (n : ℕ) → r ≡ read_at s i → r ≡ Ok (t, n) → length s - n < length s - i
   less_by n e g = let w = told_by e g in omega arith
 
 pub reads_whole : (s : List ℕ) (i : ℕ) → i < length s → (body_len (get_or s i 0) ≡ no_len → ⊥) → body_len (get_or s i 0) ≤ length s - (i + 1)
-    → read_at s i ≡ Whole (record_of (get_or s i 0) (drop (i + 1) s)) (i + 1 + body_len (get_or s i 0))
+    → read_at s i ≡ Ok (record_of (get_or s i 0) (drop (i + 1) s), i + 1 + body_len (get_or s i 0))
 reads_whole s i h u w = reads_by s i (sym (shapes_whole s i h u w))
 
 -- the same, from what a caller of `shape_at` is told
-module _ (s : List ℕ) (i : ℕ) {x : Shape} where
-  pub read_there : {k b n : ℕ} → x ≡ shape_at s i → x ≡ WholeThere k b n → read_at s i ≡ Whole (record_of k (drop b s)) n
+module _ (s : List ℕ) (i : ℕ) {x : Result (ℕ × ℕ × ℕ) NoRecord} where
+  pub read_there : {k b n : ℕ} → x ≡ shape_at s i → x ≡ Ok (k, b, n) → read_at s i ≡ Ok (record_of k (drop b s), n)
   read_there e g = reads_by s i e ∙ ap (read_by s) g
 
-  pub whole_there : {k b n : ℕ} {r : Record} → x ≡ shape_at s i → x ≡ WholeThere k b n → r ≡ record_of k (drop b s) → Whole r n ≡ read_at s i
-  whole_there {n = n} e g f = ap (λ (y : Record). Whole y n) f ∙ sym (read_there e g)
+  pub whole_there : {k b n : ℕ} {r : Record} → x ≡ shape_at s i → x ≡ Ok (k, b, n) → r ≡ record_of k (drop b s) → Ok (r, n) ≡ read_at s i
+  whole_there {n = n} e g f = ap (λ (y : Record). (Ok (y, n))) f ∙ sym (read_there e g)
 
-  pub other_there : {y : Shape} {r : Read} → x ≡ shape_at s i → x ≡ y → read_by s y ≡ r → r ≡ read_at s i
+  pub other_there : {y : Result (ℕ × ℕ × ℕ) NoRecord} {r : Result (Record × ℕ) NoRecord} → x ≡ shape_at s i → x ≡ y → read_by s y ≡ r → r ≡ read_at s i
   other_there e g f = sym (reads_by s i e ∙ ap (read_by s) g ∙ f)
 
 -- the kind of a record is the one that it was read by

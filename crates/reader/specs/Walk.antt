@@ -1,10 +1,10 @@
 -- An image as a walk of records.
-use Rattle.std.specs.Prelude.{ℕ, zero, suc, ◌≤◌, ◌≡◌, List, [], ◌∷◌, cond, length, drop, leb, eqb}
+use Rattle.std.specs.Prelude.{ℕ, zero, suc, ◌≤◌, ◌≡◌, List, [], ◌∷◌, cond, length, drop, leb, eqb, Result, Ok, Err}
 use Rattle.records.specs.Kinds.{body_len, no_len}
 use Rattle.reader.specs.Read.{record_of, read_at, read_number, read_offset}
 use Rattle.records.specs.declared.Record.{Record}
-use Rattle.reader.specs.declared.Read.{Read}
-use Rattle.reader.specs.declared.Read.TheVariants.{Whole, Unknown, Cut, Nothing}
+use Rattle.reader.specs.declared.NoRecord.{NoRecord}
+use Rattle.reader.specs.declared.NoRecord.TheVariants.{Unknown, Cut, Nothing}
 
 -- a whole record at an offset, and what follows it; or the number and the offset at which nothing more can be read: 2 for an unknown
 -- kind, 3 for a cut body and where no record is left
@@ -14,10 +14,10 @@ pub data Walk : Type 0 where
 
 -- the bytes stand at offset o, and the first n of them are skipped
 unfoldable pub walk_of : ℕ → ℕ → List ℕ → Walk
-walk_of n o [] = stop (read_number Nothing) o
+walk_of n o [] = stop (read_number (Err Nothing)) o
 walk_of zero o (k ∷ bs) =
-    cond (eqb (body_len k) no_len) (stop (read_number Unknown) o)
-    (cond (leb (body_len k) (length bs)) (more o (record_of k bs) (walk_of (body_len k) (suc o) bs)) (stop (read_number Cut) o))
+    cond (eqb (body_len k) no_len) (stop (read_number (Err Unknown)) o)
+    (cond (leb (body_len k) (length bs)) (more o (record_of k bs) (walk_of (body_len k) (suc o) bs)) (stop (read_number (Err Cut)) o))
 walk_of (suc n) o (b ∷ bs) = walk_of n (suc o) bs
 
 -- the walk of an image from an offset on
@@ -39,7 +39,7 @@ abbrev pub records_of : List ℕ → List Record
 records_of s = records_in (walk_from s 0)
 
 -- where a read r at an offset i is refused, the walk stops with its number and, at or before the image's end, its offset
-pub record Stopped (s : List ℕ) (i : ℕ) (r : Read) : Type 0 where
+pub record Stopped (s : List ℕ) (i : ℕ) (r : Result (Record × ℕ) NoRecord) : Type 0 where
   pub at : ℕ
   pub stops : walk_from s i ≡ stop (read_number r) at
   pub offset : i ≤ length s → at ≡ read_offset s i r
@@ -49,4 +49,4 @@ StopsAsRead = (s : List ℕ) (i : ℕ) → (read_number (read_at s i) ≡ 0 → 
 
 -- where it gives a record, the walk has that record and goes on behind it
 abbrev pub GoesOnAsRead : Type 0
-GoesOnAsRead = (s : List ℕ) (i : ℕ) (r : Record) (n : ℕ) → read_at s i ≡ Whole r n → walk_from s i ≡ more i r (walk_from s n)
+GoesOnAsRead = (s : List ℕ) (i : ℕ) (r : Record) (n : ℕ) → read_at s i ≡ Ok (r, n) → walk_from s i ≡ more i r (walk_from s n)

@@ -3,7 +3,7 @@
 
 ghost use Rattle.std.specs.Prelude.{◌≡◌, ◌≤◌, length, drop};
 ghost use Rattle.records.specs.Key.{key_by, key_of};
-ghost use Rattle.reader.specs.Read.{record_of, shape_at, ReadsAs};
+ghost use Rattle.reader.specs.Read.{record_of, shape_at, stop_number, ReadsAs};
 
 use records::{Record, RecordKey};
 
@@ -90,63 +90,52 @@ pub fn record_of(kind: u8, s: &[u8], b: usize) -> Record
     }
 }
 
-// What stands at an offset.
-#[derive(Clone, Copy)]
-pub enum Read {
-    // the record and the next offset
-    Whole(Record, usize),
+// Why no whole record stands at an offset: an unknown kind, a cut body, or no byte.
+#[derive(Clone, Copy, Debug, PartialEq, Eq)]
+pub enum NoRecord {
     Unknown,
     Cut,
     Nothing,
 }
 
-// The same without the fields.
-#[derive(Clone, Copy)]
-pub enum Shape {
-    // the kind, and the offsets of the body and of what follows it
-    Whole(u8, usize, usize),
-    Unknown,
-    Cut,
-    Nothing,
+// Document 01's number of what is no record.
+pub fn number_of(why: NoRecord) -> u8
+    ensures { result ≡ stop_number why }
+{
+    match why {
+        NoRecord::Unknown => 2,
+        NoRecord::Cut => 3,
+        NoRecord::Nothing => 3,
+    }
 }
 
-// The shape alone, for a caller that reads fields where they stand.
-pub fn shape_at(s: &[u8], at: usize) -> Shape
+// Where a record stands at an offset, its kind and the offsets of its body and of what follows it, for a caller that reads fields where they stand.
+pub fn shape_at(s: &[u8], at: usize) -> Result<(u8, usize, usize), NoRecord>
     ensures { result ≡ shape_at s.now at }
 {
     if s.len() <= at {
-        return Shape::Nothing;
+        return Err(NoRecord::Nothing);
     }
     let k = s[at];
     let n = records::body_len(k);
     if n == records::NO_LEN {
-        return Shape::Unknown;
+        return Err(NoRecord::Unknown);
     }
     let m = words::wide(n);
     let b = at + 1;
     if m <= s.len() - b {
-        Shape::Whole(k, b, b + m)
+        Ok((k, b, b + m))
     } else {
-        Shape::Cut
+        Err(NoRecord::Cut)
     }
 }
 
-pub fn read_at(s: &[u8], at: usize) -> Read
+// The record that stands at an offset, and the next offset.
+pub fn read_at(s: &[u8], at: usize) -> Result<(Record, usize), NoRecord>
     ensures { ReadsAs s.now at result }
 {
-    match shape_at(s, at) {
-        Shape::Whole(k, b, next) => Read::Whole(record_of(k, s, b), next),
-        Shape::Unknown => Read::Unknown,
-        Shape::Cut => Read::Cut,
-        Shape::Nothing => Read::Nothing,
-    }
-}
-
-// What a look-up by kind and key finds.
-#[derive(Clone, Copy)]
-pub enum Found {
-    It(Record),
-    Missing,
+    let (kind, body, next) = shape_at(s, at)?;
+    Ok((record_of(kind, s, body), next))
 }
 
 fn key_by(kind: u8, first: u8, second: u8, third: u8) -> RecordKey

@@ -1,19 +1,18 @@
 -- The cases of every call: taken, refused at offset 0, refused as the check says, and a reply of the own part.
+use Rattle.std.specs.Prelude.{Result, Ok, Err, ⊤}
+use Rattle.refusal.specs.Refusal.{refusal, refused_number, refused_offset}
+use Rattle.refusal.specs.declared.Refusal.{Refusal}
 use Prim.Native.Nat.{ℕ, ◌≤◌}
 use native.Mathlib.Omega.{arith}
-use mathlib.Core.Path.{◌≡◌, refl, sym, ap, ◌∙◌, subst}
-use mathlib.Core.Logic.{◌≢◌}
+use mathlib.Core.Path.{◌≡◌, refl, ap, ◌∙◌, subst}
 use mathlib.Core.List.{List}
 use mathlib.Core.Bool.{Bool, true, false, cond}
 use lib.ListN.{length, drop, length-append, length-drop}
 use lib.Seq.{drop_at}
 use Rattle.words.specs.Word.{written}
-use Rattle.modules.specs.Numbers.{reply_number, called_number, called_offset}
+use Rattle.modules.specs.Numbers.{reply_number}
 use Rattle.modules.specs.Procedure.{called_by}
 use Rattle.modules.specs.declared.Own.{Own}
-use Rattle.modules.specs.declared.Called.TheVariants.{Done, Refused as CallRefused}
-use Rattle.modules.specs.declared.Reply.{Reply}
-use Rattle.modules.specs.declared.Reply.TheVariants.{Taken, Refused}
 use Rattle.refusals.specs.Table.{CallKind, Gives}
 use Rattle.refusals.specs.Refusals.{OffsetRight, Answer, Unchanged, Lent, CallAnswer, Call}
 
@@ -31,26 +30,25 @@ never e = omega arith
 pub at_zero : (n : ℕ) → OffsetRight n 0
 at_zero n = record { long = λ e. refl; call = λ h. refl }
 
-module _ {E : Type 0} (c : CallKind) (number offset : E → ℕ) (refusal : ℕ → ℕ → E) where
-  pub accepts : (a : E) → ((n o : ℕ) → a ≢ refusal n o) → number a ≡ 0 → offset a ≡ 0 → Answer c number offset refusal a
-  accepts a d i z =
+module _ (c : CallKind) {X : Type 0} where
+  pub accepts : (x : X) → Answer {X = X} c (Ok x)
+  accepts x =
       record {
-        numbered = λ n o e. absurd (d n o e);
-        offset_right = record { long = λ e. z; call = λ h. z };
-        number_is = λ n o e. absurd (d n o e);
-        offset_is = λ n o e. absurd (d n o e);
-        accepted = λ h. (i, z);
+        numbered = λ e q. absurd (never (cc));
+        offset_right = at_zero 0;
+        number_is = λ e q. absurd (never (cc));
+        offset_is = λ e q. absurd (never (cc));
+        accepted = λ h. (refl, refl);
       }
 
-  pub refuses : ((n o : ℕ) → number (refusal n o) ≡ n) → ((n o : ℕ) → offset (refusal n o) ≡ o) → (n o : ℕ) → Gives c n → OffsetRight n o
-      → Answer c number offset refusal (refusal n o)
-  refuses is at n o t p =
+  pub refuses : (e : Refusal) → Gives c e.number → OffsetRight e.number e.offset → Answer {X = X} c (Err e)
+  refuses e t p =
       record {
-        numbered = λ k l e. subst (Gives c) (sym (is n o) ∙ ap number e ∙ is k l) t;
-        offset_right = subst (λ (k : ℕ). OffsetRight k (offset (refusal n o))) (sym (is n o)) (subst (OffsetRight n) (sym (at n o)) p);
-        number_is = λ k l e. ap number e ∙ is k l;
-        offset_is = λ k l e. ap offset e ∙ at k l;
-        accepted = λ h. absurd (h n o refl);
+        numbered = λ f q. subst (λ (a : Result X Refusal). Gives c (refused_number a)) q t;
+        offset_right = p;
+        number_is = λ f q. ap refused_number q;
+        offset_is = λ f q. ap refused_offset q;
+        accepted = λ h. absurd (h e refl);
       }
 
 -- ---- states and buffers
@@ -76,25 +74,25 @@ put k a b e h =
 
 -- ---- a call without a buffer
 
-pub done : (c : CallKind) → CallAnswer c Done
-done c = accepts c called_number called_offset CallRefused Done (λ n o e. never (cc)) refl refl
+pub done : (c : CallKind) → CallAnswer c (Ok tt)
+done c = accepts c tt
 
-pub call_refused : (c : CallKind) (n o : ℕ) → Gives c n → OffsetRight n o → CallAnswer c (CallRefused n o)
-call_refused c = refuses c called_number called_offset CallRefused (λ n o. refl) (λ n o. refl)
+pub call_refused : (c : CallKind) (n o : ℕ) → Gives c n → OffsetRight n o → CallAnswer c (Err (refusal n o))
+call_refused c n o = refuses c (refusal n o)
 
 module _ (c : CallKind) {A : Type 0} (x : A) where
-  pub takes : (y : A) → Call c x Done y
+  pub takes : (y : A) → Call c x (Ok tt) y
   takes y = record { answer = done c; state = taken x y }
 
-  pub turns_down : (n o : ℕ) → Gives c n → OffsetRight n o → Call c x (CallRefused n o) x
+  pub turns_down : (n o : ℕ) → Gives c n → OffsetRight n o → Call c x (Err (refusal n o)) x
   turns_down n o t p = record { answer = call_refused c n o t p; state = same n x }
 
-  pub refused : (n : ℕ) → Gives c n → Call c x (CallRefused n 0) x
+  pub refused : (n : ℕ) → Gives c n → Call c x (Err (refusal n 0)) x
   refused n t = turns_down n 0 t (at_zero n)
 
   -- a reply that is refused gives back the own part, and with it the whole state
-  pub replied : (with_own : Own → A) (before after : Own) (r : Reply) → with_own before ≡ x
-      → ((n : ℕ) → r ≡ Refused n → Gives c n) → Unchanged (reply_number r) before after → Call c x (called_by r) (with_own after)
+  pub replied : (with_own : Own → A) (before after : Own) (r : Result ⊤ ℕ) → with_own before ≡ x
+      → ((n : ℕ) → r ≡ Err n → Gives c n) → Unchanged (reply_number r) before after → Call c x (called_by r) (with_own after)
   unfolding called_by
-  replied with_own before after Taken e t k = takes (with_own after)
-  replied with_own before after (Refused n) e t k = record { answer = call_refused c n 0 (t n refl) (at_zero n); state = λ d. ap with_own (k d) ∙ e }
+  replied with_own before after (Ok u) e t k = takes (with_own after)
+  replied with_own before after (Err n) e t k = record { answer = call_refused c n 0 (t n refl) (at_zero n); state = λ d. ap with_own (k d) ∙ e }

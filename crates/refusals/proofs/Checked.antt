@@ -1,4 +1,7 @@
 -- The numbers of the check: a walk stops at 2 or 3, a faulty record is 4 to 8, and 1 stands alone.
+use Rattle.std.specs.Prelude.{Result, Ok, Err, ⊤}
+use Rattle.refusal.specs.Refusal.{refusal, refused_number}
+use Rattle.refusal.specs.declared.Refusal.{Refusal}
 use Prim.Native.Nat.{ℕ, zero, suc, ◌≤◌}
 use native.Mathlib.Omega.{arith}
 use mathlib.Core.Path.{◌≡◌, refl, subst}
@@ -13,17 +16,14 @@ use Rattle.records.specs.declared.Record.{Record}
 use Rattle.reader.specs.Walk.{Walk, more, stop, walk_of, walk_from}
 use Rattle.rules.specs.Rules.{in_order, names_declared, keeps_rules, all_declared}
 use Rattle.rules.specs.Check.{fault_of, end_at, check_walk, limit, verdict_of}
-use Rattle.rules.specs.declared.Verdict.{Verdict}
-use Rattle.rules.specs.declared.Verdict.TheVariants.{Accepted, Refused}
 use Rattle.pieces.specs.Pieces.{stage_verdict, verdict_by}
 use Rattle.pieces.specs.declared.Stage.{Stage}
 use Rattle.pieces.specs.declared.Stage.TheVariants.{Open, Ended, Faulty}
 use Rattle.pieces.specs.declared.CheckState.{CheckState}
-use Rattle.refusals.specs.Numbers.{verdict_number, verdict_offset}
 use Rattle.refusals.specs.Table.{check, Gives}
 use Rattle.refusals.specs.Refusals.{IsRefusal, OfCheck, OffsetRight, CheckAnswer, Checker}
 use Rattle.refusals.proofs.Table.{of_image_lem}
-use Rattle.refusals.proofs.Cases.{either, never, at_zero, accepts, refuses}
+use Rattle.refusals.proofs.Cases.{either, at_zero, accepts, refuses}
 
 -- a walk whose last number is 2 or 3
 abbrev Stops : Walk → Type 0
@@ -55,9 +55,9 @@ fault rs r =
     (λ t. omega arith, omega arith))
     (λ t. omega arith, omega arith)
 
-abbrev Judged : Verdict → Type 0
-Judged Accepted = Unit {0}
-Judged (Refused n o) = (2 ≤ n) × (n ≤ 8)
+abbrev Judged : Result ⊤ Refusal → Type 0
+Judged (Ok u) = Unit {0}
+Judged (Err e) = (2 ≤ e.number) × (e.number ≤ 8)
 
 judged : (n : ℕ) (rs : List Record) (w : Walk) → Stops w → Judged (check_walk n rs w)
 unfolding check_walk
@@ -65,30 +65,30 @@ judged n rs (stop k o) s = (s.0, omega arith)
 judged n rs (more o r w) s = go (eqb (fault_of rs r) 0) refl (judged n (r ∷ rs) w s)
   where
     go : (b : Bool) → eqb (fault_of rs r) 0 ≡ b → Judged (check_walk n (r ∷ rs) w)
-        → Judged (cond b (cond (eqb (kind_of r) 0x1f) (end_at n o) (check_walk n (r ∷ rs) w)) (Refused (fault_of rs r) o))
+        → Judged (cond b (cond (eqb (kind_of r) 0x1f) (end_at n o) (check_walk n (r ∷ rs) w)) (Err (refusal (fault_of rs r) o)))
     go true q j = either Judged (eqb (kind_of r) 0x1f) (either Judged (eqb (suc o) n) tt (omega arith, omega arith)) j
     go false q j = ((fault rs r).0 (eqb-false _ _ q), (fault rs r).1)
 
-accepted : CheckAnswer Accepted
-accepted = accepts check verdict_number verdict_offset Refused Accepted (λ n o e. never (cc)) refl refl
+accepted : CheckAnswer (Ok tt)
+accepted = accepts check tt
 
-refused : (n o : ℕ) → Gives check n → OffsetRight n o → CheckAnswer (Refused n o)
-refused = refuses check verdict_number verdict_offset Refused (λ n o. refl) (λ n o. refl)
+refused : (n o : ℕ) → Gives check n → OffsetRight n o → CheckAnswer (Err (refusal n o))
+refused n o = refuses check (refusal n o)
 
 -- what the check says of its verdict
-record Numbered (v : Verdict) : Type 0 where
+record Numbered (v : Result ⊤ Refusal) : Type 0 where
   answer : CheckAnswer v
-  accepted_by : verdict_number v ≡ 0 → v ≡ Accepted
+  accepted_by : refused_number v ≡ 0 → v ≡ Ok tt
 
-numbered : (v : Verdict) → Judged v → Numbered v
-numbered Accepted j = record { answer = accepted; accepted_by = λ e. refl }
-numbered (Refused n o) j =
+numbered : (v : Result ⊤ Refusal) → Judged v → Numbered v
+numbered (Ok u) j = record { answer = accepted; accepted_by = λ e. refl }
+numbered (Err e) j =
     record {
-      answer = refused n o (of_image_lem n (omega arith) j.1) (record { long = λ e. absurd (omega arith); call = λ h. absurd (omega arith) });
+      answer = refused e.number e.offset (of_image_lem e.number (omega arith) j.1) (record { long = λ e. absurd (omega arith); call = λ h. absurd (omega arith) });
       accepted_by = λ e. absurd (omega arith);
     }
 
-too_long : Numbered (Refused 1 0)
+too_long : Numbered (Err (refusal 1 0))
 too_long = record { answer = refused 1 0 refl (at_zero 1); accepted_by = λ e. absurd (omega arith) }
 
 verdict : (image : List ℕ) → Numbered (verdict_of image)
@@ -110,7 +110,7 @@ pub checked : (image : List ℕ) → CheckAnswer (verdict_of image)
 checked image = (verdict image).answer
 
 -- of a verdict that is known
-pub checked_as : (image : List ℕ) {v : Verdict} → verdict_of image ≡ v → CheckAnswer v
+pub checked_as : (image : List ℕ) {v : Result ⊤ Refusal} → verdict_of image ≡ v → CheckAnswer v
 checked_as image e = subst CheckAnswer e (checked image)
 
 pub checker : Checker

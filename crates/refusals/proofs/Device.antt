@@ -1,18 +1,18 @@
 -- What a refused call leaves of a module's own part, and of one device.
+use Rattle.std.specs.Prelude.{Option, Some, None, Result, Ok, Err, ⊤}
+use Rattle.refusal.specs.Refusal.{refusal}
+use Rattle.refusal.specs.declared.Refusal.{Refusal}
 use Prim.Native.Nat.{ℕ, zero, suc}
 use native.Mathlib.Omega.{arith}
 use mathlib.Core.Path.{◌≡◌, refl, ap, subst}
 use mathlib.Core.Logic.{◌≢◌}
 use mathlib.Core.List.{List}
-use mathlib.Core.Option.{none}
 use lib.Seq.{set-get_or}
 use lib.Dec.{ltb}
 use Rattle.records.specs.declared.Record.{Record}
 use Rattle.reader.specs.Walk.{records_of}
 use Rattle.rules.specs.LookUp.{modules_of}
 use Rattle.rules.specs.Check.{verdict_of}
-use Rattle.rules.specs.declared.Verdict.{Verdict}
-use Rattle.rules.specs.declared.Verdict.TheVariants.{Accepted, Refused}
 use Rattle.plan.specs.Plan.{own_uncontrollable}
 use Rattle.water.specs.Water.{flow_ok}
 use Rattle.water.specs.declared.Flow.{Flow}
@@ -21,14 +21,11 @@ use Rattle.modules.specs.Numbers.{reply_number}
 use Rattle.modules.specs.Procedure.{taken as took, refused as denied, respond_of, tick_of}
 use Rattle.modules.specs.Turn.{empty_own}
 use Rattle.modules.specs.declared.Own.{Own}
-use Rattle.modules.specs.declared.Turn.TheVariants.{Event, Nothing}
 use Rattle.modules.specs.declared.Replied.{Replied}
 use Rattle.device_states.specs.States.{own_at, with_own, device_fits}
 use Rattle.device.specs.Device.{device_number, turn_refused, turn_in, turn_by, reply_in, reply_by, start_by}
-use Rattle.device.specs.Numbers.{turning_number, turning_offset, turning_event}
+use Rattle.device.specs.Numbers.{turning_event}
 use Rattle.device_states.specs.declared.Device.{Device}
-use Rattle.device.specs.declared.Turning.{Turning}
-use Rattle.device.specs.declared.Turning.TheVariants.{Done as TurnDone, Refused as TurnRefused}
 use Rattle.refusals.specs.Table as Table
 use Rattle.refusals.specs.Table.{CallKind, Gives}
 use Rattle.refusals.specs.Refusals.{IsRefusal, OffsetRight, CheckAnswer, CallAnswer, HeldAlone, OwnCall, DeviceTurn, DeviceCall, OwnPart, OneDevice}
@@ -61,18 +58,18 @@ own_part = record { respond = own_respond_lem; tick = own_tick_lem }
 -- ---- one device
 
 -- the event that fired
-event_of : (a : Turning) → HeldAlone turning_event (λ e. TurnDone (Event e)) a
+event_of : (a : Result (Option ℕ) Refusal) → HeldAlone turning_event (λ e. Ok (Some e)) a
 event_of a = record { is = λ k e. ap turning_event e; otherwise = go a }
   where
-    go : (a : Turning) → ((k : ℕ) → a ≢ TurnDone (Event k)) → turning_event a ≡ none
-    go (TurnDone (Event k)) h = absurd (h k refl)
-    go (TurnDone Nothing) h = refl
-    go (TurnRefused n o) h = refl
+    go : (a : Result (Option ℕ) Refusal) → ((k : ℕ) → a ≢ Ok (Some k)) → turning_event a ≡ None
+    go (Ok (Some k)) h = absurd (h k refl)
+    go (Ok None) h = refl
+    go (Err e) h = refl
 
-start : (v : Verdict) (rs : List Record) → CheckAnswer v → CallAnswer Table.device_start (start_by v rs).answer
+start : (v : Result ⊤ Refusal) (rs : List Record) → CheckAnswer v → CallAnswer Table.device_start (start_by v rs).answer
 unfolding start_by
-start Accepted rs j = done Table.device_start
-start (Refused n o) rs j = call_refused Table.device_start n o (j.numbered n o refl) j.offset_right
+start (Ok u) rs j = done Table.device_start
+start (Err e) rs j = call_refused Table.device_start e.number e.offset (j.numbered e refl) j.offset_right
 
 module _ (rs : List Record) (d : Device) (m : ℕ) where
   -- 9 or 11, or 0
@@ -82,28 +79,23 @@ module _ (rs : List Record) (d : Device) (m : ℕ) where
   its_number : OfDevice (device_number rs d m)
   its_number = either OfDevice (device_fits rs d) (either OfDevice (ltb m (modules_of rs)) (λ t. absurd (t refl)) (λ t. refl)) (λ t. refl)
 
-  turn_refused_lem : (n o : ℕ) → Gives Table.turn n → OffsetRight n o → DeviceTurn d (turn_refused d n o)
-  turn_refused_lem n o t p =
-      record {
-        answer = refuses Table.turn turning_number turning_offset TurnRefused (λ n o. refl) (λ n o. refl) n o t p;
-        state = same n d;
-        event = event_of (TurnRefused n o);
-      }
+  turn_refused_lem : (e : Refusal) → Gives Table.turn e.number → OffsetRight e.number e.offset → DeviceTurn d (turn_refused d e)
+  turn_refused_lem e t p = record { answer = refuses Table.turn e t p; state = same e.number d; event = event_of (Err e) }
 
   turn_in_lem : (n : ℕ) → OfDevice n → DeviceTurn d (turn_in rs d m n)
   unfolding turn_in
   turn_in_lem zero h =
       record {
-        answer = accepts Table.turn turning_number turning_offset TurnRefused _ (λ n o e. never (cc)) refl refl;
+        answer = accepts Table.turn _;
         state = taken d _;
         event = event_of _;
       }
-  turn_in_lem (suc n) h = turn_refused_lem (suc n) 0 (h (λ e. omega arith)) (at_zero (suc n))
+  turn_in_lem (suc n) h = turn_refused_lem (refusal (suc n) 0) (h (λ e. omega arith)) (at_zero (suc n))
 
-  turn_by_lem : (v : Verdict) → CheckAnswer v → DeviceTurn d (turn_by v rs d m)
+  turn_by_lem : (v : Result ⊤ Refusal) → CheckAnswer v → DeviceTurn d (turn_by v rs d m)
   unfolding turn_by
-  turn_by_lem Accepted j = turn_in_lem (device_number rs d m) its_number
-  turn_by_lem (Refused n o) j = turn_refused_lem n o (passed Table.check Table.turn refl n (j.numbered n o refl)) j.offset_right
+  turn_by_lem (Ok u) j = turn_in_lem (device_number rs d m) its_number
+  turn_by_lem (Err e) j = turn_refused_lem e (passed Table.check Table.turn refl e.number (j.numbered e refl)) j.offset_right
 
   -- a reply has the numbers of a turn, and those of the own part
   module _ (c own : CallKind) (all-turn : Within Table.turn c) (all_own : Within own c) (r : Replied) (k : OwnCall own (own_at d m) r) where
@@ -115,10 +107,10 @@ module _ (rs : List Record) (d : Device) (m : ℕ) where
         again = ap (λ (l : List Own). record { modules = l; supervisors = d.supervisors }) (set-get_or d.modules m empty_own)
     reply_in_lem (suc n) h = turns_down c d (suc n) 0 (passed Table.turn c all-turn (suc n) (h (λ e. omega arith))) (at_zero (suc n))
 
-    reply_by_lem : (v : Verdict) → CheckAnswer v → DeviceCall c d (reply_by v rs d m r)
+    reply_by_lem : (v : Result ⊤ Refusal) → CheckAnswer v → DeviceCall c d (reply_by v rs d m r)
     unfolding reply_by
-    reply_by_lem Accepted j = reply_in_lem (device_number rs d m) its_number
-    reply_by_lem (Refused n o) j = turns_down c d n o (passed Table.turn c all-turn n (passed Table.check Table.turn refl n (j.numbered n o refl))) j.offset_right
+    reply_by_lem (Ok u) j = reply_in_lem (device_number rs d m) its_number
+    reply_by_lem (Err e) j = turns_down c d e.number e.offset (passed Table.turn c all-turn e.number (passed Table.check Table.turn refl e.number (j.numbered e refl))) j.offset_right
 
 pub one_device : OneDevice
 one_device =

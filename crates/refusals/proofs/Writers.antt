@@ -1,4 +1,7 @@
 -- What a refused writer leaves of the buffer.
+use Rattle.std.specs.Prelude.{Result, Ok, Err, ⊤}
+use Rattle.refusal.specs.Refusal.{refusal, written_length}
+use Rattle.refusal.specs.declared.Refusal.{Refusal}
 use Prim.Native.Nat.{ℕ}
 use mathlib.Core.Path.{◌≡◌, refl, ap}
 use mathlib.Core.List.{List}
@@ -11,31 +14,24 @@ use Rattle.records.specs.Bytes.{bytes_of}
 use Rattle.records.specs.Range.{in_range}
 use Rattle.records.specs.declared.Record.{Record}
 use Rattle.rules.specs.Check.{verdict_of}
-use Rattle.rules.specs.declared.Verdict.{Verdict}
-use Rattle.rules.specs.declared.Verdict.TheVariants.{Accepted, Refused}
 use Rattle.writer.specs.Write.{answer_of}
-use Rattle.writer.specs.declared.Written.TheVariants.{Length, Refused as WriteRefused}
 use Rattle.writer.proofs.Writing.{length_bytes}
 use Rattle.rewrite.specs.Rewrite.{plan_bytes, answer_by as rewrite_answer, buffer_by as rewrite_buffer}
-use Rattle.rewrite.specs.declared.Rewritten.TheVariants.{Length as Copied, Refused as CopyRefused}
 use Rattle.paper.specs.Print.{plan_page_set, answer_by as print_answer, buffer_by as print_buffer}
-use Rattle.paper.specs.Numbers.{printed_number, printed_offset, printed_length}
-use Rattle.paper.specs.declared.Printed.TheVariants.{Length as Pages, Refused as PrintRefused}
 use Rattle.messages.specs.Message.{message_bytes, fits_at, put_at}
 use Rattle.messages.specs.declared.Message.{Message}
-use Rattle.refusals.specs.Numbers.{written_number, written_offset, written_length, rewritten_number, rewritten_offset, rewritten_length}
 use Rattle.refusals.specs.Table as Table
 use Rattle.refusals.specs.Table.{Gives}
 use Rattle.refusals.specs.Refusals.{OffsetRight, CheckAnswer, Write, Rewrite, Print, Writers}
 use Rattle.refusals.proofs.Table.{passed}
-use Rattle.refusals.proofs.Cases.{either, never, at_zero, accepts, refuses, untouched, put}
+use Rattle.refusals.proofs.Cases.{either, at_zero, accepts, refuses, untouched, put}
 use Rattle.refusals.proofs.Checked.{checked}
 
 -- one record
-write_refused : (n : ℕ) (r : Record) (b : List ℕ) → Gives Table.write_record n → Write r b (WriteRefused n 0)
+write_refused : (n : ℕ) (r : Record) (b : List ℕ) → Gives Table.write_record n → Write r b (Err (refusal n 0))
 write_refused n r b t =
     record {
-      answer = refuses Table.write_record written_number written_offset WriteRefused (λ n o. refl) (λ n o. refl) n 0 t (at_zero n);
+      answer = refuses Table.write_record (refusal n 0) t (at_zero n);
       offset = refl;
       bytes = λ k e. ap written_length e;
       buffer = untouched n b;
@@ -45,53 +41,53 @@ write : (r : Record) (b : List ℕ) → Write r b (answer_of r b)
 unfolding answer_of
 write r b = either (Write r b) (in_range r) (go (ltb (length b) (size_of r)) refl) (write_refused 5 r b refl)
   where
-    go : (q : Bool) → ltb (length b) (size_of r) ≡ q → Write r b (cond q (WriteRefused 15 0) (Length (size_of r)))
+    go : (q : Bool) → ltb (length b) (size_of r) ≡ q → Write r b (cond q (Err (refusal 15 0)) (Ok (size_of r)))
     go true e = write_refused 15 r b refl
     go false e =
         record {
-          answer = accepts Table.write_record written_number written_offset WriteRefused _ (λ n o e. never (cc)) refl refl;
+          answer = accepts Table.write_record _;
           offset = refl;
           bytes = λ k e. ap written_length e;
           buffer = put (size_of r) (bytes_of r) b (length_bytes r) (ltb-false _ _ e);
         }
 
 -- an accepted plan
-rewrite_refused : (n o : ℕ) (s b : List ℕ) → Gives Table.rewrite n → OffsetRight n o → Rewrite s b (CopyRefused n o)
+rewrite_refused : (n o : ℕ) (s b : List ℕ) → Gives Table.rewrite n → OffsetRight n o → Rewrite s b (Err (refusal n o))
 unfolding rewrite_buffer
 rewrite_refused n o s b t p =
-    record { answer = refuses Table.rewrite rewritten_number rewritten_offset CopyRefused (λ n o. refl) (λ n o. refl) n o t p; bytes = λ k e. ap rewritten_length e; buffer = untouched n b }
+    record { answer = refuses Table.rewrite (refusal n o) t p; bytes = λ k e. ap written_length e; buffer = untouched n b }
 
-rewrite : (s b : List ℕ) (v : Verdict) → CheckAnswer v → Rewrite s b (rewrite_answer v s b)
+rewrite : (s b : List ℕ) (v : Result ⊤ Refusal) → CheckAnswer v → Rewrite s b (rewrite_answer v s b)
 unfolding rewrite_answer rewrite_buffer
-rewrite s b (Refused n o) j = rewrite_refused n o s b (passed Table.check Table.rewrite refl n (j.numbered n o refl)) j.offset_right
-rewrite s b Accepted j = go (ltb (length b) (length (plan_bytes s))) refl
+rewrite s b (Err e) j = rewrite_refused e.number e.offset s b (passed Table.check Table.rewrite refl e.number (j.numbered e refl)) j.offset_right
+rewrite s b (Ok u) j = go (ltb (length b) (length (plan_bytes s))) refl
   where
-    go : (q : Bool) → ltb (length b) (length (plan_bytes s)) ≡ q → Rewrite s b (cond q (CopyRefused 15 0) (Copied (length (plan_bytes s))))
+    go : (q : Bool) → ltb (length b) (length (plan_bytes s)) ≡ q → Rewrite s b (cond q (Err (refusal 15 0)) (Ok (length (plan_bytes s))))
     go true e = rewrite_refused 15 0 s b refl (at_zero 15)
     go false e =
         record {
-          answer = accepts Table.rewrite rewritten_number rewritten_offset CopyRefused _ (λ n o e. never (cc)) refl refl;
-          bytes = λ k e. ap rewritten_length e;
+          answer = accepts Table.rewrite _;
+          bytes = λ k e. ap written_length e;
           buffer = put (length (plan_bytes s)) (plan_bytes s) b refl (ltb-false _ _ e);
         }
 
 -- a plan on paper
-print_refused : (n o : ℕ) (s b : List ℕ) → Gives Table.print_plan n → OffsetRight n o → Print s b (PrintRefused n o)
+print_refused : (n o : ℕ) (s b : List ℕ) → Gives Table.print_plan n → OffsetRight n o → Print s b (Err (refusal n o))
 unfolding print_buffer
 print_refused n o s b t p =
-    record { answer = refuses Table.print_plan printed_number printed_offset PrintRefused (λ n o. refl) (λ n o. refl) n o t p; bytes = λ k e. ap printed_length e; buffer = untouched n b }
+    record { answer = refuses Table.print_plan (refusal n o) t p; bytes = λ k e. ap written_length e; buffer = untouched n b }
 
-print : (s b : List ℕ) (v : Verdict) → CheckAnswer v → Print s b (print_answer v s b)
+print : (s b : List ℕ) (v : Result ⊤ Refusal) → CheckAnswer v → Print s b (print_answer v s b)
 unfolding print_answer print_buffer
-print s b (Refused n o) j = print_refused n o s b (passed Table.check Table.print_plan refl n (j.numbered n o refl)) j.offset_right
-print s b Accepted j = go (ltb (length b) (length (plan_page_set s))) refl
+print s b (Err e) j = print_refused e.number e.offset s b (passed Table.check Table.print_plan refl e.number (j.numbered e refl)) j.offset_right
+print s b (Ok u) j = go (ltb (length b) (length (plan_page_set s))) refl
   where
-    go : (q : Bool) → ltb (length b) (length (plan_page_set s)) ≡ q → Print s b (cond q (PrintRefused 15 0) (Pages (length (plan_page_set s))))
+    go : (q : Bool) → ltb (length b) (length (plan_page_set s)) ≡ q → Print s b (cond q (Err (refusal 15 0)) (Ok (length (plan_page_set s))))
     go true h = print_refused 15 0 s b refl (at_zero 15)
     go false h =
         record {
-          answer = accepts Table.print_plan printed_number printed_offset PrintRefused _ (λ n o e. never (cc)) refl refl;
-          bytes = λ k e. ap printed_length e;
+          answer = accepts Table.print_plan _;
+          bytes = λ k e. ap written_length e;
           buffer = put (length (plan_page_set s)) (plan_page_set s) b refl (ltb-false _ _ h);
         }
 

@@ -1,65 +1,44 @@
 -- Demand 1: "a refused call returns the state unchanged and writes nothing into lent memory", of every image, state, number, buffer, message
 -- and reading. It speaks of the definitions that the contracts cite, in their numbers: "For an answer that is an enum, a definition gives
 -- this paper's number and values for each case. The promises use that definition."
-use Rattle.std.specs.Prelude.{ℕ, ◌≤◌, ◌≡◌, ◌≢◌, List, false, length, drop}
-use Rattle.std.proofs.Math.Option.{Option, none, some}
+use Rattle.refusal.specs.Refusal.{refused_number, refused_offset, written_length}
+use Rattle.refusal.specs.declared.Refusal.{Refusal}
+use Rattle.std.specs.Prelude.{ℕ, ◌≤◌, ◌≡◌, ◌≢◌, List, false, length, drop, Option, Some, None, Result, Ok, Err, ⊤}
 use Rattle.records.specs.declared.Record.{Record}
 use Rattle.rules.specs.Check.{verdict_of, IsPlan}
-use Rattle.rules.specs.declared.Verdict.{Verdict}
-use Rattle.rules.specs.declared.Verdict.TheVariants.{Refused}
 use Rattle.pieces.specs.Pieces.{verdict_by}
 use Rattle.pieces.specs.declared.Stage.{Stage}
 use Rattle.pieces.specs.declared.Stage.TheVariants.{Open, Ended, Faulty}
 use Rattle.pieces.specs.declared.CheckState.{CheckState}
 use Rattle.writer.specs.Write.{answer_of, buffer_by}
-use Rattle.writer.specs.declared.Written.{Written}
-use Rattle.writer.specs.declared.Written.TheVariants.{Length, Refused as WriteRefused}
 use Rattle.rewrite.specs.Rewrite.{answer_by as rewrite_answer, buffer_by as rewrite_buffer}
-use Rattle.rewrite.specs.declared.Rewritten.{Rewritten}
-use Rattle.rewrite.specs.declared.Rewritten.TheVariants.{Length as Copied, Refused as CopyRefused}
 use Rattle.paper.specs.Print.{answer_by as print_answer, buffer_by as print_buffer}
-use Rattle.paper.specs.Numbers.{printed_number, printed_offset, printed_length}
-use Rattle.paper.specs.declared.Printed.{Printed}
-use Rattle.paper.specs.declared.Printed.TheVariants.{Length as Pages, Refused as PrintRefused}
 use Rattle.messages.specs.Message.{message_bytes, fits_at, put_at}
 use Rattle.messages.specs.declared.Message.{Message}
 use Rattle.water.specs.declared.Flow.{Flow}
-use Rattle.modules.specs.Numbers.{reply_number, called_number, called_offset}
+use Rattle.modules.specs.Numbers.{reply_number}
 use Rattle.modules.specs.Procedure.{respond_of, tick_of}
 use Rattle.modules.specs.declared.Own.{Own}
-use Rattle.modules.specs.declared.Turn.{Turn}
-use Rattle.modules.specs.declared.Turn.TheVariants.{Event}
-use Rattle.modules.specs.declared.Called.{Called}
-use Rattle.modules.specs.declared.Called.TheVariants.{Refused as CallRefused}
-use Rattle.modules.specs.declared.Reply.TheVariants.{Taken, Refused as ReplyRefused}
 use Rattle.modules.specs.declared.Replied.{Replied}
 use Rattle.device.specs.Device.{start_call, turn_call, respond_call, tick_call}
-use Rattle.device.specs.Numbers.{turning_number, turning_offset, turning_event}
+use Rattle.device.specs.Numbers.{turning_event}
 use Rattle.device_states.specs.declared.Device.{Device}
-use Rattle.device.specs.declared.Turning.{Turning}
-use Rattle.device.specs.declared.Turning.TheVariants.{Done as TurnDone, Refused as TurnRefused}
 use Rattle.device.specs.declared.DeviceTurned.{DeviceTurned}
 use Rattle.device.specs.declared.DeviceCalled.{DeviceCalled}
 use Rattle.permits.specs.Module.{StepCall, module_step, module_deliver, module_respond, module_tick, module_start}
 use Rattle.permits.specs.Supervisor.{ServeCall, supervisor_step, supervisor_deliver, supervisor_start}
-use Rattle.permits.specs.Numbers.{stepped_number, stepped_offset, stepped_bytes, served_number, served_offset, served_bytes}
+use Rattle.permits.specs.Numbers.{stepped_bytes, served_bytes}
 use Rattle.permits.specs.declared.Module.{Module}
 use Rattle.permits.specs.declared.ModuleCalled.{ModuleCalled}
 use Rattle.permits.specs.declared.Stepped.{Stepped}
-use Rattle.permits.specs.declared.Stepped.TheVariants.{Turns, Bids, Waits, Refused as StepRefused}
+use Rattle.permits.specs.declared.Stepped.TheVariants.{Turns, Bids, Waits}
 use Rattle.permits.specs.declared.Supervisor.{Supervisor}
 use Rattle.permits.specs.declared.SupervisorCalled.{SupervisorCalled}
 use Rattle.permits.specs.declared.Served.{Served}
-use Rattle.permits.specs.declared.Served.TheVariants.{Sends, Waits as ServedWaits, Refused as ServeRefused}
+use Rattle.permits.specs.declared.Served.TheVariants.{Sends, Waits as ServedWaits}
 use Rattle.blocking.specs.Blocking.{Told}
-use Rattle.blocking.specs.Numbers.{blocking_number, blocking_offset, blocking_length}
-use Rattle.blocking.specs.declared.Blocking.{Blocking}
-use Rattle.blocking.specs.declared.Blocking.TheVariants.{Free, Stuck, Refused as StuckRefused}
+use Rattle.blocking.specs.Numbers.{blocking_length}
 use Rattle.counting.specs.Counting.{Told as CountsTold}
-use Rattle.counting.specs.Numbers.{counting_number, counting_offset, counting_length}
-use Rattle.counting.specs.declared.Counting.{Counting}
-use Rattle.counting.specs.declared.Counting.TheVariants.{Printed as Counted, Refused as CountRefused}
-use Rattle.refusals.specs.Numbers.{verdict_number, verdict_offset, written_number, written_offset, written_length, rewritten_number, rewritten_offset, rewritten_length}
 use Rattle.refusals.specs.Table as Table
 use Rattle.refusals.specs.Table.{CallKind, Gives}
 
@@ -79,15 +58,15 @@ pub record OffsetRight (n o : ℕ) : Type 0 where
   pub long : n ≡ 1 → o ≡ 0
   pub call : 9 ≤ n → o ≡ 0
 
--- an answer a, by its call, the definitions of its number and its offset, and its case of a refusal
-pub record Answer {E : Type 0} (c : CallKind) (number offset : E → ℕ) (refusal : ℕ → ℕ → E) (a : E) : Type 0 where
+-- an answer a, by its call
+pub record Answer {X : Type 0} (c : CallKind) (a : Result X Refusal) : Type 0 where
   -- a refusal has one of the numbers that its call may give
-  pub numbered : (n o : ℕ) → a ≡ refusal n o → Gives c n
-  pub offset_right : OffsetRight (number a) (offset a)
+  pub numbered : (e : Refusal) → a ≡ Err e → Gives c e.number
+  pub offset_right : OffsetRight (refused_number a) (refused_offset a)
   -- the definitions give what the refusal holds, and 0 and 0 for what is accepted
-  pub number_is : (n o : ℕ) → a ≡ refusal n o → number a ≡ n
-  pub offset_is : (n o : ℕ) → a ≡ refusal n o → offset a ≡ o
-  pub accepted : ((n o : ℕ) → a ≢ refusal n o) → (number a ≡ 0) × (offset a ≡ 0)
+  pub number_is : (e : Refusal) → a ≡ Err e → refused_number a ≡ e.number
+  pub offset_is : (e : Refusal) → a ≡ Err e → refused_offset a ≡ e.offset
+  pub accepted : ((e : Refusal) → a ≢ Err e) → (refused_number a ≡ 0) × (refused_offset a ≡ 0)
 
 -- the definition of a value gives what the answer a holds: k if a is that case of k
 abbrev pub Held : {E : Type 0} → (E → ℕ) → (ℕ → E) → E → Type 0
@@ -95,8 +74,8 @@ Held value case a = (k : ℕ) → a ≡ case k → value a ≡ k
 
 -- the same of a value that no other case has
 pub record HeldAlone {E : Type 0} (value : E → Option ℕ) (case : ℕ → E) (a : E) : Type 0 where
-  pub is : (k : ℕ) → a ≡ case k → value a ≡ some k
-  pub otherwise : ((k : ℕ) → a ≢ case k) → value a ≡ none
+  pub is : (k : ℕ) → a ≡ case k → value a ≡ Some k
+  pub otherwise : ((k : ℕ) → a ≢ case k) → value a ≡ None
 
 -- "a refused call returns the state unchanged": x is given and y returned, with the number n
 abbrev pub Unchanged : {A : Type 0} → ℕ → A → A → Type 0
@@ -112,65 +91,65 @@ pub record Lent (n k : ℕ) (b c : List ℕ) : Type 0 where
 
 -- ---- each kind of answer
 
-abbrev pub CheckAnswer : Verdict → Type 0
-CheckAnswer a = Answer Table.check verdict_number verdict_offset Refused a
+abbrev pub CheckAnswer : Result ⊤ Refusal → Type 0
+CheckAnswer a = Answer Table.check a
 
-abbrev pub WriteAnswer : Written → Type 0
-WriteAnswer a = Answer Table.write_record written_number written_offset WriteRefused a
+abbrev pub WriteAnswer : Result ℕ Refusal → Type 0
+WriteAnswer a = Answer Table.write_record a
 
-abbrev pub RewriteAnswer : Rewritten → Type 0
-RewriteAnswer a = Answer Table.rewrite rewritten_number rewritten_offset CopyRefused a
+abbrev pub RewriteAnswer : Result ℕ Refusal → Type 0
+RewriteAnswer a = Answer Table.rewrite a
 
-abbrev pub PrintAnswer : Printed → Type 0
-PrintAnswer a = Answer Table.print_plan printed_number printed_offset PrintRefused a
+abbrev pub PrintAnswer : Result ℕ Refusal → Type 0
+PrintAnswer a = Answer Table.print_plan a
 
-abbrev pub CallAnswer : CallKind → Called → Type 0
-CallAnswer c a = Answer c called_number called_offset CallRefused a
+abbrev pub CallAnswer : CallKind → Result ⊤ Refusal → Type 0
+CallAnswer c a = Answer c a
 
-abbrev pub TurnAnswer : Turning → Type 0
-TurnAnswer a = Answer Table.turn turning_number turning_offset TurnRefused a
+abbrev pub TurnAnswer : Result (Option ℕ) Refusal → Type 0
+TurnAnswer a = Answer Table.turn a
 
-abbrev pub StepAnswer : Stepped → Type 0
-StepAnswer a = Answer Table.module_step stepped_number stepped_offset StepRefused a
+abbrev pub StepAnswer : Result Stepped Refusal → Type 0
+StepAnswer a = Answer Table.module_step a
 
-abbrev pub ServeAnswer : Served → Type 0
-ServeAnswer a = Answer Table.supervisor_step served_number served_offset ServeRefused a
+abbrev pub ServeAnswer : Result Served Refusal → Type 0
+ServeAnswer a = Answer Table.supervisor_step a
 
-abbrev pub BlockingAnswer : Blocking → Type 0
-BlockingAnswer a = Answer Table.find_stuck blocking_number blocking_offset StuckRefused a
+abbrev pub BlockingAnswer : Result (Option ℕ) Refusal → Type 0
+BlockingAnswer a = Answer Table.find_stuck a
 
-abbrev pub CountingAnswer : Counting → Type 0
-CountingAnswer a = Answer Table.count_words counting_number counting_offset CountRefused a
+abbrev pub CountingAnswer : Result ℕ Refusal → Type 0
+CountingAnswer a = Answer Table.count_words a
 
 -- ---- one call: its answer, its state and its buffer
 
-pub record Write (r : Record) (b : List ℕ) (a : Written) : Type 0 where
+pub record Write (r : Record) (b : List ℕ) (a : Result ℕ Refusal) : Type 0 where
   pub answer : WriteAnswer a
   -- "The writer of one record gives 5 or 15 only, at offset 0."
-  pub offset : written_offset a ≡ 0
-  pub bytes : Held written_length Length a
-  pub buffer : Lent (written_number a) (written_length a) b (buffer_by a r b)
+  pub offset : refused_offset a ≡ 0
+  pub bytes : Held written_length Ok a
+  pub buffer : Lent (refused_number a) (written_length a) b (buffer_by a r b)
 
-pub record Rewrite (s b : List ℕ) (a : Rewritten) : Type 0 where
+pub record Rewrite (s b : List ℕ) (a : Result ℕ Refusal) : Type 0 where
   pub answer : RewriteAnswer a
-  pub bytes : Held rewritten_length Copied a
-  pub buffer : Lent (rewritten_number a) (rewritten_length a) b (rewrite_buffer a s b)
+  pub bytes : Held written_length Ok a
+  pub buffer : Lent (refused_number a) (written_length a) b (rewrite_buffer a s b)
 
-pub record Print (s b : List ℕ) (a : Printed) : Type 0 where
+pub record Print (s b : List ℕ) (a : Result ℕ Refusal) : Type 0 where
   pub answer : PrintAnswer a
-  pub bytes : Held printed_length Pages a
-  pub buffer : Lent (printed_number a) (printed_length a) b (print_buffer a s b)
+  pub bytes : Held written_length Ok a
+  pub buffer : Lent (refused_number a) (written_length a) b (print_buffer a s b)
 
 -- a reply of a module's own part, which has no offset
 pub record OwnCall (k : CallKind) (own : Own) (c : Replied) : Type 0 where
-  pub numbered : (n : ℕ) → c.reply ≡ ReplyRefused n → Gives k n
-  pub number_is : Held reply_number ReplyRefused c.reply
-  pub accepted : c.reply ≡ Taken → reply_number c.reply ≡ 0
+  pub numbered : (n : ℕ) → c.reply ≡ Err n → Gives k n
+  pub number_is : Held reply_number Err c.reply
+  pub accepted : c.reply ≡ Ok tt → reply_number c.reply ≡ 0
   pub state : Unchanged (reply_number c.reply) own c.own
 
-pub record Call {A : Type 0} (k : CallKind) (x : A) (a : Called) (y : A) : Type 0 where
+pub record Call {A : Type 0} (k : CallKind) (x : A) (a : Result ⊤ Refusal) (y : A) : Type 0 where
   pub answer : CallAnswer k a
-  pub state : Unchanged (called_number a) x y
+  pub state : Unchanged (refused_number a) x y
 
 abbrev pub DeviceCall : CallKind → Device → DeviceCalled → Type 0
 DeviceCall k d c = Call k d c.answer c.device
@@ -183,52 +162,52 @@ SupervisorCall k y c = Call k y c.answer c.state
 
 pub record DeviceTurn (d : Device) (c : DeviceTurned) : Type 0 where
   pub answer : TurnAnswer c.answer
-  pub state : Unchanged (turning_number c.answer) d c.device
+  pub state : Unchanged (refused_number c.answer) d c.device
   -- the event that fired; a refused turn has none
-  pub event : HeldAlone turning_event (λ e. TurnDone (Event e)) c.answer
+  pub event : HeldAlone turning_event (λ e. Ok (Some e)) c.answer
 
 -- the bytes that a step wrote; `Lent` says that a refused one wrote none
-pub record StepBytes (a : Stepped) : Type 0 where
-  pub turned : (t : Turn) → Held stepped_bytes (Turns t) a
-  pub bids : (v : ℕ) → Held stepped_bytes (Bids v) a
-  pub waiting : a ≡ Waits → stepped_bytes a ≡ 0
+pub record StepBytes (a : Result Stepped Refusal) : Type 0 where
+  pub turned : (t : Option ℕ) → Held stepped_bytes (λ (n : ℕ). Ok (Turns t n)) a
+  pub bids : (v : ℕ) → Held stepped_bytes (λ (n : ℕ). Ok (Bids v n)) a
+  pub waiting : a ≡ Ok Waits → stepped_bytes a ≡ 0
 
-pub record ServeBytes (a : Served) : Type 0 where
-  pub sends : (m : ℕ) → Held served_bytes (Sends m) a
-  pub waiting : a ≡ ServedWaits → served_bytes a ≡ 0
+pub record ServeBytes (a : Result Served Refusal) : Type 0 where
+  pub sends : (m : ℕ) → Held served_bytes (λ (n : ℕ). Ok (Sends m n)) a
+  pub waiting : a ≡ Ok ServedWaits → served_bytes a ≡ 0
 
 pub record ModuleStep (x : Module) (b : List ℕ) (c : StepCall) : Type 0 where
   pub answer : StepAnswer c.answer
-  pub state : Unchanged (stepped_number c.answer) x c.state
+  pub state : Unchanged (refused_number c.answer) x c.state
   pub bytes : StepBytes c.answer
-  pub buffer : Lent (stepped_number c.answer) (stepped_bytes c.answer) b c.buffer
+  pub buffer : Lent (refused_number c.answer) (stepped_bytes c.answer) b c.buffer
 
 pub record SupervisorStep (y : Supervisor) (b : List ℕ) (c : ServeCall) : Type 0 where
   pub answer : ServeAnswer c.answer
-  pub state : Unchanged (served_number c.answer) y c.state
+  pub state : Unchanged (refused_number c.answer) y c.state
   pub bytes : ServeBytes c.answer
-  pub buffer : Lent (served_number c.answer) (served_bytes c.answer) b c.buffer
+  pub buffer : Lent (refused_number c.answer) (served_bytes c.answer) b c.buffer
 
 -- the answer whether a plan ever gets stuck, with the buffer before and after
-pub record FindStuck (b : List ℕ) (a : Blocking) (c : List ℕ) : Type 0 where
+pub record FindStuck (b : List ℕ) (a : Result (Option ℕ) Refusal) (c : List ℕ) : Type 0 where
   pub answer : BlockingAnswer a
-  pub bytes : Held blocking_length Stuck a
+  pub bytes : Held blocking_length (λ (n : ℕ). Ok (Some n)) a
   -- document 02, 2.1: "If so, write nothing"
-  pub free : a ≡ Free → blocking_length a ≡ 0
-  pub buffer : Lent (blocking_number a) (blocking_length a) b c
+  pub free : a ≡ Ok None → blocking_length a ≡ 0
+  pub buffer : Lent (refused_number a) (blocking_length a) b c
 
 -- the answer how many words lead to each joint state, with the buffer before and after
-pub record CountWords (b : List ℕ) (a : Counting) (c : List ℕ) : Type 0 where
+pub record CountWords (b : List ℕ) (a : Result ℕ Refusal) (c : List ℕ) : Type 0 where
   pub answer : CountingAnswer a
-  pub bytes : Held counting_length Counted a
-  pub buffer : Lent (counting_number a) (counting_length a) b c
+  pub bytes : Held written_length Ok a
+  pub buffer : Lent (refused_number a) (written_length a) b c
 
 -- ---- every call, party by party. A start is given no state, and the check lends nothing.
 
 pub record Checker : Type 0 where
   pub check : (image : List ℕ) → CheckAnswer (verdict_of image)
   -- "A plan is accepted if its check gives no number."
-  pub accepted : (image : List ℕ) → verdict_number (verdict_of image) ≡ 0 → IsPlan image
+  pub accepted : (image : List ℕ) → refused_number (verdict_of image) ≡ 0 → IsPlan image
   -- document 02, 2.3: the answer of a check in pieces. A piece is never refused, and nothing is written into it
   pub pieces : (k : CheckState) → OfCheck k.stage → CheckAnswer (verdict_by k)
 
@@ -265,8 +244,8 @@ pub record Supervisors : Type 0 where
 
 -- the analyses of a plan, of every answer that their contracts allow
 pub record Analyses : Type 0 where
-  pub find_stuck : (image b : List ℕ) (a : Blocking) (c : List ℕ) → Told image b a c → FindStuck b a c
-  pub count_words : (image : List ℕ) (m : ℕ) (b : List ℕ) (a : Counting) (c : List ℕ) → CountsTold image m b a c → CountWords b a c
+  pub find_stuck : (image b : List ℕ) (a : Result (Option ℕ) Refusal) (c : List ℕ) → Told image b a c → FindStuck b a c
+  pub count_words : (image : List ℕ) (m : ℕ) (b : List ℕ) (a : Result ℕ Refusal) (c : List ℕ) → CountsTold image m b a c → CountWords b a c
 
 -- "a refused call returns the state unchanged and writes nothing into lent memory"
 pub record Refusals : Type 0 where

@@ -1,4 +1,5 @@
 -- The releases of a turn: their bytes, one after another.
+use Rattle.std.specs.Prelude.{Option, Some, None}
 use mathlib.Core.Path.{◌≡◌, refl, sym, ap, ap₂, ◌∙◌}
 use mathlib.Core.List.{List, [], ◌∷◌, ◌++◌, append-nil}
 use mathlib.Core.Bool.{Bool, true, false, cond, not}
@@ -15,8 +16,6 @@ use Rattle.bits.specs.Bit.{bit}
 use Rattle.bits.proofs.Laws.{bit_above, shr_none, ones_in_lem}
 use Rattle.records.specs.declared.Record.{Record}
 use Rattle.plan.specs.Plan.{in_alphabet}
-use Rattle.modules.specs.declared.Turn.{Turn}
-use Rattle.modules.specs.declared.Turn.TheVariants.{Event, Nothing}
 use Rattle.messages.specs.Message.{no_event, release_size, message_bytes, written, fits_at, put_at}
 use Rattle.messages.specs.Write.{Wrote}
 use Rattle.messages.specs.declared.Message.TheVariants.{Release}
@@ -29,12 +28,12 @@ use Rattle.releasing.specs.Released.{Released}
 
 -- ---- the event that a release carries
 
-module _ (rs : List Record) (v : ℕ) (t : Turn) where
-  pub event_none : t ≡ Nothing → 255 ≡ event_for rs v t
+module _ (rs : List Record) (v : ℕ) (t : Option ℕ) where
+  pub event_none : t ≡ None → 255 ≡ event_for rs v t
   unfolding event_for
   event_none q = ap (event_for rs v) (sym q)
 
-  module _ {a : Bool} {e : ℕ} (q : t ≡ Event e) (f : a ≡ in_alphabet rs v e) where
+  module _ {a : Bool} {e : ℕ} (q : t ≡ Some e) (f : a ≡ in_alphabet rs v e) where
     pub event_in : a ≡ true → e ≡ event_for rs v t
     unfolding event_for
     event_in h = ap (λ (b : Bool). cond b e no_event) (sym h ∙ f) ∙ ap (event_for rs v) (sym q)
@@ -43,7 +42,7 @@ module _ (rs : List Record) (v : ℕ) (t : Turn) where
     unfolding event_for
     event_out h = ap (λ (b : Bool). cond b e no_event) (sym h ∙ f) ∙ ap (event_for rs v) (sym q)
 
-pub released_by : (rs : List Record) (m v : ℕ) (t : Turn) (at : ℕ) (b : List ℕ) {e : ℕ} {r : Bool} {after : List ℕ} → e ≡ event_for rs v t → Wrote (Release m v e) at b r after
+pub released_by : (rs : List Record) (m v : ℕ) (t : Option ℕ) (at : ℕ) (b : List ℕ) {e : ℕ} {r : Bool} {after : List ℕ} → e ≡ event_for rs v t → Wrote (Release m v e) at b r after
     → after ≡ put_at (message_bytes (Release m v (event_for rs v t))) at b
 released_by rs m v t at b f w = w.buffer ∙ ap (λ (x : ℕ). put_at (message_bytes (Release m v x)) at b) f
 
@@ -59,7 +58,7 @@ written_more p q b h =
     (ap₂ (λ (x y : List ℕ). x ++ q ++ y) (take-append_seam p (drop (length p) b)) (drop-append-add p (drop (length p) b) (length q) ∙ drop-drop (length q) (length p) b)
     ∙ ap (λ (n : ℕ). p ++ q ++ drop n b) (sym (length-append p q)))
 
-module _ (rs : List Record) (m mask : ℕ) (t : Turn) where
+module _ (rs : List Record) (m mask : ℕ) (t : Option ℕ) where
   -- the releases to those below v, and the one to v
   abbrev pub sent : ℕ → List ℕ
   sent v = bytes_of_messages (releases_in rs m mask t v)
@@ -162,7 +161,7 @@ module _ (rs : List Record) (m mask : ℕ) (t : Turn) where
           }
 
 -- the room for all releases: n is their bytes
-module _ (rs : List Record) (m mask : ℕ) (t : Turn) (b : List ℕ) {n : ℕ} (s : mask < 2 ^ 32) (f : n ≡ release_size * ones mask) where
+module _ (rs : List Record) (m mask : ℕ) (t : Option ℕ) (b : List ℕ) {n : ℕ} (s : mask < 2 ^ 32) (f : n ≡ release_size * ones mask) where
   long : length (sent rs m mask t 32) ≡ n
   long = sent_count rs m mask t s ∙ sym f
 

@@ -10,14 +10,13 @@ ghost use Rattle.permits.specs.Module.{event_for};
 ghost use Rattle.releasing.specs.Released.{release_bytes, Released};
 
 use messages::Message;
-use modules::Turn;
 use places::Places;
 
 // The event that a release to a supervisor carries, or 255.
-fn event_for(image: &[u8], places: Places, v: u8, t: Turn) -> u8
+fn event_for(image: &[u8], places: Places, v: u8, t: Option<u8>) -> u8
     ensures { result ≡ event_for (records_by image.now places) v t }
 {
-    let Turn::Event(e) = t else {
+    let Some(e) = t else {
         return 255;
     };
     if plan::in_alphabet(image, places, v, e) {
@@ -28,7 +27,15 @@ fn event_for(image: &[u8], places: Places, v: u8, t: Turn) -> u8
 }
 
 // The release to a supervisor at an offset of the buffer.
-fn release_to(image: &[u8], places: Places, m: u8, v: u8, t: Turn, buffer: &mut [u8], at: usize)
+fn release_to(
+    image: &[u8],
+    places: Places,
+    m: u8,
+    v: u8,
+    t: Option<u8>,
+    buffer: &mut [u8],
+    at: usize,
+)
     ensures { buffer.new ≡ put_at (message_bytes (Release m v (event_for (records_by image.now places) v t))) at buffer.old }
 {
     let event = event_for(image, places, v, t);
@@ -41,7 +48,7 @@ fn release_to(image: &[u8], places: Places, m: u8, v: u8, t: Turn, buffer: &mut 
 }
 
 // The releases to all supervisors of a mask, in ascending order.
-fn release_all(image: &[u8], places: Places, m: u8, mask: u32, t: Turn, buffer: &mut [u8])
+fn release_all(image: &[u8], places: Places, m: u8, mask: u32, t: Option<u8>, buffer: &mut [u8])
     requires { length (release_bytes (records_by image.now places) m mask t) ≤ length buffer.old }
     ensures { buffer.new ≡ written (release_bytes (records_by image.now places) m mask t) buffer.old }
 {
@@ -67,7 +74,14 @@ pub fn length_of(mask: u32) -> usize
 }
 
 // The releases of a module's turn to the supervisors of a mask into the buffer, if there is room for them.
-pub fn release(image: &[u8], places: Places, m: u8, mask: u32, t: Turn, buffer: &mut [u8]) -> bool
+pub fn release(
+    image: &[u8],
+    places: Places,
+    m: u8,
+    mask: u32,
+    t: Option<u8>,
+    buffer: &mut [u8],
+) -> bool
     ensures { Released (records_by image.now places) m mask t buffer.old result buffer.new }
 {
     let n = length_of(mask);

@@ -8,23 +8,15 @@ ghost use Rattle.records.specs.Range.{in_range};
 ghost use Rattle.rules.specs.Check.{IsPlan};
 ghost use Rattle.rewrite.specs.Rewrite.{plan_bytes, Rewrote};
 
-use reader::Read;
 use records::Record;
-use rules::Verdict;
-
-// The length written, or the number and the offset.
-#[derive(Clone, Copy)]
-pub enum Rewritten {
-    Length(usize),
-    Refused(u8, usize),
-}
+use refusal::Refusal;
 
 // The record's bytes from an offset of the buffer.
 fn put_at(r: Record, buf: &mut [u8], i: usize)
     requires { (in_range r ≡ true) × (i + size_of r ≤ length buf.old) }
     ensures { buf.new ≡ take i buf.old ++ bytes_of r ++ drop (i + size_of r) buf.old }
 {
-    writer::write(r, &mut buf[i..]);
+    let _ = writer::write(r, &mut buf[i..]);
 }
 
 // The records of an accepted plan from the buffer's start.
@@ -36,7 +28,7 @@ fn put_records(image: &[u8], buf: &mut [u8])
     // No `while let` over both fields: where such a pattern fails, the proof is not told that no record was read.
     loop {
         let on = walk::read_on(image, i);
-        let Read::Whole(r, _) = on.read else {
+        let Ok((r, _)) = on.read else {
             return;
         };
         put_at(r, &mut *buf, i);
@@ -44,18 +36,18 @@ fn put_records(image: &[u8], buf: &mut [u8])
     }
 }
 
-// Writes each record of an accepted plan. Refused images and a short buffer, number 15, leave the buffer as it was.
-pub fn rewrite(image: &[u8], buf: &mut [u8]) -> Rewritten
+// Writes each record of an accepted plan: the length written, or the number and the offset. Refused images and a short buffer, number 15, leave the
+// buffer as it was.
+pub fn rewrite(image: &[u8], buf: &mut [u8]) -> Result<usize, Refusal>
     ensures { Rewrote image.now buf.old result buf.new }
 {
-    match checker::check(image) {
-        Verdict::Refused(n, o) => Rewritten::Refused(n, o),
-        Verdict::Accepted => {
-            if buf.len() < image.len() {
-                return Rewritten::Refused(15, 0);
-            }
-            put_records(image, &mut *buf);
-            Rewritten::Length(image.len())
-        }
+    checker::check(image)?;
+    if buf.len() < image.len() {
+        return Err(Refusal {
+            number: 15,
+            offset: 0,
+        });
     }
+    put_records(image, &mut *buf);
+    Ok(image.len())
 }

@@ -1,4 +1,5 @@
 -- An image is the bytes of its records, one after another, as far as it can be read.
+use Rattle.std.specs.Prelude.{Result, Ok, Err}
 use mathlib.Core.Path.{◌≡◌, refl, sym, ap, ◌∙◌, subst}
 use mathlib.Core.List.{List}
 use Prim.Native.Nat.{ℕ, ◌+◌, ◌-◌, ◌≤◌}
@@ -10,8 +11,8 @@ use Rattle.records.specs.Bytes.{bytes_of_all}
 use Rattle.records.specs.declared.Record.{Record}
 use Rattle.reader.specs.Read.{read_at}
 use Rattle.reader.specs.Walk.{Walk, more, stop, walk_from, records_in, stop_of, records_of}
-use Rattle.reader.specs.declared.Read.{Read}
-use Rattle.reader.specs.declared.Read.TheVariants.{Whole, Unknown, Cut, Nothing}
+use Rattle.reader.specs.declared.NoRecord.{NoRecord}
+use Rattle.reader.specs.declared.NoRecord.TheVariants.{Unknown, Cut, Nothing}
 use Rattle.reader.proofs.Reading.{walks, next}
 use Rattle.roundtrip.specs.Fits.{Bytes}
 use Rattle.roundtrip.proofs.OneRecord.{written_read}
@@ -33,7 +34,7 @@ module _ (s : List ℕ) (g : Bytes s) where
       let z : i - i ≡ 0 = omega arith in
       record { ahead = omega arith; bytes = rw z }
 
-  goes_on : (i n : ℕ) (r : Record) (w : Walk) → read_at s i ≡ Whole r n → Apart s n w → Apart s i (more i r w)
+  goes_on : (i n : ℕ) (r : Record) (w : Walk) → read_at s i ≡ Ok (r, n) → Apart s n w → Apart s i (more i r w)
   unfolding stop_of records_in bytes_of_all
   goes_on i n r w e a =
       let b = written_read s i g e in
@@ -41,11 +42,11 @@ module _ (s : List ℕ) (g : Bytes s) where
       let k : (n - i) + (stop_of w - n) ≡ stop_of w - i = omega arith in
       record { ahead = omega arith; bytes = rw (b.bytes, a.bytes, ← k, take-add, drop-drop, h) }
 
-  by_read : (i : ℕ) (w : Walk) (x : Read) → read_at s i ≡ x → next s i x ≡ w → Rest s w → Apart s i w
-  by_read i w (Whole r n) p e f = subst (Apart s i) e (goes_on i n r (walk_from s n) p (subst (Rest s) (sym e) f n refl))
-  by_read i w Unknown p e f = subst (Apart s i) e (stops i 2)
-  by_read i w Cut p e f = subst (Apart s i) e (stops i 3)
-  by_read i w Nothing p e f = subst (Apart s i) e (stops i 3)
+  by_read : (i : ℕ) (w : Walk) (x : Result (Record × ℕ) NoRecord) → read_at s i ≡ x → next s i x ≡ w → Rest s w → Apart s i w
+  by_read i w (Ok (r, n)) p e f = subst (Apart s i) e (goes_on i n r (walk_from s n) p (subst (Rest s) (sym e) f n refl))
+  by_read i w (Err Unknown) p e f = subst (Apart s i) e (stops i 2)
+  by_read i w (Err Cut) p e f = subst (Apart s i) e (stops i 3)
+  by_read i w (Err Nothing) p e f = subst (Apart s i) e (stops i 3)
 
   apart : (w : Walk) (i : ℕ) → walk_from s i ≡ w → Apart s i w
   apart (more o r w) i e = by_read i (more o r w) (read_at s i) refl (sym (walks s i) ∙ e) (apart w)

@@ -1,4 +1,5 @@
 -- Laws of lists of records of which none is faulty.
+use Rattle.std.specs.Prelude.{Option, Some}
 use Prim.Native.Nat.{ℕ, suc, ◌≤◌, ◌<◌}
 use mathlib.Core.Path.{◌≡◌, refl, sym, ap, ◌∙◌, subst}
 use mathlib.Core.List.{List, [], ◌∷◌}
@@ -13,8 +14,6 @@ use Rattle.records.specs.Range.{in_range}
 use Rattle.records.specs.declared.Record.{Record}
 use Rattle.records.specs.declared.Record.TheVariants.{Head, Event, Module, ModuleMove, Supervisor, SupervisorMove, Disabling, Step, Marking, End}
 use Rattle.reader.specs.Find.{find_in}
-use Rattle.reader.specs.declared.Found.{Found}
-use Rattle.reader.specs.declared.Found.TheVariants.{It}
 use Rattle.rules.specs.LookUp.{field1, field2, field3, field_of, steps_of}
 use Rattle.rules.specs.Rules.{in_order, index_runs, names_declared, keeps_rules, all_declared}
 use Rattle.rules.specs.Check.{fault_of}
@@ -97,7 +96,7 @@ pub record Headed (rs : List Record) : Type 0 where
   pub modules : ℕ
   pub supervisors : ℕ
   pub events : ℕ
-  pub finds : find_in head_key rs ≡ It (Head modules supervisors events)
+  pub finds : find_in head_key rs ≡ Some (Head modules supervisors events)
   pub range : in_range (Head modules supervisors events) ≡ true
 
 pub headed : (r : Record) (rs : List Record) → Valid (r ∷ rs) → Headed (r ∷ rs)
@@ -111,7 +110,7 @@ headed r (p ∷ ps) v =
     record { modules = h.modules; supervisors = h.supervisors; events = h.events; finds = head_kept p ps r (passes (p ∷ ps) r v.0) ∙ h.finds; range = h.range }
 
 -- the head's counts are in range
-pub record Counted (f : Found) : Type 0 where
+pub record Counted (f : Option Record) : Type 0 where
   pub modules : (1 ≤ field_of field1 f) × (field_of field1 f ≤ 16)
   pub supervisors : field_of field2 f ≤ 32
   pub events : (1 ≤ field_of field3 f) × (field_of field3 f ≤ 64)

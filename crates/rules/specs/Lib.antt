@@ -1,5 +1,4 @@
 pub mod LookUp
 pub mod Rules
 pub mod Check
-pub mod Numbers
 pub mod Valid

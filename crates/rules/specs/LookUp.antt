@@ -1,10 +1,8 @@
 -- What records declare. Each look-up goes by kind and key over the records before the one that is judged, the latest first.
-use Rattle.std.specs.Prelude.{ℕ, zero, suc, List, [], ◌∷◌, Bool, cond, ◌&&◌, eqb, ltb}
+use Rattle.std.specs.Prelude.{ℕ, zero, suc, List, [], ◌∷◌, Bool, cond, ◌&&◌, eqb, ltb, Option, Some, None}
 use Rattle.records.specs.Key.{key_by, head_key, key_of}
 use Rattle.records.specs.declared.Record.{Record}
 use Rattle.records.specs.declared.Record.TheVariants.{Head, Event, Module, ModuleMove, Supervisor, SupervisorMove, Disabling, Step, Marking, End}
-use Rattle.reader.specs.declared.Found.{Found}
-use Rattle.reader.specs.declared.Found.TheVariants.{It, Missing}
 use Rattle.reader.specs.Find.{find_in, found}
 
 -- the first three one-byte fields of a record, and 0 where it has none
@@ -58,9 +56,9 @@ word_field (Marking m st) = 0
 word_field End = 0
 
 -- a field of the record that a look-up found, and 0 if it found none
-unfoldable pub field_of : (Record → ℕ) → Found → ℕ
-field_of f (It r) = f r
-field_of f Missing = 0
+unfoldable pub field_of : (Record → ℕ) → Option Record → ℕ
+field_of f (Some r) = f r
+field_of f None = 0
 
 -- the head's counts
 abbrev pub modules_of : List Record → ℕ
@@ -73,13 +71,13 @@ abbrev pub events_of : List Record → ℕ
 events_of rs = field_of field3 (find_in head_key rs)
 
 -- the records of an event, a module and a supervisor
-abbrev pub event_in : List Record → ℕ → Found
+abbrev pub event_in : List Record → ℕ → Option Record
 event_in rs e = find_in (key_by 0x11 e 0 0) rs
 
-abbrev pub module_in : List Record → ℕ → Found
+abbrev pub module_in : List Record → ℕ → Option Record
 module_in rs m = find_in (key_by 0x12 m 0 0) rs
 
-abbrev pub supervisor_in : List Record → ℕ → Found
+abbrev pub supervisor_in : List Record → ℕ → Option Record
 supervisor_in rs v = find_in (key_by 0x14 v 0 0) rs
 
 -- "Undeclared means not below the head's count, or without its record so far"

@@ -1,7 +1,6 @@
 -- A longer run of P on many devices, by computation: a bid overtakes the release that its module sent before it, so that the supervisor notes
 -- the module that it takes for the holder; the bid counts all the same, after the other module's.
-use Rattle.std.specs.Prelude.{◌≡◌, refl, true, List, [], ◌∷◌, ◌++◌}
-use Rattle.std.proofs.Math.Option.{none, some}
+use Rattle.std.specs.Prelude.{◌≡◌, refl, true, List, [], ◌∷◌, ◌++◌, Some, None}
 use Rattle.std.specs.Float.Ieee.{round, of_bits}
 use Rattle.bits.specs.Bit.{bit, all_below, put_bit, least, or_else, some_below, mask_of}
 use Rattle.words.specs.Word.{word_at, word_bytes}
@@ -75,8 +74,8 @@ pub record Overtaken : Type 0 where
   pub response_out : s4.supervisor_at 0 ≡ record { state = 1; noted = 0; holder = Out 1; last = 1 }
   pub last_release : under_way s4.sent ≡ (0x03 ∷ 1 ∷ 0 ∷ 3 ∷ []) ∷ []
   -- "at most once": the permit of module 1 is delivered, and a second delivery of it brings nothing
-  pub permit_delivered : at 10 s4.sent ≡ some (record { bytes = 0x02 ∷ 0 ∷ 1 ∷ 0 ∷ 0 ∷ 0 ∷ 0 ∷ 0 ∷ 0 ∷ 0 ∷ 0 ∷ []; delivered = true })
-  pub not_again : brought 10 s4.sent ≡ none
+  pub permit_delivered : at 10 s4.sent ≡ Some (record { bytes = 0x02 ∷ 0 ∷ 1 ∷ 0 ∷ 0 ∷ 0 ∷ 0 ∷ 0 ∷ 0 ∷ 0 ∷ 0 ∷ []; delivered = true })
+  pub not_again : brought 10 s4.sent ≡ None
   -- the turns taken, and what the one device answers to them
   pub events : C.record_of_events (C.seen plan_p (start plan_p) (overtaking ++ other ++ served ++ response)) ≡ 2 ∷ 0 ∷ 3 ∷ []
   pub fed : C.fed plan_p (start plan_p) (overtaking ++ other ++ served ++ response)

@@ -1,14 +1,8 @@
 -- Document 01, "The two-valve sheet": the lines that the listing program prints, each with its line feed.
-use Rattle.std.specs.Prelude.{ℕ, List, ◌++◌, map, take}
+use Rattle.refusal.specs.declared.Refusal.{Refusal}
+use Rattle.std.specs.Prelude.{ℕ, List, ◌++◌, map, take, Option, Some, None, Result, Ok, Err, ⊤}
 use Rattle.modules.specs.declared.Own.{Own}
-use Rattle.modules.specs.declared.Turn.TheVariants.{Event, Nothing}
-use Rattle.modules.specs.declared.Called.{Called}
-use Rattle.modules.specs.declared.Called.TheVariants.{Done, Refused as CallRefused}
-use Rattle.modules.specs.Numbers.{called_number}
 use Rattle.device_states.specs.declared.Device.{Device}
-use Rattle.device.specs.declared.Turning.{Turning}
-use Rattle.device.specs.declared.Turning.TheVariants.{Done as TurnDone, Refused as TurnRefused}
-use Rattle.device.specs.Numbers.{turning_number}
 use Rattle.texts.specs.Ascii.{ascii}
 use Rattle.texts.specs.Numbers.{spaced, spaced_all}
 
@@ -25,15 +19,15 @@ unfoldable pub refused_line : ℕ → List ℕ
 refused_line n = ascii "refused" ++ spaced n ++ ascii "\n"
 
 -- "turn 1 event 2", "turn 0 none"
-unfoldable pub turn_line : ℕ → Turning → List ℕ
-turn_line m (TurnDone (Event e)) = ascii "turn" ++ spaced m ++ ascii " event" ++ spaced e ++ ascii "\n"
-turn_line m (TurnDone Nothing) = ascii "turn" ++ spaced m ++ ascii " none\n"
-turn_line m (TurnRefused n o) = refused_line (turning_number (TurnRefused n o))
+unfoldable pub turn_line : ℕ → Result (Option ℕ) Refusal → List ℕ
+turn_line m (Ok (Some e)) = ascii "turn" ++ spaced m ++ ascii " event" ++ spaced e ++ ascii "\n"
+turn_line m (Ok None) = ascii "turn" ++ spaced m ++ ascii " none\n"
+turn_line m (Err e) = refused_line e.number
 
 -- "response 1 queued 3"
-unfoldable pub response_line : ℕ → ℕ → Called → List ℕ
-response_line m e Done = ascii "response" ++ spaced m ++ ascii " queued" ++ spaced e ++ ascii "\n"
-response_line m e (CallRefused n o) = refused_line (called_number (CallRefused n o))
+unfoldable pub response_line : ℕ → ℕ → Result ⊤ Refusal → List ℕ
+response_line m e (Ok u) = ascii "response" ++ spaced m ++ ascii " queued" ++ spaced e ++ ascii "\n"
+response_line m e (Err why) = refused_line why.number
 
 abbrev pub states_of : List Own → List ℕ
 states_of ws = map (λ (w : Own). w.state) ws

@@ -1,23 +1,21 @@
 -- Document 01, "The two-valve sheet": "`t M` is a turn of module M, `r M E` a queued response E. .. A script line is its letter and decimal
 -- numbers without leading zeros, one space before each, and a line feed (the last may lack it); any other is 10", and "numbers over 255 are 10".
-use Rattle.std.specs.Prelude.{ℕ, ◌+◌, ◌≡◌, List, Bool, true, false, cond, ◌&&◌, take, drop}
+use Rattle.std.specs.Prelude.{ℕ, ◌+◌, ◌≡◌, List, Bool, true, false, cond, ◌&&◌, take, drop, Option, Some, None}
 use Prim.Native.Char.{code}
-use Rattle.bits.specs.declared.Maybe.{Maybe}
-use Rattle.bits.specs.declared.Maybe.TheVariants.{Just, Nothing}
 use Rattle.lines.specs.declared.Partial.{Partial}
 use Rattle.lines.specs.Number.{number_of, space_in, starts}
 use Rattle.lines.specs.Partial.{partly, TakenWhole}
 use Rattle.script.specs.declared.Line.{Line}
 use Rattle.script.specs.declared.Line.TheVariants.{Turn, Response, Misshapen}
 
-abbrev pub turn_by : Maybe → Line
-turn_by (Just m) = Turn m
-turn_by Nothing = Misshapen
+abbrev pub turn_by : Option ℕ → Line
+turn_by (Some m) = Turn m
+turn_by None = Misshapen
 
-abbrev pub response_by : Maybe → Maybe → Line
-response_by (Just m) (Just e) = Response m e
-response_by (Just m) Nothing = Misshapen
-response_by Nothing e = Misshapen
+abbrev pub response_by : Option ℕ → Option ℕ → Line
+response_by (Some m) (Some e) = Response m e
+response_by (Some m) None = Misshapen
+response_by None e = Misshapen
 
 -- `M E`
 unfoldable pub pair_of : List ℕ → Line
@@ -40,9 +38,9 @@ line_number (Response m e) = 0
 line_number Misshapen = 10
 
 -- whether a number stands there
-abbrev pub given : Maybe → Bool
-given (Just n) = true
-given Nothing = false
+abbrev pub given : Option ℕ → Bool
+given (Some n) = true
+given None = false
 
 -- whether bytes are `M E`, and whether they are a line
 unfoldable pub is_pair : List ℕ → Bool

@@ -1,8 +1,6 @@
 -- Document 01, "The two-valve sheet": its lines and some others, each by computation.
-use Rattle.std.specs.Prelude.{◌≡◌, refl}
-use Rattle.modules.specs.declared.Called.TheVariants.{Done, Refused as CallRefused}
-use Rattle.modules.specs.declared.Turn.TheVariants.{Event, Nothing}
-use Rattle.device.specs.declared.Turning.TheVariants.{Done as TurnDone, Refused as TurnRefused}
+use Rattle.refusal.specs.Refusal.{refusal}
+use Rattle.std.specs.Prelude.{◌≡◌, refl, Some, None, Ok, Err}
 use Rattle.device_states.specs.States.{empty_device}
 use Rattle.lines.specs.Number.{number_from, begins, up_to, number_up_to, number_of, space_in}
 use Rattle.script.specs.declared.Line.TheVariants.{Turn, Response, Misshapen}
@@ -40,11 +38,11 @@ pub record Misshaped : Type 0 where
 -- the sheet's answers, and the other lines
 pub record Answers : Type 0 where
   pub header : header_line 2 1 4 ≡ ascii "plan 2 1 4\n"
-  pub none : turn_line 0 (TurnDone Nothing) ≡ ascii "turn 0 none\n"
-  pub event : turn_line 1 (TurnDone (Event 2)) ≡ ascii "turn 1 event 2\n"
-  pub queued : response_line 1 3 Done ≡ ascii "response 1 queued 3\n"
-  pub refused_turn : turn_line 9 (TurnRefused 11 0) ≡ ascii "refused 11\n"
-  pub refused_response : response_line 1 3 (CallRefused 13 0) ≡ ascii "refused 13\n"
+  pub none : turn_line 0 (Ok None) ≡ ascii "turn 0 none\n"
+  pub event : turn_line 1 (Ok (Some 2)) ≡ ascii "turn 1 event 2\n"
+  pub queued : response_line 1 3 (Ok tt) ≡ ascii "response 1 queued 3\n"
+  pub refused_turn : turn_line 9 (Err (refusal 11 0)) ≡ ascii "refused 11\n"
+  pub refused_response : response_line 1 3 (Err (refusal 13 0)) ≡ ascii "refused 13\n"
   pub misshapen : refused_line 10 ≡ ascii "refused 10\n"
   pub states : states_line empty_device 2 1 ≡ ascii "states 0 0 0\n"
   pub refused_plan : plan_refused_line 3 49152 ≡ ascii "plan refused 3 at 49152\n"

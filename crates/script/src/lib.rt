@@ -11,12 +11,11 @@ ghost use Rattle.script.specs.Line.{turn_by, response_by, pair_of, line_of, pars
 ghost use Rattle.script.specs.Answers.{states_of, header_line, plan_refused_line, refused_line, turn_line, response_line, states_row, states_line};
 ghost use Rattle.script.specs.SimulationLines.{sent_line, delivered_line, stepped_line, served_line, tick_line, nothing_line, device_line};
 
-use bits::Maybe;
-use device::Turning;
 use device_states::Device;
 use lines::Partial;
-use modules::{Called, Own, Turn};
+use modules::Own;
 use permits::{Served, Stepped};
+use refusal::Refusal;
 use texts::Text;
 
 // What a line of the script is.
@@ -27,24 +26,24 @@ pub enum Line {
     Misshapen,
 }
 
-fn turn_by(m: Maybe) -> Line
+fn turn_by(m: Option<u8>) -> Line
     ensures { result ≡ turn_by m }
 {
     match m {
-        Maybe::Just(n) => Line::Turn(n),
-        Maybe::Nothing => Line::Misshapen,
+        Some(n) => Line::Turn(n),
+        None => Line::Misshapen,
     }
 }
 
-fn response_by(m: Maybe, e: Maybe) -> Line
+fn response_by(m: Option<u8>, e: Option<u8>) -> Line
     ensures { result ≡ response_by m e }
 {
     match m {
-        Maybe::Just(n) => match e {
-            Maybe::Just(k) => Line::Response(n, k),
-            Maybe::Nothing => Line::Misshapen,
+        Some(n) => match e {
+            Some(k) => Line::Response(n, k),
+            None => Line::Misshapen,
         },
-        Maybe::Nothing => Line::Misshapen,
+        None => Line::Misshapen,
     }
 }
 
@@ -169,25 +168,25 @@ pub fn refused_line(n: u8) -> Text
 }
 
 // What a turn of module m got.
-pub fn turn_line(m: u8, a: Turning) -> Text
+pub fn turn_line(m: u8, a: Result<Option<u8>, Refusal>) -> Text
     ensures { result ≡ text_of (turn_line m a) }
 {
     match a {
-        Turning::Done(t) => match t {
-            Turn::Event(e) => long_line(b"turn", m, b" event", e),
-            Turn::Nothing => short_line(b"turn", m, b" none\n"),
+        Ok(t) => match t {
+            Some(e) => long_line(b"turn", m, b" event", e),
+            None => short_line(b"turn", m, b" none\n"),
         },
-        Turning::Refused(n, _) => refused_line(n),
+        Err(e) => refused_line(e.number),
     }
 }
 
 // What a response e of module m got.
-pub fn response_line(m: u8, e: u8, a: Called) -> Text
+pub fn response_line(m: u8, e: u8, a: Result<(), Refusal>) -> Text
     ensures { result ≡ text_of (response_line m e a) }
 {
     match a {
-        Called::Done => long_line(b"response", m, b" queued", e),
-        Called::Refused(n, _) => refused_line(n),
+        Ok(()) => long_line(b"response", m, b" queued", e),
+        Err(e) => refused_line(e.number),
     }
 }
 
@@ -234,38 +233,42 @@ pub fn delivered_line(s: &[u8]) -> Text
 }
 
 // What a tick of module m got.
-pub fn tick_line(m: u8, a: Called) -> Text
+pub fn tick_line(m: u8, a: Result<(), Refusal>) -> Text
     ensures { result ≡ text_of (tick_line m a) }
 {
     match a {
-        Called::Done => short_line(b"tick", m, b"\n"),
-        Called::Refused(n, _) => refused_line(n),
+        Ok(()) => short_line(b"tick", m, b"\n"),
+        Err(e) => refused_line(e.number),
     }
 }
 
 // What a step of module m got.
-pub fn stepped_line(m: u8, a: Stepped) -> Text
+pub fn stepped_line(m: u8, a: Result<Stepped, Refusal>) -> Text
     ensures { result ≡ text_of (stepped_line m a) }
 {
     match a {
-        Stepped::Turns(t, _) => match t {
-            Turn::Event(e) => long_line(b"module", m, b" event", e),
-            Turn::Nothing => short_line(b"module", m, b" none\n"),
+        Ok(done) => match done {
+            Stepped::Turns(t, _) => match t {
+                Some(e) => long_line(b"module", m, b" event", e),
+                None => short_line(b"module", m, b" none\n"),
+            },
+            Stepped::Bids(v, _) => long_line(b"module", m, b" bids", v),
+            Stepped::Waits => short_line(b"module", m, b" waits\n"),
         },
-        Stepped::Bids(v, _) => long_line(b"module", m, b" bids", v),
-        Stepped::Waits => short_line(b"module", m, b" waits\n"),
-        Stepped::Refused(n, _) => refused_line(n),
+        Err(e) => refused_line(e.number),
     }
 }
 
 // What a step of supervisor v got.
-pub fn served_line(v: u8, a: Served) -> Text
+pub fn served_line(v: u8, a: Result<Served, Refusal>) -> Text
     ensures { result ≡ text_of (served_line v a) }
 {
     match a {
-        Served::Sends(m, _) => long_line(b"supervisor", v, b" permits", m),
-        Served::Waits => short_line(b"supervisor", v, b" waits\n"),
-        Served::Refused(n, _) => refused_line(n),
+        Ok(done) => match done {
+            Served::Sends(m, _) => long_line(b"supervisor", v, b" permits", m),
+            Served::Waits => short_line(b"supervisor", v, b" waits\n"),
+        },
+        Err(e) => refused_line(e.number),
     }
 }
 

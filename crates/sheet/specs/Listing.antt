@@ -1,11 +1,9 @@
 -- Document 01, "The two-valve sheet": what a line of the listing's script does and prints, and all that the listing program prints.
-use Rattle.std.specs.Prelude.{ℕ, ◌≡◌, List, [], ◌∷◌, ◌++◌, cond, eqb}
+use Rattle.refusal.specs.declared.Refusal.{Refusal}
+use Rattle.std.specs.Prelude.{ℕ, ◌≡◌, List, [], ◌∷◌, ◌++◌, cond, eqb, Result, Ok, Err, ⊤}
 use Prim.Native.Char.{code}
 use Rattle.reader.specs.Walk.{records_of}
 use Rattle.rules.specs.LookUp.{modules_of, supervisors_of, events_of}
-use Rattle.modules.specs.Numbers.{called_number, called_offset}
-use Rattle.modules.specs.declared.Called.{Called}
-use Rattle.modules.specs.declared.Called.TheVariants.{Done, Refused}
 use Rattle.device_states.specs.declared.Device.{Device}
 use Rattle.device.specs.Device.{turn_call, respond_call, start_call}
 use Rattle.lines.specs.declared.Partial.{Partial}
@@ -56,9 +54,9 @@ answers_to image d [] = last_line image d
 answers_to image d (l ∷ ls) = answer_to image d (line_of l) ++ answers_to image (device_after image d (line_of l)) ls
 
 -- "Header: modules, supervisors, events."; "and, alone, `plan refused N at B`"
-unfoldable pub listed_by : Called → List ℕ → Device → List ℕ → List ℕ
-listed_by Done image d script = header_line (modules_of (records_of image)) (supervisors_of (records_of image)) (events_of (records_of image)) ++ answers_to image d (lines_of script)
-listed_by (Refused n o) image d script = plan_refused_line (called_number (Refused n o)) (called_offset (Refused n o))
+unfoldable pub listed_by : Result ⊤ Refusal → List ℕ → Device → List ℕ → List ℕ
+listed_by (Ok u) image d script = header_line (modules_of (records_of image)) (supervisors_of (records_of image)) (events_of (records_of image)) ++ answers_to image d (lines_of script)
+listed_by (Err e) image d script = plan_refused_line e.number e.offset
 
 -- "The listing program reads `plan.bin` and standard input": all that it prints
 abbrev pub listed : List ℕ → List ℕ → List ℕ

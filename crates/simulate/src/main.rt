@@ -4,8 +4,6 @@
 #![tactic(auto)]
 
 use answers::Row;
-use bits::Maybe;
-use checker::Examined;
 use lines::Partial;
 use parties::Parties;
 use places::Places;
@@ -13,7 +11,7 @@ use simulation::Answer;
 use std::io::Read;
 use std::{fs, io};
 use texts::Text;
-use wire::{MessageAt, Wire};
+use wire::Wire;
 
 // One byte more than a plan may have, so that a longer file is seen to be one.
 const ROOM: usize = 49153;
@@ -45,8 +43,8 @@ fn print_row(rt: &impl Print, word: &[u8], r: Row) -> io::Result<()> {
 }
 
 // The row with one event more, if there is one; a full row is printed first.
-fn gathered(rt: &impl Print, word: &[u8], r: Row, event: Maybe) -> io::Result<Row> {
-    let Maybe::Just(e) = event else {
+fn gathered(rt: &impl Print, word: &[u8], r: Row, event: Option<u8>) -> io::Result<Row> {
+    let Some(e) = event else {
         return Ok(r);
     };
     if answers::is_full(r) {
@@ -60,7 +58,7 @@ fn gathered(rt: &impl Print, word: &[u8], r: Row, event: Maybe) -> io::Result<Ro
 // The messages from a place on.
 fn print_sent(rt: &impl Print, w: Wire, from: usize) -> io::Result<()> {
     for k in from..w.count {
-        let MessageAt::It(g) = wire::message_at(w, k) else {
+        let Some(g) = wire::message_at(w, k) else {
             return Ok(());
         };
         print(rt, answers::sent_line(g))?;
@@ -190,8 +188,8 @@ fn run_on(rt: &(impl Input + Print), image: &[u8], places: Places) -> io::Result
 
 fn run(rt: &(impl Input + Print), image: &[u8]) -> io::Result<()> {
     match checker::examine(image) {
-        Examined::Accepted(places) => run_on(rt, image, places),
-        Examined::Refused(n, at) => print(rt, script::plan_refused_line(n, at)),
+        Ok(places) => run_on(rt, image, places),
+        Err(e) => print(rt, script::plan_refused_line(e.number, e.offset)),
     }
 }
 

@@ -1,4 +1,7 @@
 -- Each way through a line, with every fact that the code is told as a premise.
+use Rattle.std.specs.Prelude.{Option, Some, None, Result, Ok, Err, ⊤}
+use Rattle.refusal.specs.Refusal.{refusal}
+use Rattle.refusal.specs.declared.Refusal.{Refusal}
 use Prim.Native.Nat.{ℕ, min, ◌+◌, ◌≤◌}
 use native.Mathlib.Omega.{arith}
 use mathlib.Core.Path.{◌≡◌, refl, sym, ap, ap₂, ◌∙◌, subst}
@@ -13,9 +16,6 @@ use Rattle.words.proofs.Laws.{length_word}
 use Rattle.litres.specs.Eighths.{eighths}
 use Rattle.water.specs.declared.Flow.{Flow}
 use Rattle.water.specs.declared.Flow.TheVariants.{Litres, NoSensor}
-use Rattle.modules.specs.declared.Turn.{Turn}
-use Rattle.modules.specs.declared.Called.{Called}
-use Rattle.modules.specs.declared.Called.TheVariants.{Done, Refused as CallRefused}
 use Rattle.messages.specs.Message.{permit_size, buffer_length, message_bytes, put_at}
 use Rattle.messages.specs.declared.Message.{Message}
 use Rattle.messages.specs.declared.Message.TheVariants.{Bid, Permit, Release}
@@ -30,15 +30,13 @@ use Rattle.permits.specs.declared.Supervisor.{Supervisor}
 use Rattle.permits.specs.declared.SupervisorCalled.{SupervisorCalled}
 use Rattle.permits.specs.declared.SupervisorStepped.{SupervisorStepped}
 use Rattle.permits.specs.declared.Stepped.{Stepped}
-use Rattle.permits.specs.declared.Stepped.TheVariants.{Turns, Bids, Waits, Refused as StepRefused}
+use Rattle.permits.specs.declared.Stepped.TheVariants.{Turns, Bids, Waits}
 use Rattle.permits.specs.declared.Served.{Served}
-use Rattle.permits.specs.declared.Served.TheVariants.{Sends, Waits as ServedWaits, Refused as ServedRefused}
+use Rattle.permits.specs.declared.Served.TheVariants.{Sends, Waits as ServedWaits}
 use Rattle.permits.specs.Module.{module_step, module_deliver, module_respond, module_tick}
 use Rattle.permits.specs.Supervisor.{supervisor_step, supervisor_deliver}
 use Rattle.permits.specs.Step.{Gave}
 use Rattle.wire.specs.declared.Wire.{Wire}
-use Rattle.wire.specs.declared.MessageAt.{MessageAt}
-use Rattle.wire.specs.declared.MessageAt.TheVariants.{It, Missing}
 use Rattle.wire.specs.Wire.{under, with_messages, nth_of, without}
 use Rattle.acts.specs.declared.Act.{Act}
 use Rattle.acts.specs.declared.Act.TheVariants.{Module as ModuleLine, Supervisor as SupervisorLine, Delivery as DeliveryLine, Response as ResponseLine, Tick as TickLine, Unfitted as UnfittedLine, Misshapen as MisshapenLine}
@@ -57,41 +55,41 @@ part_count b n {k} e = sym (length-take-le k b (omega arith))
 
 -- ---- the state after a step
 
-module _ (image : List ℕ) (p : Parties) (m : ℕ) (b : List ℕ) {a : Stepped} where
-  pub step_turned : {t : Turn} {n k : ℕ} {w : Wire} {d : DeviceTurned} {q r : Parties} → a ≡ Turns t n → k ≡ min n (length b) → w ≡ with_messages p.wire (releases_of (take k b))
+module _ (image : List ℕ) (p : Parties) (m : ℕ) (b : List ℕ) {a : Result Stepped Refusal} where
+  pub step_turned : {s : Stepped} {t : Option ℕ} {n k : ℕ} {w : Wire} {d : DeviceTurned} {q r : Parties} → a ≡ Ok s → s ≡ Turns t n → k ≡ min n (length b) → w ≡ with_messages p.wire (releases_of (take k b))
       → d ≡ turn_call image p.device m → q ≡ with_wire p w → r ≡ with_device q d.device → r ≡ after_step image p m a b
   unfolding after_step
-  step_turned {n = n} e f g h i j =
+  step_turned {n = n} e u f g h i j =
       j
       ∙ ap₂ (λ (x : Parties) (y : DeviceTurned). with_device x y.device) (i ∙ ap (with_wire p) (g ∙ ap (λ (l : List ℕ). with_messages p.wire (releases_of l)) (part b n f))) h
-      ∙ ap (λ (x : Stepped). after_step image p m x b) (sym e)
+      ∙ ap (λ (x : Result Stepped Refusal). after_step image p m x b) (sym (e ∙ ap Ok u))
 
-  pub step_bids : {v n k : ℕ} {w : Wire} {r : Parties} → a ≡ Bids v n → k ≡ min n (length b) → w ≡ with_messages p.wire (read (take k b)) → r ≡ with_wire p w → r ≡ after_step image p m a b
+  pub step_bids : {s : Stepped} {v n k : ℕ} {w : Wire} {r : Parties} → a ≡ Ok s → s ≡ Bids v n → k ≡ min n (length b) → w ≡ with_messages p.wire (read (take k b)) → r ≡ with_wire p w → r ≡ after_step image p m a b
   unfolding after_step
-  step_bids {n = n} e f g i =
-      i ∙ ap (with_wire p) (g ∙ ap (λ (l : List ℕ). with_messages p.wire (read l)) (part b n f)) ∙ ap (λ (x : Stepped). after_step image p m x b) (sym e)
+  step_bids {n = n} e u f g i =
+      i ∙ ap (with_wire p) (g ∙ ap (λ (l : List ℕ). with_messages p.wire (read l)) (part b n f)) ∙ ap (λ (x : Result Stepped Refusal). after_step image p m x b) (sym (e ∙ ap Ok u))
 
-  pub step_waits : a ≡ Waits → p ≡ after_step image p m a b
+  pub step_waits : {s : Stepped} → a ≡ Ok s → s ≡ Waits → p ≡ after_step image p m a b
   unfolding after_step
-  step_waits e = ap (λ (x : Stepped). after_step image p m x b) (sym e)
+  step_waits e u = ap (λ (x : Result Stepped Refusal). after_step image p m x b) (sym (e ∙ ap Ok u))
 
-  pub step_refused_lem : {n o : ℕ} → a ≡ StepRefused n o → p ≡ after_step image p m a b
+  pub step_refused_lem : {e : Refusal} → a ≡ Err e → p ≡ after_step image p m a b
   unfolding after_step
-  step_refused_lem e = ap (λ (x : Stepped). after_step image p m x b) (sym e)
+  step_refused_lem e = ap (λ (x : Result Stepped Refusal). after_step image p m x b) (sym e)
 
-module _ (p : Parties) (b : List ℕ) {a : Served} where
-  pub serving_sends : {m n k : ℕ} {w : Wire} {r : Parties} → a ≡ Sends m n → k ≡ min n (length b) → w ≡ with_messages p.wire (read (take k b)) → r ≡ with_wire p w → r ≡ after_serving p a b
+module _ (p : Parties) (b : List ℕ) {a : Result Served Refusal} where
+  pub serving_sends : {s : Served} {m n k : ℕ} {w : Wire} {r : Parties} → a ≡ Ok s → s ≡ Sends m n → k ≡ min n (length b) → w ≡ with_messages p.wire (read (take k b)) → r ≡ with_wire p w → r ≡ after_serving p a b
   unfolding after_serving
-  serving_sends {n = n} e f g i =
-      i ∙ ap (with_wire p) (g ∙ ap (λ (l : List ℕ). with_messages p.wire (read l)) (part b n f)) ∙ ap (λ (x : Served). after_serving p x b) (sym e)
+  serving_sends {n = n} e u f g i =
+      i ∙ ap (with_wire p) (g ∙ ap (λ (l : List ℕ). with_messages p.wire (read l)) (part b n f)) ∙ ap (λ (x : Result Served Refusal). after_serving p x b) (sym (e ∙ ap Ok u))
 
-  pub serving_waits : a ≡ ServedWaits → p ≡ after_serving p a b
+  pub serving_waits : {s : Served} → a ≡ Ok s → s ≡ ServedWaits → p ≡ after_serving p a b
   unfolding after_serving
-  serving_waits e = ap (λ (x : Served). after_serving p x b) (sym e)
+  serving_waits e u = ap (λ (x : Result Served Refusal). after_serving p x b) (sym (e ∙ ap Ok u))
 
-  pub serving_refused : {n o : ℕ} → a ≡ ServedRefused n o → p ≡ after_serving p a b
+  pub serving_refused : {e : Refusal} → a ≡ Err e → p ≡ after_serving p a b
   unfolding after_serving
-  serving_refused e = ap (λ (x : Served). after_serving p x b) (sym e)
+  serving_refused e = ap (λ (x : Result Served Refusal). after_serving p x b) (sym e)
 
 -- ---- steps
 
@@ -133,12 +131,12 @@ module _ (w : Wire) (n : ℕ) {t : Bool} (e : t ≡ leb (w.count + n) 96) where
 
 -- ---- deliveries
 
-module _ (w : Wire) (k : ℕ) {a : Called} where
-  pub wire_taken : {r : Wire} → a ≡ Done → r ≡ without w k → r ≡ wire_after w k a
+module _ (w : Wire) (k : ℕ) {a : Result ⊤ Refusal} where
+  pub wire_taken : {r : Wire} → a ≡ Ok tt → r ≡ without w k → r ≡ wire_after w k a
   unfolding wire_after
   wire_taken e h = h ∙ ap (wire_after w k) (sym e)
 
-  pub wire_kept : {n o : ℕ} → a ≡ CallRefused n o → w ≡ wire_after w k a
+  pub wire_kept : {e : Refusal} → a ≡ Err e → w ≡ wire_after w k a
   unfolding wire_after
   wire_kept e = ap (wire_after w k) (sym e)
 
@@ -163,17 +161,17 @@ pub bytes_as : (bytes : List ℕ) {g h : Message} → bytes ≡ message_bytes g 
 bytes_as bytes f e = f ∙ ap message_bytes e
 
 module _ (image : List ℕ) (p : Parties) (k : ℕ) {g : Message} {r : Played} where
-  pub party_bid : {m v : ℕ} → g ≡ Bid m v → r ≡ to_supervisor image p k v (Bid m v) → r ≡ delivered_by image p k (It g)
+  pub party_bid : {m v : ℕ} → g ≡ Bid m v → r ≡ to_supervisor image p k v (Bid m v) → r ≡ delivered_by image p k (Some g)
   unfolding delivered_by
-  party_bid e h = h ∙ ap (λ (x : Message). delivered_by image p k (It x)) (sym e)
+  party_bid e h = h ∙ ap (λ (x : Message). delivered_by image p k (Some x)) (sym e)
 
-  pub party_permit : {v m x : ℕ} → g ≡ Permit v m x → r ≡ to_module image p k m (Permit v m x) → r ≡ delivered_by image p k (It g)
+  pub party_permit : {v m x : ℕ} → g ≡ Permit v m x → r ≡ to_module image p k m (Permit v m x) → r ≡ delivered_by image p k (Some g)
   unfolding delivered_by
-  party_permit e h = h ∙ ap (λ (y : Message). delivered_by image p k (It y)) (sym e)
+  party_permit e h = h ∙ ap (λ (y : Message). delivered_by image p k (Some y)) (sym e)
 
-  pub party_release : {m v x : ℕ} → g ≡ Release m v x → r ≡ to_supervisor image p k v (Release m v x) → r ≡ delivered_by image p k (It g)
+  pub party_release : {m v x : ℕ} → g ≡ Release m v x → r ≡ to_supervisor image p k v (Release m v x) → r ≡ delivered_by image p k (Some g)
   unfolding delivered_by
-  party_release e h = h ∙ ap (λ (y : Message). delivered_by image p k (It y)) (sym e)
+  party_release e h = h ∙ ap (λ (y : Message). delivered_by image p k (Some y)) (sym e)
 
 -- a message's bytes, written from the start of the longest
 pub message_length : (g : Message) → length (message_bytes g) ≤ permit_size
@@ -195,12 +193,12 @@ module _ (g : Message) {n : ℕ} {b : List ℕ} (e : n ≡ length (message_bytes
   pub bytes_are : take n b ≡ message_bytes g
   bytes_are = ap₂ (λ (k : ℕ) (l : List ℕ). take k l) e written_is ∙ take-append_seam (message_bytes g) _
 
-module _ (image : List ℕ) (p : Parties) (k : ℕ) {l : MessageAt} (e : l ≡ nth_of (under p.wire) k) where
-  pub delivery_none : l ≡ Missing → record { answer = NoMessage; play = p } ≡ delivered image p k
+module _ (image : List ℕ) (p : Parties) (k : ℕ) {l : Option Message} (e : l ≡ nth_of (under p.wire) k) where
+  pub delivery_none : l ≡ None → record { answer = NoMessage; play = p } ≡ delivered image p k
   unfolding delivered_by
   delivery_none q = ap (delivered_by image p k) (sym q ∙ e)
 
-  pub delivery_some : {g : Message} {r : Played} → l ≡ It g → r ≡ delivered_by image p k (It g) → r ≡ delivered image p k
+  pub delivery_some : {g : Message} {r : Played} → l ≡ Some g → r ≡ delivered_by image p k (Some g) → r ≡ delivered image p k
   delivery_some q h = h ∙ ap (delivered_by image p k) (sym q ∙ e)
 
 -- ---- responses and ticks
@@ -256,11 +254,11 @@ pub played_as : (image : List ℕ) (p : Parties) (a : Act) {r : Played} → r �
 unfolding played module_stepped supervisor_stepped delivered_by to_module to_supervisor responded ticked call_number delivery_number
 played_as image p a e = record { answer = e; number = ap (λ (x : Played). answer_number x.answer) e ∙ number a }
   where
-    delivery : (k : ℕ) (l : MessageAt) → answer_number (delivered_by image p k l).answer ≡ delivery_number image p l
-    delivery k Missing = refl
-    delivery k (It (Bid m v)) = refl
-    delivery k (It (Permit v m x)) = refl
-    delivery k (It (Release m v x)) = refl
+    delivery : (k : ℕ) (l : Option Message) → answer_number (delivered_by image p k l).answer ≡ delivery_number image p l
+    delivery k None = refl
+    delivery k (Some (Bid m v)) = refl
+    delivery k (Some (Permit v m x)) = refl
+    delivery k (Some (Release m v x)) = refl
 
     number : (b : Act) → answer_number (played image p b).answer ≡ call_number image p b
     number (ModuleLine m) = refl

@@ -1,4 +1,5 @@
 -- Laws of the messages that a step wrote.
+use Rattle.std.specs.Prelude.{Option, Some, None}
 use Prim.Native.Nat.{ℕ, zero, suc, min, ◌+◌, ◌-◌, ◌/◌, ◌≤◌, ◌<◌}
 use native.Mathlib.Numerals.{unary_clauses}
 use native.Mathlib.Omega.{arith}
@@ -8,21 +9,19 @@ use lib.ListN.{length, take, drop, length-drop}
 use lib.Seq.{drop-drop}
 use Rattle.messages.specs.Message.{release_size, parse, pieces}
 use Rattle.messages.specs.declared.Message.{Message}
-use Rattle.messages.specs.declared.Parsed.{Parsed}
-use Rattle.messages.specs.declared.Parsed.TheVariants.{Whole, Misshapen}
 use Rattle.wire.specs.declared.Wire.{Wire}
 use Rattle.wire.specs.Wire.{with_message, with_messages}
 use Rattle.wire.proofs.Laws.{with_append}
 use Rattle.simulation.specs.Play.{read_by, read, read_all, releases_of}
 
-module _ (w : Wire) (bytes : List ℕ) {p : Parsed} (e : p ≡ parse bytes) where
-  pub sent_whole : {g : Message} {r : Wire} → p ≡ Whole g → r ≡ with_message w g → r ≡ with_messages w (read bytes)
+module _ (w : Wire) (bytes : List ℕ) {p : Option Message} (e : p ≡ parse bytes) where
+  pub sent_whole : {g : Message} {r : Wire} → p ≡ Some g → r ≡ with_message w g → r ≡ with_messages w (read bytes)
   unfolding with_messages read_by
-  sent_whole q h = h ∙ ap (λ (x : Parsed). with_messages w (read_by x)) (sym q ∙ e)
+  sent_whole q h = h ∙ ap (λ (x : Option Message). with_messages w (read_by x)) (sym q ∙ e)
 
-  pub sent_none : p ≡ Misshapen → w ≡ with_messages w (read bytes)
+  pub sent_none : p ≡ None → w ≡ with_messages w (read bytes)
   unfolding with_messages read_by
-  sent_none q = ap (λ (x : Parsed). with_messages w (read_by x)) (sym q ∙ e)
+  sent_none q = ap (λ (x : Option Message). with_messages w (read_by x)) (sym q ∙ e)
 
 -- the first release, and those behind it
 releases_on : (l : List ℕ) → release_size ≤ length l → releases_of l ≡ read (take release_size l) ++ releases_of (drop release_size l)

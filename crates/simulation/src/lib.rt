@@ -1,7 +1,7 @@
 // What a line of the simulation's script does to the parties: specs/Play.antt.
 #![tactic(auto)]
 
-ghost use Rattle.std.specs.Prelude.{◌≡◌, min};
+ghost use Rattle.std.specs.Prelude.{◌≡◌, min, Some};
 ghost use Rattle.litres.specs.Eighths.{eighths};
 ghost use Rattle.messages.specs.Message.{message_bytes};
 ghost use Rattle.wire.specs.Wire.{with_messages};
@@ -9,22 +9,22 @@ ghost use Rattle.simulation.specs.Play.{read, releases_of, after_step, after_ser
 ghost use Rattle.simulation.specs.Numbers.{PlayedAs};
 
 use acts::Act;
-use messages::{Message, Parsed};
-use modules::Called;
+use messages::Message;
 use parties::Parties;
 use permits::{Served, Stepped};
+use refusal::Refusal;
 use water::Flow;
-use wire::{MessageAt, Wire};
+use wire::Wire;
 
 // What a line got.
 #[derive(Clone, Copy)]
 pub enum Answer {
-    Module(u8, Stepped),
-    Supervisor(u8, Served),
-    Delivery(Message, Called),
+    Module(u8, Result<Stepped, Refusal>),
+    Supervisor(u8, Result<Served, Refusal>),
+    Delivery(Message, Result<(), Refusal>),
     NoMessage,
-    Response(u8, u8, Called),
-    Tick(u8, Called),
+    Response(u8, u8, Result<(), Refusal>),
+    Tick(u8, Result<(), Refusal>),
     Misshapen,
 }
 
@@ -40,8 +40,8 @@ fn send(w: Wire, bytes: &[u8]) -> Wire
     ensures { result ≡ with_messages w (read bytes.now) }
 {
     match messages::read(bytes) {
-        Parsed::Whole(g) => wire::with_message(w, g),
-        Parsed::Misshapen => w,
+        Some(g) => wire::with_message(w, g),
+        None => w,
     }
 }
 
@@ -66,25 +66,25 @@ fn shorter(n: usize, k: usize) -> usize
 }
 
 // What is under way after a module step, and the device after its turn.
-fn after_step(image: &[u8], p: Parties, m: u8, a: Stepped, b: &[u8]) -> Parties
+fn after_step(image: &[u8], p: Parties, m: u8, a: Result<Stepped, Refusal>, b: &[u8]) -> Parties
     ensures { result ≡ after_step image.now p m a b.now }
 {
     let w = p.wire;
     let before = p.device;
     match a {
-        Stepped::Turns(_, n) => {
+        Ok(Stepped::Turns(_, n)) => {
             let k = shorter(n, b.len());
             let next = send_releases(w, &b[..k]);
             let d = device::turn(image, before, m);
             let after = d.device;
             parties::with_device(parties::with_wire(p, next), after)
         }
-        Stepped::Bids(_, n) => {
+        Ok(Stepped::Bids(_, n)) => {
             let k = shorter(n, b.len());
             parties::with_wire(p, send(w, &b[..k]))
         }
-        Stepped::Waits => p,
-        Stepped::Refused(_, _) => p,
+        Ok(Stepped::Waits) => p,
+        Err(_) => p,
     }
 }
 
@@ -116,17 +116,17 @@ fn module_step(image: &[u8], p: Parties, m: u8) -> Played
     }
 }
 
-fn after_serving(p: Parties, a: Served, b: &[u8]) -> Parties
+fn after_serving(p: Parties, a: Result<Served, Refusal>, b: &[u8]) -> Parties
     ensures { result ≡ after_serving p a b.now }
 {
     let w = p.wire;
     match a {
-        Served::Sends(_, n) => {
+        Ok(Served::Sends(_, n)) => {
             let k = shorter(n, b.len());
             parties::with_wire(p, send(w, &b[..k]))
         }
-        Served::Waits => p,
-        Served::Refused(_, _) => p,
+        Ok(Served::Waits) => p,
+        Err(_) => p,
     }
 }
 
@@ -160,12 +160,12 @@ fn supervisor_step(image: &[u8], p: Parties, v: u8) -> Played
 
 // ---- deliveries, responses and ticks
 
-fn wire_after(w: Wire, k: usize, a: Called) -> Wire
+fn wire_after(w: Wire, k: usize, a: Result<(), Refusal>) -> Wire
     ensures { result ≡ wire_after w k a }
 {
     match a {
-        Called::Done => wire::without(w, k),
-        Called::Refused(_, _) => w,
+        Ok(()) => wire::without(w, k),
+        Err(_) => w,
     }
 }
 
@@ -204,7 +204,7 @@ fn to_supervisor(image: &[u8], p: Parties, k: usize, v: u8, g: Message, bytes: &
 // The message goes to the party that it names.
 fn to_party(image: &[u8], p: Parties, k: usize, g: Message, bytes: &[u8]) -> Played
     requires { bytes.now ≡ message_bytes g }
-    ensures { result ≡ delivered_by image.now p k (MessageAt.It g) }
+    ensures { result ≡ delivered_by image.now p k (Some g) }
 {
     match g {
         Message::Bid {
@@ -228,7 +228,7 @@ fn delivery(image: &[u8], p: Parties, k: usize) -> Played
     ensures { result ≡ delivered image.now p k }
 {
     let w = p.wire;
-    let MessageAt::It(g) = wire::message_at(w, k) else {
+    let Some(g) = wire::message_at(w, k) else {
         return Played {
             answer: Answer::NoMessage,
             play: p,

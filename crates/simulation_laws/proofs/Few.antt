@@ -1,10 +1,10 @@
 -- Few messages are under way: for each module a bid or the permit that answers it, for each supervisor one release.
+use Rattle.std.specs.Prelude.{Option, Some, None}
 use Prim.Native.Nat.{ℕ, zero, suc, ◌+◌, ◌≤◌, ◌<◌}
 use native.Mathlib.Decide.{ℕ_discrete}
 use native.Mathlib.Omega.{arith}
 use mathlib.Core.Path.{◌≡◌, refl, ap, ◌∙◌}
 use mathlib.Core.List.{List, [], ◌∷◌}
-use mathlib.Core.Option.{Option, none, some}
 use lib.ListN.{length, length-map}
 use lib.Dec.{eqb}
 use borrow.Author.Tests.{ne_eqb}
@@ -57,25 +57,25 @@ sum_le (suc n) f g h = omega (arith, sum_le n f g h, h n)
 
 -- an optional number is one of those below n, once
 module _ (k : ℕ) where
-  none_below : (n : ℕ) → n ≤ k → sum n (one_at (some k)) ≡ 0
+  none_below : (n : ℕ) → n ≤ k → sum n (one_at (Some k)) ≡ 0
   unfolding sum
   none_below zero h = refl
   none_below (suc n) h =
       let z : digit (eqb k n) ≡ 0 = ap digit (ne_eqb k n (λ e. omega arith)) in
       omega (arith, none_below n (omega arith), z)
 
-  one_below : (n : ℕ) → sum n (one_at (some k)) ≤ 1
+  one_below : (n : ℕ) → sum n (one_at (Some k)) ≤ 1
   unfolding sum
   one_below zero = omega arith
   one_below (suc n) = go (ℕ_discrete k n) (one_below n)
     where
-      go : Dec (k ≡ n) → sum n (one_at (some k)) ≤ 1 → sum n (one_at (some k)) + digit (eqb k n) ≤ 1
-      go (yes e) ih = omega (arith, none_below n (omega arith), one_at_most (some k) n)
+      go : Dec (k ≡ n) → sum n (one_at (Some k)) ≤ 1 → sum n (one_at (Some k)) + digit (eqb k n) ≤ 1
+      go (yes e) ih = omega (arith, none_below n (omega arith), one_at_most (Some k) n)
       go (no q) ih = let z : digit (eqb k n) ≡ 0 = ap digit (ne_eqb k n q) in omega arith
 
 sum_one : (o : Option ℕ) (n : ℕ) → sum n (one_at o) ≤ 1
-sum_one none n = omega (arith, sum_le n (one_at none) (one_at (some 0)) (λ i. omega arith), one_below 0 n)
-sum_one (some k) n = one_below k n
+sum_one None n = omega (arith, sum_le n (one_at None) (one_at (Some 0)) (λ i. omega arith), one_below 0 n)
+sum_one (Some k) n = one_below k n
 
 -- over all pairs
 abbrev grid : ℕ → ℕ → (ℕ → ℕ → ℕ) → ℕ

@@ -1,10 +1,11 @@
 -- One line of the simulation is one call of demand 3's lists.
+use Rattle.std.specs.Prelude.{Option, Some, None, Result, Ok, Err, ⊤}
+use Rattle.refusal.specs.declared.Refusal.{Refusal}
 use Prim.Native.Nat.{ℕ, ◌+◌, ◌≤◌, ◌<◌}
 use native.Mathlib.Omega.{arith}
 use mathlib.Core.Path.{◌≡◌, refl, sym, ap, ◌∙◌, subst}
 use mathlib.Core.Bool.{Bool, true, false, cond}
 use mathlib.Core.List.{List, [], ◌∷◌, ◌++◌, map, append-nil}
-use mathlib.Core.Option.{Option, none, some}
 use lib.ListN.{length-set, length-replicate}
 use lib.Dec.{ltb}
 use borrow.Author.Tests.{le-leb, ltb-true, ltb-false}
@@ -17,28 +18,22 @@ use Rattle.rules.specs.LookUp.{modules_of, supervisors_of}
 use Rattle.rules.specs.Check.{verdict_of, IsPlan}
 use Rattle.water.specs.declared.Flow.{Flow}
 use Rattle.water.specs.declared.Flow.TheVariants.{Litres, NoSensor}
-use Rattle.modules.specs.declared.Called.{Called}
-use Rattle.modules.specs.declared.Called.TheVariants.{Done, Refused as CallRefused}
 use Rattle.modules.specs.declared.Replied.{Replied}
 use Rattle.messages.specs.Message.{message_bytes, parse}
 use Rattle.messages.specs.declared.Message.{Message}
 use Rattle.messages.specs.declared.Message.TheVariants.{Bid, Permit, Release}
-use Rattle.messages.specs.declared.Parsed.{Parsed}
-use Rattle.messages.specs.declared.Parsed.TheVariants.{Whole as WholeMessage}
 use Rattle.device.specs.Device as Dev
 use Rattle.device_states.specs.declared.Device.{Device}
 use Rattle.permits.specs.declared.Module.{Module}
 use Rattle.permits.specs.declared.Supervisor.{Supervisor}
 use Rattle.permits.specs.declared.Stepped.{Stepped}
-use Rattle.permits.specs.declared.Stepped.TheVariants.{Turns, Bids, Waits, Refused}
+use Rattle.permits.specs.declared.Stepped.TheVariants.{Turns, Bids, Waits}
 use Rattle.permits.specs.declared.Served.{Served}
-use Rattle.permits.specs.declared.Served.TheVariants.{Sends, Waits as ServedWaits, Refused as ServedRefused}
+use Rattle.permits.specs.declared.Served.TheVariants.{Sends, Waits as ServedWaits}
 use Rattle.permits.specs.Module as M
 use Rattle.permits.specs.Supervisor as S
 use Rattle.wire.specs.declared.Sent.{Sent}
 use Rattle.wire.specs.declared.Wire.{Wire}
-use Rattle.wire.specs.declared.MessageAt.{MessageAt}
-use Rattle.wire.specs.declared.MessageAt.TheVariants.{It, Missing}
 use Rattle.wire.specs.Wire as W
 use Rattle.wire.proofs.Lists.{lists, all_sound}
 use Rattle.parties.specs.declared.Parties.{Parties}
@@ -61,25 +56,25 @@ use Rattle.simulation_laws.proofs.Party.{set_update, reply_stays, permit_stays, 
 
 -- ---- the parties after a step, by what was put under way
 
-unfoldable turned_by : List ℕ → Device → ℕ → Stepped → Device
-turned_by image d m (Turns t n) = (Dev.turn_call image d m).device
-turned_by image d m (Bids v n) = d
-turned_by image d m Waits = d
-turned_by image d m (Refused n o) = d
+unfoldable turned_by : List ℕ → Device → ℕ → Result Stepped Refusal → Device
+turned_by image d m (Ok (Turns t n)) = (Dev.turn_call image d m).device
+turned_by image d m (Ok (Bids v n)) = d
+turned_by image d m (Ok Waits) = d
+turned_by image d m (Err e) = d
 
-after_step_lem : (image : List ℕ) (q : Parties) (m : ℕ) (a : Stepped) (b : List ℕ)
+after_step_lem : (image : List ℕ) (q : Parties) (m : ℕ) (a : Result Stepped Refusal) (b : List ℕ)
     → Play.after_step image q m a b ≡ P.with_device (P.with_wire q (W.with_messages q.wire (put_by a b))) (turned_by image q.device m a)
 unfolding Play.after_step put_by turned_by W.with_messages
-after_step_lem image q m (Turns t n) b = refl
-after_step_lem image q m (Bids v n) b = refl
-after_step_lem image q m Waits b = refl
-after_step_lem image q m (Refused n o) b = refl
+after_step_lem image q m (Ok (Turns t n)) b = refl
+after_step_lem image q m (Ok (Bids v n)) b = refl
+after_step_lem image q m (Ok Waits) b = refl
+after_step_lem image q m (Err e) b = refl
 
-after_serving_lem : (q : Parties) (a : Served) (b : List ℕ) → Play.after_serving q a b ≡ P.with_wire q (W.with_messages q.wire (put_out a b))
+after_serving_lem : (q : Parties) (a : Result Served Refusal) (b : List ℕ) → Play.after_serving q a b ≡ P.with_wire q (W.with_messages q.wire (put_out a b))
 unfolding Play.after_serving put_out W.with_messages
-after_serving_lem q (Sends m n) b = refl
-after_serving_lem q ServedWaits b = refl
-after_serving_lem q (ServedRefused n o) b = refl
+after_serving_lem q (Ok (Sends m n)) b = refl
+after_serving_lem q (Ok ServedWaits) b = refl
+after_serving_lem q (Err e) b = refl
 
 -- ---- the arrays keep their lengths
 
@@ -90,20 +85,20 @@ module _ (p : Parties) (c : Whole p) where
   whole_supervisor : (v : ℕ) (y : Supervisor) (w : Wire) → W.Sound w → Whole (P.with_wire (P.with_supervisor p v y) w)
   whole_supervisor v y w s = record { modules = c.modules; supervisors = length-set p.supervisors v y ∙ c.supervisors; wire = s }
 
-  after_sound : (k : ℕ) (a : Called) → W.Sound (Play.wire_after p.wire k a)
+  after_sound : (k : ℕ) (a : Result ⊤ Refusal) → W.Sound (Play.wire_after p.wire k a)
   unfolding Play.wire_after
-  after_sound k Done = lists.without_sound p.wire k c.wire
-  after_sound k (CallRefused n o) = c.wire
+  after_sound k (Ok u) = lists.without_sound p.wire k c.wire
+  after_sound k (Err e) = c.wire
 
-  message_whole : (image : List ℕ) (k : ℕ) (g : Message) → Whole (Play.delivered_by image p k (It g)).play
+  message_whole : (image : List ℕ) (k : ℕ) (g : Message) → Whole (Play.delivered_by image p k (Some g)).play
   unfolding Play.delivered_by Play.to_module Play.to_supervisor
   message_whole image k (Bid m v) = whole_supervisor v _ _ (after_sound k _)
   message_whole image k (Permit v m x) = whole_module m _ _ p.device (after_sound k _)
   message_whole image k (Release m v e) = whole_supervisor v _ _ (after_sound k _)
 
-  delivery_whole : (image : List ℕ) (k : ℕ) (o : MessageAt) → Whole (Play.delivered_by image p k o).play
-  delivery_whole image k Missing = unfold Play.delivered_by in c
-  delivery_whole image k (It g) = message_whole image k g
+  delivery_whole : (image : List ℕ) (k : ℕ) (o : Option Message) → Whole (Play.delivered_by image p k o).play
+  delivery_whole image k None = unfold Play.delivered_by in c
+  delivery_whole image k (Some g) = message_whole image k g
 
   pub line_whole : (image : List ℕ) (a : Line) → Whole (Play.played image p a).play
   unfolding Play.played Play.module_stepped Play.supervisor_stepped Play.responded Play.ticked
@@ -118,13 +113,13 @@ module _ (p : Parties) (c : Whole p) where
 -- ---- the states and the messages under way
 
 -- a permit's bytes are read as a permit between the same two
-permit_read : (v m x : ℕ) → parse (message_bytes (Permit v m x)) ≡ WholeMessage (Permit v m (word_at (message_bytes (Permit v m x)) 3))
+permit_read : (v m x : ℕ) → parse (message_bytes (Permit v m x)) ≡ Some (Permit v m (word_at (message_bytes (Permit v m x)) 3))
 unfolding parse message_bytes
 permit_read v m x = simp (length_word x)
 
 -- every message under way would be taken, as demand 3's clause `taken` says of every reached system
 abbrev pub AllTaken : List ℕ → A.System → Type 0
-AllTaken image D = (k : ℕ) (g : A.Sent) → A.at k D.sent ≡ some g → g.delivered ≡ false → answer_to image D g.bytes (parse g.bytes) ≡ Done
+AllTaken image D = (k : ℕ) (g : A.Sent) → A.at k D.sent ≡ Some g → g.delivered ≡ false → answer_to image D g.bytes (parse g.bytes) ≡ Ok tt
 
 -- the parties are a system: their states, and their messages under way
 pub record Is (p : Parties) (D : A.System) : Type 0 where
@@ -180,41 +175,41 @@ module _ (image : List ℕ) (plan : IsPlan image) (T : TurnLaws (records_of imag
       (sent_on (put_out k.answer k.buffer) (A.wrote_out k.answer k.buffer) r (supervisor_put rs v (P.supervisor_at p v) b (T.shown_small v (P.supervisor_at p v).state) (verdict_of image))))
 
   -- a message that is taken is under way no more
-  after_done : (k : ℕ) (q : Picked Sent) (a : Called) → pick k (W.under p.wire) ≡ some q → a ≡ Done → map bytes_of (W.under (Play.wire_after p.wire k a)) ≡ map bytes_of q.rest
+  after_done : (k : ℕ) (q : Picked Sent) (a : Result ⊤ Refusal) → pick k (W.under p.wire) ≡ Some q → a ≡ Ok tt → map bytes_of (W.under (Play.wire_after p.wire k a)) ≡ map bytes_of q.rest
   unfolding Play.wire_after
   after_done k q a e t =
-      ap (λ (z : Called). map bytes_of (W.under (Play.wire_after p.wire k z))) t
+      ap (λ (z : Result ⊤ Refusal). map bytes_of (W.under (Play.wire_after p.wire k z))) t
       ∙ ap (map bytes_of) (lists.without_is p.wire k c.wire ∙ pick_rest k (W.under p.wire) q e)
 
   -- by the party that the bytes go to, the messages sent being u after it
-  module _ (k : ℕ) (q : Picked Sent) (e : pick k (W.under p.wire) ≡ some q) (u : List A.Sent) (left : map bytes_of q.rest ≡ A.under_way u) where
-    to_supervisor_lem : (v : ℕ) (bytes : List ℕ) → let a = S.supervisor_deliver image v (P.supervisor_at p v) bytes in a.answer ≡ Done
+  module _ (k : ℕ) (q : Picked Sent) (e : pick k (W.under p.wire) ≡ Some q) (u : List A.Sent) (left : map bytes_of q.rest ≡ A.under_way u) where
+    to_supervisor_lem : (v : ℕ) (bytes : List ℕ) → let a = S.supervisor_deliver image v (P.supervisor_at p v) bytes in a.answer ≡ Ok tt
         → Is (P.with_wire (P.with_supervisor p v a.state) (Play.wire_after p.wire k a.answer)) (A.with_supervisor here v a.state u)
     to_supervisor_lem v bytes t =
         let a = S.supervisor_deliver image v (P.supervisor_at p v) bytes in
         supervisor_changed v a.state (Play.wire_after p.wire k a.answer) u (message_stays rs (verdict_of image) plan v (P.supervisor_at p v) (parse bytes)) (after_done k q a.answer e t ∙ left)
 
-    to_module_lem : (m : ℕ) (bytes : List ℕ) → let a = M.module_deliver image m (P.module_at p m) bytes in a.answer ≡ Done
+    to_module_lem : (m : ℕ) (bytes : List ℕ) → let a = M.module_deliver image m (P.module_at p m) bytes in a.answer ≡ Ok tt
         → Is (P.with_wire (P.with_module p m a.state) (Play.wire_after p.wire k a.answer)) (A.with_module here m a.state u)
     to_module_lem m bytes t =
         let a = M.module_deliver image m (P.module_at p m) bytes in
         module_changed m a.state (Play.wire_after p.wire k a.answer) p.device u (permit_stays rs (verdict_of image) plan m (P.module_at p m) (parse bytes)) (after_done k q a.answer e t ∙ left)
 
     -- the bytes name the party that the message names
-    message_delivered : (g : Message) → answer_to image here (message_bytes g) (parse (message_bytes g)) ≡ Done
-        → Is (Play.delivered_by image p k (It g)).play (A.delivered image here (message_bytes g) u (parse (message_bytes g)))
+    message_delivered : (g : Message) → answer_to image here (message_bytes g) (parse (message_bytes g)) ≡ Ok tt
+        → Is (Play.delivered_by image p k (Some g)).play (A.delivered image here (message_bytes g) u (parse (message_bytes g)))
     unfolding Play.delivered_by Play.to_module Play.to_supervisor A.delivered answer_to
     message_delivered (Bid m v) t =
-        let r : parse (message_bytes (Bid m v)) ≡ WholeMessage (Bid m v) = parse_bytes (Bid m v) tt in
-        subst (λ (g : Parsed). Is (Play.delivered_by image p k (It (Bid m v))).play (A.delivered image here (message_bytes (Bid m v)) u g)) (sym r)
+        let r : parse (message_bytes (Bid m v)) ≡ Some (Bid m v) = parse_bytes (Bid m v) tt in
+        subst (λ (g : Option Message). Is (Play.delivered_by image p k (Some (Bid m v))).play (A.delivered image here (message_bytes (Bid m v)) u g)) (sym r)
         (to_supervisor_lem v (message_bytes (Bid m v)) (sym (ap (answer_to image here (message_bytes (Bid m v))) r) ∙ t))
     message_delivered (Permit v m x) t =
-        let r : parse (message_bytes (Permit v m x)) ≡ WholeMessage (Permit v m (word_at (message_bytes (Permit v m x)) 3)) = permit_read v m x in
-        subst (λ (g : Parsed). Is (Play.delivered_by image p k (It (Permit v m x))).play (A.delivered image here (message_bytes (Permit v m x)) u g)) (sym r)
+        let r : parse (message_bytes (Permit v m x)) ≡ Some (Permit v m (word_at (message_bytes (Permit v m x)) 3)) = permit_read v m x in
+        subst (λ (g : Option Message). Is (Play.delivered_by image p k (Some (Permit v m x))).play (A.delivered image here (message_bytes (Permit v m x)) u g)) (sym r)
         (to_module_lem m (message_bytes (Permit v m x)) (sym (ap (answer_to image here (message_bytes (Permit v m x))) r) ∙ t))
     message_delivered (Release m v n) t =
-        let r : parse (message_bytes (Release m v n)) ≡ WholeMessage (Release m v n) = parse_bytes (Release m v n) tt in
-        subst (λ (g : Parsed). Is (Play.delivered_by image p k (It (Release m v n))).play (A.delivered image here (message_bytes (Release m v n)) u g)) (sym r)
+        let r : parse (message_bytes (Release m v n)) ≡ Some (Release m v n) = parse_bytes (Release m v n) tt in
+        subst (λ (g : Option Message). Is (Play.delivered_by image p k (Some (Release m v n))).play (A.delivered image here (message_bytes (Release m v n)) u g)) (sym r)
         (to_supervisor_lem v (message_bytes (Release m v n)) (sym (ap (answer_to image here (message_bytes (Release m v n))) r) ∙ t))
 
   -- the k-th message under way has the index j among all that were sent
@@ -222,30 +217,30 @@ module _ (image : List ℕ) (plan : IsPlan image) (T : TurnLaws (records_of imag
     abbrev j : ℕ
     j = index_sent k w
 
-    both : (g : Picked Sent) (b : List ℕ) → picked_of bytes_of (some g) ≡ brought_with (some b) (A.under_way (A.mark j w))
+    both : (g : Picked Sent) (b : List ℕ) → picked_of bytes_of (Some g) ≡ brought_with (Some b) (A.under_way (A.mark j w))
         → ◌≡◌ {A = Picked (List ℕ)} (record { item = bytes_of g.item; rest = map bytes_of g.rest }) (record { item = b; rest = A.under_way (A.mark j w) })
     unfolding picked_of brought_with
     both g b q = cc
 
-    done : (b : List ℕ) → A.brought j w ≡ some b → answer_to image here b (parse b) ≡ Done
-    done b f = let h = brought_open (A.at j w) b f in subst (λ (bytes : List ℕ). answer_to image here bytes (parse bytes) ≡ Done) h.3 (t j h.0 h.1 h.2)
+    done : (b : List ℕ) → A.brought j w ≡ Some b → answer_to image here b (parse b) ≡ Ok tt
+    done b f = let h = brought_open (A.at j w) b f in subst (λ (bytes : List ℕ). answer_to image here bytes (parse bytes) ≡ Ok tt) h.3 (t j h.0 h.1 h.2)
 
     brought_here : (o : Option (Picked Sent)) (b : Option (List ℕ)) → pick k (W.under p.wire) ≡ o → A.brought j w ≡ b → picked_of bytes_of o ≡ brought_with b (A.under_way (A.mark j w))
         → Is (Play.delivered_by image p k (picked_message o)).play (A.delivered_at image here j b)
     unfolding picked_message A.delivered_at
-    brought_here none none e f q = unfold Play.delivered_by in (record { states = refl; wire = same })
-    brought_here none (some b) e f q = unfold picked_of brought_with in (let z : ◌≡◌ {A = ℕ} 0 1 = cc in absurd (omega arith))
-    brought_here (some g) none e f q = unfold picked_of brought_with in (let z : ◌≡◌ {A = ℕ} 0 1 = cc in absurd (omega arith))
-    brought_here (some g) (some b) e f q =
+    brought_here None None e f q = unfold Play.delivered_by in (record { states = refl; wire = same })
+    brought_here None (Some b) e f q = unfold picked_of brought_with in (let z : ◌≡◌ {A = ℕ} 0 1 = cc in absurd (omega arith))
+    brought_here (Some g) None e f q = unfold picked_of brought_with in (let z : ◌≡◌ {A = ℕ} 0 1 = cc in absurd (omega arith))
+    brought_here (Some g) (Some b) e f q =
         let i : bytes_of g.item ≡ b = ap (λ (x : Picked (List ℕ)). x.item) (both g b q) in
-        subst (λ (bytes : List ℕ). Is (Play.delivered_by image p k (It g.item.message)).play (A.delivered image here bytes (A.mark j w) (parse bytes))) i
+        subst (λ (bytes : List ℕ). Is (Play.delivered_by image p k (Some g.item.message)).play (A.delivered image here bytes (A.mark j w) (parse bytes))) i
         (message_delivered k g e (A.mark j w) (ap (λ (x : Picked (List ℕ)). x.rest) (both g b q)) g.item.message
         (ap (λ (bytes : List ℕ). answer_to image here bytes (parse bytes)) i ∙ done b f))
 
     delivery : Is (Play.delivered image p k).play (A.step image here (A.deliver j))
     unfolding A.step
     delivery =
-        subst (λ (o : MessageAt). Is (Play.delivered_by image p k o).play (A.delivered_at image here j (A.brought j w))) (sym (nth_pick k (W.under p.wire)))
+        subst (λ (o : Option Message). Is (Play.delivered_by image p k o).play (A.delivered_at image here j (A.brought j w))) (sym (nth_pick k (W.under p.wire)))
         (brought_here (pick k (W.under p.wire)) (A.brought j w) refl refl (sym (pick_map bytes_of k (W.under p.wire)) ∙ ap (pick k) same ∙ pick_under_way k w))
 
   responded : (m e : ℕ) → Is (Play.responded image p m e).play (A.step image here (A.respond m e))
@@ -302,12 +297,12 @@ module _ (image : List ℕ) (plan : IsPlan image) (T : TurnLaws (records_of imag
       go true q = sym e
       go false q = device_stays rs (verdict_of image) plan p.device m r (ltb-false m (modules_of rs) q)
 
-  delivery_fed : (k : ℕ) (o : MessageAt) → (Play.delivered_by image p k o).play.device ≡ p.device
+  delivery_fed : (k : ℕ) (o : Option Message) → (Play.delivered_by image p k o).play.device ≡ p.device
   unfolding Play.delivered_by Play.to_module Play.to_supervisor
-  delivery_fed k Missing = refl
-  delivery_fed k (It (Bid m v)) = refl
-  delivery_fed k (It (Permit v m x)) = refl
-  delivery_fed k (It (Release m v e)) = refl
+  delivery_fed k None = refl
+  delivery_fed k (Some (Bid m v)) = refl
+  delivery_fed k (Some (Permit v m x)) = refl
+  delivery_fed k (Some (Release m v e)) = refl
 
   pub line_device : (a : Line) → p.wire.count + 32 ≤ 96 → ((m : ℕ) → m < modules_of rs → M.module_fits rs m (P.module_at p m) ≡ true)
       → (Play.played image p a).play.device ≡ C.device_run image p.device (C.fed image here (call_of w a))
@@ -346,12 +341,12 @@ module _ (image : List ℕ) (plan : IsPlan image) (T : TurnLaws (records_of imag
       let k = M.module_tick image m (P.module_at p m) f in
       ap (λ (x : Module). cond (ltb m (modules_of rs)) (C.call_seen m k.answer x.own ∷ []) []) (state_after_lem (Play.ticked image p m f).play m k.state _ (ticked m f))
 
-  delivery_seen : (q : Parties) (k : ℕ) (o : MessageAt) → answer_seen rs q (Play.delivered_by image p k o).answer ≡ []
+  delivery_seen : (q : Parties) (k : ℕ) (o : Option Message) → answer_seen rs q (Play.delivered_by image p k o).answer ≡ []
   unfolding answer_seen Play.delivered_by Play.to_module Play.to_supervisor
-  delivery_seen q k Missing = refl
-  delivery_seen q k (It (Bid m v)) = refl
-  delivery_seen q k (It (Permit v m x)) = refl
-  delivery_seen q k (It (Release m v e)) = refl
+  delivery_seen q k None = refl
+  delivery_seen q k (Some (Bid m v)) = refl
+  delivery_seen q k (Some (Permit v m x)) = refl
+  delivery_seen q k (Some (Release m v e)) = refl
 
   pub line_seen : (a : Line) → p.wire.count + 32 ≤ 96 → answer_seen rs (Play.played image p a).play (Play.played image p a).answer ≡ C.seen image here (call_of w a)
   unfolding Play.played call_of C.seen

@@ -1,4 +1,7 @@
 -- An array with one slot set is a function changed at one number; a call leaves a party that the plan lacks as it was.
+use Rattle.std.specs.Prelude.{Option, Some, None, Result, Ok, ⊤}
+use Rattle.refusal.specs.declared.Refusal.{Refusal}
+use Rattle.messages.specs.declared.Message.{Message}
 use Prim.Native.Nat.{ℕ, ◌+◌, ◌≤◌}
 use native.Mathlib.Omega.{arith}
 use mathlib.Core.Path.{◌≡◌, refl, sym, ap, ◌∙◌}
@@ -10,11 +13,7 @@ use lib.Dec.{ltb}
 use borrow.Author.Tests.{le-ltb, ltb-true, ltb-false}
 use Rattle.records.specs.declared.Record.{Record}
 use Rattle.rules.specs.LookUp.{modules_of, supervisors_of}
-use Rattle.rules.specs.declared.Verdict.{Verdict}
-use Rattle.rules.specs.declared.Verdict.TheVariants.{Accepted}
 use Rattle.modules.specs.declared.Replied.{Replied}
-use Rattle.messages.specs.declared.Parsed.{Parsed}
-use Rattle.messages.specs.declared.Parsed.TheVariants.{Whole, Misshapen}
 use Rattle.device_states.specs.States as States
 use Rattle.device.specs.Device as Dev
 use Rattle.words.specs.Lists.{list_from}
@@ -48,7 +47,7 @@ from_is f n m d h = go (ltb m n) refl
         let k : n ≤ m = ltb-false m n q in
         get_or-eq_default (list_from f 0 n) d (rw (from_length f 0 n) k) ∙ sym (h k)
 
-module _ (rs : List Record) (w : Verdict) (plan : w ≡ Accepted) where
+module _ (rs : List Record) (w : Result ⊤ Refusal) (plan : w ≡ Ok tt) where
   pub module_none : (m : ℕ) → modules_of rs ≤ m → (M.start_by w rs m).state ≡ M.empty_module
   unfolding M.start_by
   module_none m l = rw (plan, le-ltb m (modules_of rs) l)
@@ -61,15 +60,15 @@ module _ (rs : List Record) (w : Verdict) (plan : w ≡ Accepted) where
   unfolding M.reply_by
   reply_stays m x r l = rw (plan, le-ltb m (modules_of rs) l)
 
-  pub permit_stays : (m : ℕ) (x : Module) (g : Parsed) → modules_of rs ≤ m → (M.deliver_by w rs m x g).state ≡ x
+  pub permit_stays : (m : ℕ) (x : Module) (g : Option Message) → modules_of rs ≤ m → (M.deliver_by w rs m x g).state ≡ x
   unfolding M.deliver_by M.absent
-  permit_stays m x Misshapen l = rw (plan, le-ltb m (modules_of rs) l)
-  permit_stays m x (Whole g) l = rw (plan, le-ltb m (modules_of rs) l)
+  permit_stays m x None l = rw (plan, le-ltb m (modules_of rs) l)
+  permit_stays m x (Some g) l = rw (plan, le-ltb m (modules_of rs) l)
 
-  pub message_stays : (v : ℕ) (y : Supervisor) (g : Parsed) → supervisors_of rs ≤ v → (S.deliver_by w rs v y g).state ≡ y
+  pub message_stays : (v : ℕ) (y : Supervisor) (g : Option Message) → supervisors_of rs ≤ v → (S.deliver_by w rs v y g).state ≡ y
   unfolding S.deliver_by S.absent
-  message_stays v y Misshapen l = rw (plan, le-ltb v (supervisors_of rs) l)
-  message_stays v y (Whole g) l = rw (plan, le-ltb v (supervisors_of rs) l)
+  message_stays v y None l = rw (plan, le-ltb v (supervisors_of rs) l)
+  message_stays v y (Some g) l = rw (plan, le-ltb v (supervisors_of rs) l)
 
   -- the one device, called for a module that the plan lacks
   pub device_stays : (d : Device) (m : ℕ) (r : Replied) → modules_of rs ≤ m → (Dev.reply_by w rs d m r).device ≡ d

@@ -1,37 +1,33 @@
 -- The messages under way: what a step wrote, and what a delivery leaves.
+use Rattle.std.specs.Prelude.{Option, Some, None, Result, Ok, Err, ⊤}
+use Rattle.refusal.specs.declared.Refusal.{Refusal}
 use Prim.Native.Nat.{ℕ, zero, suc, ◌+◌, ◌/◌, ◌^◌, ◌≤◌, ◌<◌}
 use native.Mathlib.Omega.{arith}
 use mathlib.Core.Path.{◌≡◌, refl, sym, ap, ap₂, ◌∙◌}
 use mathlib.Core.Bool.{Bool, true, false, cond}
 use mathlib.Core.List.{List, [], ◌∷◌, ◌++◌, map, append_assoc, append-nil}
-use mathlib.Core.Option.{Option, none, some}
 use lib.ListN.{length, take, drop, length-map}
 use lib.Seq.{take_at}
 use lib.Dec.{ltb}
 use Rattle.bits.specs.Bit.{bit}
 use Rattle.records.specs.declared.Record.{Record}
 use Rattle.plan.specs.Plan.{neighbours, shown}
-use Rattle.rules.specs.declared.Verdict.{Verdict}
-use Rattle.rules.specs.declared.Verdict.TheVariants.{Accepted, Refused as PlanRefused}
 use Rattle.rules.specs.LookUp.{modules_of, supervisors_of}
-use Rattle.modules.specs.declared.Turn.{Turn}
 use Rattle.messages.specs.Message.{release_size, message_bytes, parse, pieces, short, written}
 use Rattle.messages.specs.declared.Message.{Message}
 use Rattle.messages.specs.declared.Message.TheVariants.{Permit, Release}
 use Rattle.permits.specs.declared.Module.{Module}
 use Rattle.permits.specs.declared.Supervisor.{Supervisor}
 use Rattle.permits.specs.declared.Stepped.{Stepped}
-use Rattle.permits.specs.declared.Stepped.TheVariants.{Turns, Bids, Waits, Refused}
+use Rattle.permits.specs.declared.Stepped.TheVariants.{Turns, Bids, Waits}
 use Rattle.permits.specs.declared.Served.{Served}
-use Rattle.permits.specs.declared.Served.TheVariants.{Sends, Waits as ServedWaits, Refused as ServedRefused}
+use Rattle.permits.specs.declared.Served.TheVariants.{Sends, Waits as ServedWaits}
 use Rattle.permits.specs.Module as M
 use Rattle.permits.specs.Supervisor as S
 use Rattle.permits.specs.Step.{bytes_of_messages}
 use Rattle.permits.proofs.Stepping.{bytes_one}
 use Rattle.wire.specs.declared.Sent.{Sent}
 use Rattle.wire.specs.declared.Wire.{Wire}
-use Rattle.wire.specs.declared.MessageAt.{MessageAt}
-use Rattle.wire.specs.declared.MessageAt.TheVariants.{It, Missing}
 use Rattle.wire.specs.Wire as W
 use Rattle.wire.proofs.Lists.{all_are}
 use Rattle.simulation.specs.Play.{read_by, read, read_all, releases_of}
@@ -74,7 +70,7 @@ read_append [] q = refl
 read_append (g ∷ p) q = ap (λ (k : List Sent). read g ++ k) (read_append p q) ∙ sym (append_assoc (read g) (read_all p) (read_all q))
 
 -- releases are read back, each by itself
-module _ (rs : List Record) (m : ℕ) (t : Turn) where
+module _ (rs : List Record) (m : ℕ) (t : Option ℕ) where
   abbrev ReadBack : List Message → Type 0
   ReadBack gs = read_all (map message_bytes gs) ≡ map W.sent gs
 
@@ -102,11 +98,11 @@ module _ (rs : List Record) (m : ℕ) (t : Turn) where
       ∙ ap read_all (pieces_of gs [] each) ∙ releases_read n
 
 -- what the simulation puts under way
-unfoldable pub put_by : Stepped → List ℕ → List Sent
-put_by (Turns t n) b = releases_of (take n b)
-put_by (Bids v n) b = read (take n b)
-put_by Waits b = []
-put_by (Refused n o) b = []
+unfoldable pub put_by : Result Stepped Refusal → List ℕ → List Sent
+put_by (Ok (Turns t n)) b = releases_of (take n b)
+put_by (Ok (Bids v n)) b = read (take n b)
+put_by (Ok Waits) b = []
+put_by (Err e) b = []
 
 -- what was written stands at the buffer's start
 at_start : (bytes b : List ℕ) → take (length bytes) (written bytes b) ≡ bytes
@@ -133,9 +129,9 @@ module _ (rs : List Record) (m : ℕ) (x : Module) (b : List ℕ) where
   unfolding put_by A.wrote
   refused_put n o = none_put
 
-  pub module_put : (w : Verdict) → Put (M.step_by w rs m x b)
+  pub module_put : (w : Result ⊤ Refusal) → Put (M.step_by w rs m x b)
   unfolding M.step_by M.step_in
-  module_put Accepted = go (ltb m (modules_of rs)) (M.module_fits rs m x) (short (M.step_bytes rs m x (M.choice rs m x)) b)
+  module_put (Ok u) = go (ltb m (modules_of rs)) (M.module_fits rs m x) (short (M.step_bytes rs m x (M.choice rs m x)) b)
     where
       call : M.StepCall
       call = record { answer = M.answer_by rs m x (M.choice rs m x); state = M.state_by rs m x (M.choice rs m x); buffer = written (M.step_bytes rs m x (M.choice rs m x)) b }
@@ -145,14 +141,14 @@ module _ (rs : List Record) (m : ℕ) (x : Module) (b : List ℕ) where
       go true true false = choice_put (M.choice rs m x)
       go true false s = refused_put 9 0
       go false f s = refused_put 11 0
-  module_put (PlanRefused n o) = refused_put n o
+  module_put (Err e) = refused_put e.number e.offset
 
 -- ---- what a supervisor step wrote
 
-unfoldable pub put_out : Served → List ℕ → List Sent
-put_out (Sends m n) b = read (take n b)
-put_out ServedWaits b = []
-put_out (ServedRefused n o) b = []
+unfoldable pub put_out : Result Served Refusal → List ℕ → List Sent
+put_out (Ok (Sends m n)) b = read (take n b)
+put_out (Ok ServedWaits) b = []
+put_out (Err e) b = []
 
 module _ (rs : List Record) (v : ℕ) (x : Supervisor) (b : List ℕ) (small : shown rs v x.state < 2 ^ 64) where
   abbrev bytes_for : Option ℕ → List ℕ
@@ -162,14 +158,14 @@ module _ (rs : List Record) (v : ℕ) (x : Supervisor) (b : List ℕ) (small : s
   permit_put t = record { messages = S.sent_to rs v x t; put = put t; bytes = served_bytes rs v x t b; few = few t }
     where
       put : (t : Option ℕ) → put_out (S.answer_by (bytes_for t) t) (written (bytes_for t) b) ≡ map W.sent (S.sent_to rs v x t)
-      put none = unfold S.answer_by S.sent_to put_out in refl
-      put (some m) =
+      put None = unfold S.answer_by S.sent_to put_out in refl
+      put (Some m) =
           unfold S.answer_by S.sent_to put_out read_by in
-          (ap read (at_start (bytes_for (some m)) b ∙ bytes_one (Permit v m (shown rs v x.state))) ∙ ap read_by (parse_bytes (Permit v m (shown rs v x.state)) small))
+          (ap read (at_start (bytes_for (Some m)) b ∙ bytes_one (Permit v m (shown rs v x.state))) ∙ ap read_by (parse_bytes (Permit v m (shown rs v x.state)) small))
 
       few : (t : Option ℕ) → length (S.sent_to rs v x t) ≤ 32
-      few none = unfold S.sent_to in (omega arith)
-      few (some m) = unfold S.sent_to in (omega arith)
+      few None = unfold S.sent_to in (omega arith)
+      few (Some m) = unfold S.sent_to in (omega arith)
 
   abbrev PutOut : S.ServeCall → Type 0
   PutOut c = Same (put_out c.answer c.buffer) (A.wrote_out c.answer c.buffer)
@@ -178,9 +174,9 @@ module _ (rs : List Record) (v : ℕ) (x : Supervisor) (b : List ℕ) (small : s
   unfolding put_out A.wrote_out
   refused_out n o = none_put
 
-  pub supervisor_put : (w : Verdict) → PutOut (S.step_by w rs v x b)
+  pub supervisor_put : (w : Result ⊤ Refusal) → PutOut (S.step_by w rs v x b)
   unfolding S.step_by S.step_in
-  supervisor_put Accepted = go (ltb v (supervisors_of rs)) (S.supervisor_fits rs v x) (short (bytes_for (S.served x)) b)
+  supervisor_put (Ok u) = go (ltb v (supervisors_of rs)) (S.supervisor_fits rs v x) (short (bytes_for (S.served x)) b)
     where
       call : S.ServeCall
       call = record { answer = S.answer_by (bytes_for (S.served x)) (S.served x); state = S.state_by x (S.served x); buffer = written (bytes_for (S.served x)) b }
@@ -190,13 +186,13 @@ module _ (rs : List Record) (v : ℕ) (x : Supervisor) (b : List ℕ) (small : s
       go true true false = permit_put (S.served x)
       go true false s = refused_out 9 0
       go false f s = refused_out 11 0
-  supervisor_put (PlanRefused n o) = refused_out n o
+  supervisor_put (Err e) = refused_out e.number e.offset
 
 -- ---- the message at an index
 
-unfoldable pub picked_message : Option (Picked Sent) → MessageAt
-picked_message none = Missing
-picked_message (some q) = It q.item.message
+unfoldable pub picked_message : Option (Picked Sent) → Option Message
+picked_message None = None
+picked_message (Some q) = Some q.item.message
 
 pub nth_pick : (k : ℕ) (l : List Sent) → W.nth_of l k ≡ picked_message (pick k l)
 unfolding W.nth_of pick picked_message
@@ -205,13 +201,13 @@ nth_pick zero (s ∷ l) = refl
 nth_pick (suc k) (s ∷ l) = nth_pick k l ∙ go (pick k l)
   where
     go : (o : Option (Picked Sent)) → picked_message o ≡ picked_message (behind s o)
-    go none = unfold behind in refl
-    go (some q) = unfold behind in refl
+    go None = unfold behind in refl
+    go (Some q) = unfold behind in refl
 
 -- what is left when it is taken out
 unfoldable rest_or : List Sent → Option (Picked Sent) → List Sent
-rest_or l none = l
-rest_or l (some q) = q.rest
+rest_or l None = l
+rest_or l (Some q) = q.rest
 
 rest_is : (k : ℕ) (l : List Sent) → rest_or (W.drop_nth k l) (pick k l) ≡ W.drop_nth k l
 unfolding rest_or pick
@@ -220,10 +216,10 @@ rest_is zero (s ∷ l) = refl
 rest_is (suc k) (s ∷ l) = go (pick k l) (rest_is k l)
   where
     go : (o : Option (Picked Sent)) → rest_or (W.drop_nth k l) o ≡ W.drop_nth k l → rest_or (s ∷ W.drop_nth k l) (behind s o) ≡ s ∷ W.drop_nth k l
-    go none e = unfold behind in refl
-    go (some q) e = unfold behind in (ap (λ (r : List Sent). s ∷ r) e)
+    go None e = unfold behind in refl
+    go (Some q) e = unfold behind in (ap (λ (r : List Sent). s ∷ r) e)
 
-pub pick_rest : (k : ℕ) (l : List Sent) (q : Picked Sent) → pick k l ≡ some q → W.drop_nth k l ≡ q.rest
+pub pick_rest : (k : ℕ) (l : List Sent) (q : Picked Sent) → pick k l ≡ Some q → W.drop_nth k l ≡ q.rest
 unfolding rest_or
 pick_rest k l q e = sym (rest_is k l) ∙ ap (rest_or (W.drop_nth k l)) e
 
@@ -260,11 +256,11 @@ pick_under_way (suc k) (g ∷ w) = go g.delivered refl (pick_under_way (suc k) w
     go false e h f = found_behind k (index_sent k w) g w e f
 
 -- a delivery that brings bytes is that of a message under way
-pub brought_open : (o : Option A.Sent) (b : List ℕ) → A.once o ≡ some b → (g : A.Sent) × (o ≡ some g) × (g.delivered ≡ false) × (g.bytes ≡ b)
+pub brought_open : (o : Option A.Sent) (b : List ℕ) → A.once o ≡ Some b → (g : A.Sent) × (o ≡ Some g) × (g.delivered ≡ false) × (g.bytes ≡ b)
 unfolding A.once
-brought_open none b e = let z : ◌≡◌ {A = ℕ} 0 1 = cc in absurd (omega arith)
-brought_open (some g) b e = go g.delivered refl e
+brought_open None b e = let z : ◌≡◌ {A = ℕ} 0 1 = cc in absurd (omega arith)
+brought_open (Some g) b e = go g.delivered refl e
   where
-    go : (d : Bool) → g.delivered ≡ d → cond d none (some g.bytes) ≡ some b → (h : A.Sent) × (some g ≡ some h) × (h.delivered ≡ false) × (h.bytes ≡ b)
+    go : (d : Bool) → g.delivered ≡ d → cond d None (Some g.bytes) ≡ Some b → (h : A.Sent) × (Some g ≡ Some h) × (h.delivered ≡ false) × (h.bytes ≡ b)
     go true f q = let z : ◌≡◌ {A = ℕ} 0 1 = cc in absurd (omega arith)
     go false f q = (g, refl, f, cc)

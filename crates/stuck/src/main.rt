@@ -1,8 +1,6 @@
 // The program for the workstation: whether the plan of `plan.bin` ever gets stuck, and by which word.
 #![tactic(auto)]
 
-use blocking::Blocking;
-use checker::Examined;
 use places::Places;
 use std::{fs, io};
 use texts::Text;
@@ -42,19 +40,19 @@ fn run_on(rt: &impl Print, image: &[u8], places: Places) -> io::Result<()> {
     print(rt, script::header_line(modules, supervisors, events))?;
     let mut answer = [0u8; ANSWER];
     match blocking::find_stuck(image, &mut answer) {
-        Blocking::Free => print(rt, texts::word(b"never stuck\n")),
-        Blocking::Stuck(n) => {
+        Ok(None) => print(rt, texts::word(b"never stuck\n")),
+        Ok(Some(n)) => {
             let k = words::wide(modules) + words::wide(supervisors);
             print_stuck(rt, texts::first(&answer, n), k)
         }
-        Blocking::Refused(n, _) => print(rt, script::refused_line(n)),
+        Err(e) => print(rt, script::refused_line(e.number)),
     }
 }
 
 fn run(rt: &impl Print, image: &[u8]) -> io::Result<()> {
     match checker::examine(image) {
-        Examined::Accepted(places) => run_on(rt, image, places),
-        Examined::Refused(n, at) => print(rt, script::plan_refused_line(n, at)),
+        Ok(places) => run_on(rt, image, places),
+        Err(e) => print(rt, script::plan_refused_line(e.number, e.offset)),
     }
 }
 

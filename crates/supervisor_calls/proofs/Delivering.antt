@@ -1,4 +1,7 @@
 -- A message delivered, from what the code is told.
+use Rattle.std.specs.Prelude.{Option, Some, None, Result, Ok, Err}
+use Rattle.refusal.specs.Refusal.{refusal}
+use Rattle.refusal.specs.declared.Refusal.{Refusal}
 use mathlib.Core.Path.{◌≡◌, refl, sym, ap, ◌∙◌, subst}
 use mathlib.Core.List.{List}
 use mathlib.Core.Bool.{Bool, true, false, cond, not, ◌&&◌, ◌||◌, true≢false}
@@ -12,21 +15,15 @@ use Rattle.bits.specs.Bit.{bit, all_below}
 use Rattle.records.specs.declared.Record.{Record}
 use Rattle.reader.specs.Walk.{records_of}
 use Rattle.rules.specs.LookUp.{modules_of, supervisors_of, supervisor_state}
-use Rattle.rules.specs.declared.Verdict.TheVariants.{Accepted as IsAccepted}
 use Rattle.places.specs.declared.Places.{Places}
 use Rattle.places.specs.Places.{records_by}
 use Rattle.checker.specs.Examined.{examined_of}
-use Rattle.checker.specs.declared.Examined.{Examined}
-use Rattle.checker.specs.declared.Examined.TheVariants.{Accepted, Refused}
 use Rattle.checker.proofs.Examining.{accepted_by, records_by_lem, call_by, refused_call}
 use Rattle.accepted.proofs.Accepted.{every_plan}
 use Rattle.plan.specs.Plan.{neighbour, supervisor_moved}
-use Rattle.modules.specs.declared.Called.TheVariants.{Done}
 use Rattle.messages.specs.Message.{no_event, parse}
 use Rattle.messages.specs.declared.Message.{Message}
 use Rattle.messages.specs.declared.Message.TheVariants.{Bid, Permit, Release}
-use Rattle.messages.specs.declared.Parsed.{Parsed}
-use Rattle.messages.specs.declared.Parsed.TheVariants.{Whole, Misshapen}
 use Rattle.permits.specs.Names.{neighbours?, event_named, named}
 use Rattle.permits.specs.Supervisor.{with_state, with_noted, with_holder, holder_fits, supervisor_fits, call_refused, after_note, applied, after_release, held_by, taken_by, deliver_in, absent, deliver_by, supervisor_deliver}
 use Rattle.permits.specs.declared.Supervisor.{Supervisor}
@@ -40,7 +37,7 @@ use Rattle.noting.proofs.Planned.{present, lacking}
 -- ---- what the names of a message promise
 
 -- an accepted plan has at most 16 modules
-pub few_modules : (image : List ℕ) {x : Examined} {p : Places} → x ≡ examined_of image → x ≡ Accepted p → modules_of (records_by image p) ≤ 16
+pub few_modules : (image : List ℕ) {x : Result Places Refusal} {p : Places} → x ≡ examined_of image → x ≡ Ok p → modules_of (records_by image p) ≤ 16
 few_modules image {x} {p} e f =
     let most : modules_of (records_of image) ≤ 16 = (every_plan image (accepted_by image e f)).sound.modules.1 in
     subst (λ (rs : List Record). modules_of rs ≤ 16) (sym (records_by_lem image e f)) most
@@ -107,7 +104,7 @@ held_arm h m e f = f ∙ ap (λ (z : Holder). held_by z m) (sym e)
 -- ---- a message whose names are the plan's
 
 abbrev due : Bool → Supervisor → Supervisor → SupervisorCalled
-due t after y = cond t (record { answer = Done; state = after }) (call_refused y 12 0)
+due t after y = cond t (record { answer = Ok tt; state = after }) (call_refused y 12 0)
 
 module _ (rs : List Record) (v : ℕ) (y : Supervisor) (g : Message) {r : SupervisorCalled} {s : Supervisor} {b : Bool} where
   pub bid_by : {m w : ℕ} → g ≡ Bid m w → s ≡ after_note y m → b ≡ bit y.noted m → r ≡ due (eqb w v && not b) s y → r ≡ taken_by rs v y g
@@ -129,12 +126,12 @@ permit_by rs v y g e k = k ∙ rw e
 
 -- ---- what the bytes are
 
-module _ (rs : List Record) (v : ℕ) (y : Supervisor) (p : Parsed) {r : SupervisorCalled} where
-  pub misshapen_by : p ≡ Misshapen → r ≡ call_refused y 10 0 → r ≡ deliver_in rs v y p
+module _ (rs : List Record) (v : ℕ) (y : Supervisor) (p : Option Message) {r : SupervisorCalled} where
+  pub misshapen_by : p ≡ None → r ≡ call_refused y 10 0 → r ≡ deliver_in rs v y p
   unfolding deliver_in
   misshapen_by e k = k ∙ rw e
 
-  module _ {g : Message} {t : Bool} (e : p ≡ Whole g) (f : t ≡ named rs g) where
+  module _ {g : Message} {t : Bool} (e : p ≡ Some g) (f : t ≡ named rs g) where
     pub named_by : t ≡ true → r ≡ taken_by rs v y g → r ≡ deliver_in rs v y p
     unfolding deliver_in
     named_by q k = k ∙ rw e (simp (sym f ∙ q))
@@ -143,21 +140,21 @@ module _ (rs : List Record) (v : ℕ) (y : Supervisor) (p : Parsed) {r : Supervi
     unfolding deliver_in
     unnamed_by q k = k ∙ rw e (simp (sym f ∙ q))
 
-pub absent_arm : (y : Supervisor) (p : Parsed) {x : Parsed} {r : SupervisorCalled} → p ≡ x → r ≡ absent y x → r ≡ absent y p
+pub absent_arm : (y : Supervisor) (p : Option Message) {x : Option Message} {r : SupervisorCalled} → p ≡ x → r ≡ absent y x → r ≡ absent y p
 absent_arm y p e k = k ∙ ap (absent y) (sym e)
 
 -- ---- the whole call
 
-module _ (image : List ℕ) (v : ℕ) (y : Supervisor) (bytes : List ℕ) {d : Examined} (e : d ≡ examined_of image) where
-  pub deliver_refused : {n o : ℕ} {r : SupervisorCalled} → d ≡ Refused n o → r ≡ call_refused y n o → r ≡ supervisor_deliver image v y bytes
+module _ (image : List ℕ) (v : ℕ) (y : Supervisor) (bytes : List ℕ) {d : Result Places Refusal} (e : d ≡ examined_of image) where
+  pub deliver_refused : {n o : ℕ} {r : SupervisorCalled} → d ≡ Err (refusal n o) → r ≡ call_refused y n o → r ≡ supervisor_deliver image v y bytes
   unfolding deliver_by
   deliver_refused f h = h ∙ refused_call image e (λ w rs. deliver_by w rs v y (parse bytes)) f
 
-  module _ {q : Places} {k : ℕ} {p : Parsed} (f : d ≡ Accepted q) (c : k ≡ supervisors_of (records_by image q)) (i : p ≡ parse bytes) where
+  module _ {q : Places} {k : ℕ} {p : Option Message} (f : d ≡ Ok q) (c : k ≡ supervisors_of (records_by image q)) (i : p ≡ parse bytes) where
     abbrev rs : List Record
     rs = records_by image q
 
-    by : deliver_by IsAccepted rs v y (parse bytes) ≡ supervisor_deliver image v y bytes
+    by : deliver_by (Ok tt) rs v y (parse bytes) ≡ supervisor_deliver image v y bytes
     by = call_by image e (λ w rs. deliver_by w rs v y (parse bytes)) f
 
     pub deliver_absent : {r : SupervisorCalled} → k ≤ v → r ≡ absent y p → r ≡ supervisor_deliver image v y bytes

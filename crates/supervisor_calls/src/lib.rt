@@ -1,23 +1,25 @@
 // The supervisor's calls on many devices but for its step: definitions in permits/specs/Supervisor.antt.
 #![tactic(auto)]
 
-ghost use Rattle.std.specs.Prelude.{◌≡◌, true, cond, ◌≤◌, ◌<◌};
+ghost use Rattle.std.specs.Prelude.{◌≡◌, true, cond, ◌≤◌, ◌<◌, Ok};
 ghost use Rattle.places.specs.Places.{records_by};
 ghost use Rattle.rules.specs.LookUp.{modules_of};
 ghost use Rattle.permits.specs.Names.{named};
 ghost use Rattle.permits.specs.Supervisor.{supervisor_fits, after_note, after_release, call_refused, applied, held_by, taken_by, deliver_in, absent, supervisor_deliver, supervisor_start};
 
-use checker::Examined;
-use messages::{Message, Parsed};
-use modules::Called;
+use messages::Message;
 use permits::{Holder, Supervisor, SupervisorCalled};
 use places::Places;
+use refusal::Refusal;
 
 fn refused(y: Supervisor, n: u8, at: usize) -> SupervisorCalled
     ensures { result ≡ call_refused y n at }
 {
     SupervisorCalled {
-        answer: Called::Refused(n, at),
+        answer: Err(Refusal {
+            number: n,
+            offset: at,
+        }),
         state: y,
     }
 }
@@ -29,20 +31,20 @@ pub fn start(image: &[u8], v: u8) -> SupervisorCalled
     ensures { result ≡ supervisor_start image.now v }
 {
     match checker::examine(image) {
-        Examined::Accepted(places) => {
+        Ok(places) => {
             if v < plan::supervisors_of(image, places) {
                 let mut state = permits::empty_supervisor();
                 state.state = plan::supervisor_initial(image, places, v);
                 state.last = 15;
                 SupervisorCalled {
-                    answer: Called::Done,
+                    answer: Ok(()),
                     state,
                 }
             } else {
                 refused(permits::empty_supervisor(), 11, 0)
             }
         }
-        Examined::Refused(n, at) => refused(permits::empty_supervisor(), n, at),
+        Err(e) => refused(permits::empty_supervisor(), e.number, e.offset),
     }
 }
 
@@ -50,11 +52,11 @@ pub fn start(image: &[u8], v: u8) -> SupervisorCalled
 
 // The state after a message that is due; 12 for one out of turn.
 fn done_if(due: bool, after: Supervisor, y: Supervisor) -> SupervisorCalled
-    ensures { result ≡ cond due (record { answer = Called.Done; state = after }) (call_refused y 12 0) }
+    ensures { result ≡ cond due (record { answer = Ok tt; state = after }) (call_refused y 12 0) }
 {
     if due {
         SupervisorCalled {
-            answer: Called::Done,
+            answer: Ok(()),
             state: after,
         }
     } else {
@@ -144,11 +146,17 @@ fn is_named(image: &[u8], places: Places, v: u8, y: Supervisor, g: Message) -> b
     permits::named(image, places, g)
 }
 
-fn deliver_in(image: &[u8], places: Places, v: u8, y: Supervisor, p: Parsed) -> SupervisorCalled
+fn deliver_in(
+    image: &[u8],
+    places: Places,
+    v: u8,
+    y: Supervisor,
+    p: Option<Message>,
+) -> SupervisorCalled
     requires { (modules_of (records_by image.now places) ≤ 16) × (supervisor_fits (records_by image.now places) v y ≡ true) }
     ensures { result ≡ deliver_in (records_by image.now places) v y p }
 {
-    let Parsed::Whole(g) = p else {
+    let Some(g) = p else {
         return refused(y, 10, 0);
     };
     if is_named(image, places, v, y, g) {
@@ -159,12 +167,12 @@ fn deliver_in(image: &[u8], places: Places, v: u8, y: Supervisor, p: Parsed) -> 
 }
 
 // A supervisor that the plan lacks.
-fn absent(y: Supervisor, p: Parsed) -> SupervisorCalled
+fn absent(y: Supervisor, p: Option<Message>) -> SupervisorCalled
     ensures { result ≡ absent y p }
 {
     match p {
-        Parsed::Whole(_) => refused(y, 11, 0),
-        Parsed::Misshapen => refused(y, 10, 0),
+        Some(_) => refused(y, 11, 0),
+        None => refused(y, 10, 0),
     }
 }
 
@@ -174,7 +182,7 @@ pub fn deliver(image: &[u8], v: u8, y: Supervisor, bytes: &[u8]) -> SupervisorCa
 {
     let p = messages::read(bytes);
     match checker::examine(image) {
-        Examined::Accepted(places) => {
+        Ok(places) => {
             if v < plan::supervisors_of(image, places) {
                 if noting::fits(image, places, v, y) {
                     deliver_in(image, places, v, y, p)
@@ -185,6 +193,6 @@ pub fn deliver(image: &[u8], v: u8, y: Supervisor, bytes: &[u8]) -> SupervisorCa
                 absent(y, p)
             }
         }
-        Examined::Refused(n, at) => refused(y, n, at),
+        Err(e) => refused(y, e.number, e.offset),
     }
 }

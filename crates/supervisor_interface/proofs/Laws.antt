@@ -1,4 +1,7 @@
 -- The calls over lent bytes, from what the code is told.
+use Rattle.std.specs.Prelude.{Ok, Err}
+use Rattle.refusal.specs.Refusal.{refused_number}
+use Rattle.refusal.specs.declared.Refusal.{Refusal}
 use mathlib.Core.Path.{◌≡◌, refl, ap, ap₂, ◌∙◌, subst}
 use mathlib.Core.List.{List, []}
 use mathlib.Core.Bool.{Bool, true, false}
@@ -9,9 +12,6 @@ use lib.Dec.{eqb}
 use borrow.Author.Tests.{lt-ltb, le-ltb}
 use Rattle.messages.specs.Message.{put_at, short}
 use Rattle.messages.proofs.Writing.{put_start}
-use Rattle.modules.specs.Numbers.{called_number}
-use Rattle.modules.specs.declared.Called.TheVariants.{Done, Refused}
-use Rattle.permits.specs.Numbers.{served_number}
 use Rattle.permits.specs.Supervisor.{ServeCall, supervisor_start, supervisor_step, supervisor_deliver}
 use Rattle.permits.specs.declared.Supervisor.{Supervisor}
 use Rattle.permits.specs.declared.SupervisorCalled.{SupervisorCalled}
@@ -24,34 +24,34 @@ use Rattle.packing.proofs.Accepted.{after_yes, after_no}
 use Rattle.supervisor_interface.specs.Calls.{called_on, stepped_on, start_bytes, step_bytes, deliver_bytes}
 
 module _ (c : SupervisorCalled) (s : List ℕ) {t : Bool} {r : ℕ} where
-  pub keep_yes : {after : List ℕ} → t ≡ eqb (called_number c.answer) 0 → t ≡ true → after ≡ put_at (supervisor_bytes c.state) 0 s → r ≡ called_answer c.answer → Answered (called_on c s) r after []
-  keep_yes e h w z = record { answer = z; state = w ∙ after_yes (called_number c.answer) (put_at (supervisor_bytes c.state) 0 s) s e h; buffer = refl }
+  pub keep_yes : {after : List ℕ} → t ≡ eqb (refused_number c.answer) 0 → t ≡ true → after ≡ put_at (supervisor_bytes c.state) 0 s → r ≡ called_answer c.answer → Answered (called_on c s) r after []
+  keep_yes e h w z = record { answer = z; state = w ∙ after_yes (refused_number c.answer) (put_at (supervisor_bytes c.state) 0 s) s e h; buffer = refl }
 
-  pub keep_no : t ≡ eqb (called_number c.answer) 0 → t ≡ false → r ≡ called_answer c.answer → Answered (called_on c s) r s []
-  keep_no e h z = record { answer = z; state = after_no (called_number c.answer) (put_at (supervisor_bytes c.state) 0 s) s e h; buffer = refl }
+  pub keep_no : t ≡ eqb (refused_number c.answer) 0 → t ≡ false → r ≡ called_answer c.answer → Answered (called_on c s) r s []
+  keep_no e h z = record { answer = z; state = after_no (refused_number c.answer) (put_at (supervisor_bytes c.state) 0 s) s e h; buffer = refl }
 
 module _ (c : SupervisorStepped) (s : List ℕ) {t : Bool} {r : ℕ} where
-  pub keep_step_yes : {after : List ℕ} → t ≡ eqb (served_number c.answer) 0 → t ≡ true → after ≡ put_at (supervisor_bytes c.state) 0 s → r ≡ served_answer c.answer → Answered (stepped_on c.answer c.state s []) r after []
-  keep_step_yes e h w z = record { answer = z; state = w ∙ after_yes (served_number c.answer) (put_at (supervisor_bytes c.state) 0 s) s e h; buffer = refl }
+  pub keep_step_yes : {after : List ℕ} → t ≡ eqb (refused_number c.answer) 0 → t ≡ true → after ≡ put_at (supervisor_bytes c.state) 0 s → r ≡ served_answer c.answer → Answered (stepped_on c.answer c.state s []) r after []
+  keep_step_yes e h w z = record { answer = z; state = w ∙ after_yes (refused_number c.answer) (put_at (supervisor_bytes c.state) 0 s) s e h; buffer = refl }
 
-  pub keep_step_no : t ≡ eqb (served_number c.answer) 0 → t ≡ false → r ≡ served_answer c.answer → Answered (stepped_on c.answer c.state s []) r s []
-  keep_step_no e h z = record { answer = z; state = after_no (served_number c.answer) (put_at (supervisor_bytes c.state) 0 s) s e h; buffer = refl }
+  pub keep_step_no : t ≡ eqb (refused_number c.answer) 0 → t ≡ false → r ≡ served_answer c.answer → Answered (stepped_on c.answer c.state s []) r s []
+  keep_step_no e h z = record { answer = z; state = after_no (refused_number c.answer) (put_at (supervisor_bytes c.state) 0 s) s e h; buffer = refl }
 
 -- ---- a start
 
 module _ (c : SupervisorCalled) (b : List ℕ) {r : ℕ} where
-  pub give_short : c.answer ≡ Done → length b < supervisor_size → r ≡ packed 15 0 0 0 → Answered (start_answer supervisor_size c.answer (supervisor_bytes c.state) b) r [] b
+  pub give_short : c.answer ≡ Ok tt → length b < supervisor_size → r ≡ packed 15 0 0 0 → Answered (start_answer supervisor_size c.answer (supervisor_bytes c.state) b) r [] b
   unfolding start_answer
   give_short e h w = rw e (simp (lt-ltb (length b) supervisor_size h) (record { answer = w; state = refl; buffer = refl }))
 
-  pub give_done : {after : List ℕ} → c.answer ≡ Done → supervisor_size ≤ length b → after ≡ put_at (supervisor_bytes c.state) 0 b → r ≡ packed 0 0 0 supervisor_size
+  pub give_done : {after : List ℕ} → c.answer ≡ Ok tt → supervisor_size ≤ length b → after ≡ put_at (supervisor_bytes c.state) 0 b → r ≡ packed 0 0 0 supervisor_size
       → Answered (start_answer supervisor_size c.answer (supervisor_bytes c.state) b) r [] after
   unfolding start_answer
   give_done e h w z =
       let fit : short (supervisor_bytes c.state) b ≡ false = le-ltb (length b) (length (supervisor_bytes c.state)) (omega (arith, length_supervisor c.state)) in
       rw e (simp (le-ltb (length b) supervisor_size h) (record { answer = z; state = refl; buffer = w ∙ put_start (supervisor_bytes c.state) b fit }))
 
-  pub give_refused : {n o : ℕ} → c.answer ≡ Refused n o → r ≡ packed n 0 0 o → Answered (start_answer supervisor_size c.answer (supervisor_bytes c.state) b) r [] b
+  pub give_refused : {e : Refusal} → c.answer ≡ Err e → r ≡ packed e.number 0 0 e.offset → Answered (start_answer supervisor_size c.answer (supervisor_bytes c.state) b) r [] b
   unfolding start_answer
   give_refused e w = rw e (record { answer = w; state = refl; buffer = refl })
 

@@ -6,7 +6,6 @@ ghost use Rattle.party_bytes.specs.Supervisor.{supervisor_size, supervisor_bytes
 ghost use Rattle.packing.specs.Answer.{Answered, start_answer};
 ghost use Rattle.supervisor_interface.specs.Calls.{called_on, stepped_on, start_bytes, step_bytes, deliver_bytes};
 
-use modules::Called;
 use permits::{SupervisorCalled, SupervisorStepped};
 
 // The answer, and the state if the call is accepted.
@@ -15,7 +14,7 @@ fn keep(state: &mut [u8], c: SupervisorCalled) -> u64
 {
     let answer = c.answer;
     let y = c.state;
-    if packing::is_done(answer) {
+    if packing::is_accepted(answer) {
         party_bytes::put_supervisor(&mut *state, y);
         return packing::called(answer);
     }
@@ -27,7 +26,7 @@ fn keep_step(state: &mut [u8], c: SupervisorStepped) -> u64
 {
     let answer = c.answer;
     let y = c.state;
-    if packing::is_served(answer) {
+    if packing::is_accepted(answer) {
         party_bytes::put_supervisor(&mut *state, y);
         return packing::served(answer);
     }
@@ -41,14 +40,14 @@ fn give(buffer: &mut [u8], c: SupervisorCalled) -> u64
     let answer = c.answer;
     let y = c.state;
     match answer {
-        Called::Done => {
+        Ok(()) => {
             if buffer.len() < party_bytes::SUPERVISOR_SIZE {
                 return packing::pack(15, 0, 0, 0);
             }
             party_bytes::put_supervisor(&mut *buffer, y);
             packing::pack(0, 0, 0, party_bytes::SUPERVISOR_SIZE)
         }
-        Called::Refused(n, o) => packing::pack(n, 0, 0, o),
+        Err(e) => packing::pack(e.number, 0, 0, e.offset),
     }
 }
 

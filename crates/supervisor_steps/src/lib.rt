@@ -1,23 +1,25 @@
 // The supervisor's step on many devices: definitions in permits/specs/Supervisor.antt.
 #![tactic(auto)]
 
-ghost use Rattle.std.specs.Prelude.{◌≡◌, ◌<◌};
-ghost use Rattle.std.proofs.Math.Option.{some};
+ghost use Rattle.std.specs.Prelude.{◌≡◌, ◌<◌, Err, Some};
 ghost use Rattle.places.specs.Places.{records_by};
 ghost use Rattle.permits.specs.Supervisor.{served, after_send, step_in, supervisor_step};
 ghost use Rattle.permits.specs.Step.{Gave};
+ghost use Rattle.refusal.specs.Refusal.{refusal};
 
-use bits::Maybe;
-use checker::Examined;
 use messages::Message;
 use permits::{Holder, Served, Supervisor, SupervisorStepped};
 use places::Places;
+use refusal::Refusal;
 
 fn step_refused(y: Supervisor, n: u8, at: usize) -> SupervisorStepped
-    ensures { result ≡ record { answer = Served.Refused n at; state = y } }
+    ensures { result ≡ record { answer = Err (refusal n at); state = y } }
 {
     SupervisorStepped {
-        answer: Served::Refused(n, at),
+        answer: Err(Refusal {
+            number: n,
+            offset: at,
+        }),
         state: y,
     }
 }
@@ -42,7 +44,7 @@ fn send(
     buffer: &mut [u8],
 ) -> SupervisorStepped
     requires { m < 16 }
-    ensures { Gave (step_in (records_by image.now places) v y buffer.old (some m)) result.answer result.state buffer.new }
+    ensures { Gave (step_in (records_by image.now places) v y buffer.old (Some m)) result.answer result.state buffer.new }
 {
     let mask = plan::shown(image, places, v, y.state);
     let g = Message::Permit {
@@ -53,7 +55,7 @@ fn send(
     if messages::write(g, &mut *buffer, 0) {
         let state = after_send(y, m);
         SupervisorStepped {
-            answer: Served::Sends(m, messages::length_of(g)),
+            answer: Ok(Served::Sends(m, messages::length_of(g))),
             state,
         }
     } else {
@@ -64,9 +66,9 @@ fn send(
 fn serve(image: &[u8], places: Places, v: u8, y: Supervisor, buffer: &mut [u8]) -> SupervisorStepped
     ensures { Gave (step_in (records_by image.now places) v y buffer.old (served y)) result.answer result.state buffer.new }
 {
-    let Maybe::Just(m) = noting::served(y) else {
+    let Some(m) = noting::served(y) else {
         return SupervisorStepped {
-            answer: Served::Waits,
+            answer: Ok(Served::Waits),
             state: y,
         };
     };
@@ -78,7 +80,7 @@ pub fn step(image: &[u8], v: u8, y: Supervisor, buffer: &mut [u8]) -> Supervisor
     ensures { Gave (supervisor_step image.now v y buffer.old) result.answer result.state buffer.new }
 {
     match checker::examine(image) {
-        Examined::Accepted(places) => {
+        Ok(places) => {
             if v < plan::supervisors_of(image, places) {
                 if noting::fits(image, places, v, y) {
                     serve(image, places, v, y, buffer)
@@ -89,6 +91,6 @@ pub fn step(image: &[u8], v: u8, y: Supervisor, buffer: &mut [u8]) -> Supervisor
                 step_refused(y, 11, 0)
             }
         }
-        Examined::Refused(n, at) => step_refused(y, n, at),
+        Err(e) => step_refused(y, e.number, e.offset),
     }
 }

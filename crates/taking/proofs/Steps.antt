@@ -1,4 +1,6 @@
 -- How far a piece is taken in the bytes of a state, from what the code is told.
+use Rattle.std.specs.Prelude.{Result, Ok, Err}
+use Rattle.records.specs.declared.Record.{Record}
 use mathlib.Core.Path.{◌≡◌, refl, sym, ap, ap₂, ◌∙◌, subst}
 use mathlib.Core.List.{List}
 use mathlib.Core.Bool.{Bool, true, false, not, ◌&&◌, ◌||◌, false≢true}
@@ -15,8 +17,7 @@ use Rattle.roundtrip.specs.Fits.{Bytes}
 use Rattle.fields.specs.Fields.{bytes_from}
 use Rattle.records.specs.Kinds.{body_len, no_len, kind_of}
 use Rattle.reader.specs.Read.{read_at}
-use Rattle.reader.specs.declared.Read.{Read}
-use Rattle.reader.specs.declared.Read.TheVariants.{Nothing, Cut, Unknown, Whole}
+use Rattle.reader.specs.declared.NoRecord.{NoRecord}
 use Rattle.reader.proofs.Reading.{told_by}
 use Rattle.rules.specs.Check.{limit}
 use Rattle.context.specs.Context.{with_record}
@@ -24,7 +25,7 @@ use Rattle.context.specs.declared.Context.{Context}
 use Rattle.judge.specs.Judge.{judge_by}
 use Rattle.judge.specs.Past.{past_from}
 use Rattle.judge.specs.declared.Past.{Past}
-use Rattle.judge.proofs.Passing.{cut_by, unknown_by, faulty_by, end_by, first_by}
+use Rattle.judge.proofs.Passing.{stops_by, faulty_by, end_by, first_by}
 use Rattle.context_bytes.specs.Encoding.{context_at}
 use Rattle.context_bytes.proofs.Decoded.{from_length, from_bytes}
 use Rattle.context_bytes.proofs.Reading.{part_put}
@@ -111,11 +112,9 @@ past_none s i c l z = go (read_at s i) refl
     stays : {p : Past} → record { context = c; next = i } ≡ p → p.context ≡ c
     stays e = sym (ap (λ (p : Past). p.context) e)
 
-    go : (x : Read) → x ≡ read_at s i → (past_from s i c).context ≡ c
-    go Nothing e = stays (cut_by s c c i i refl e refl refl)
-    go Cut e = stays (cut_by s c c i i refl e refl refl)
-    go Unknown e = stays (unknown_by s c c i i refl e refl refl)
-    go (Whole r n) e = cases (eqb (judge_by c r) 0) (eqb (kind_of r) 0x1f) refl refl
+    go : (x : Result (Record × ℕ) NoRecord) → x ≡ read_at s i → (past_from s i c).context ≡ c
+    go (Err why) e = stays (stops_by s c c i i refl why e refl)
+    go (Ok (r, n)) e = cases (eqb (judge_by c r) 0) (eqb (kind_of r) 0x1f) refl refl
       where
         cases : (a d : Bool) → eqb (judge_by c r) 0 ≡ a → eqb (kind_of r) 0x1f ≡ d → (past_from s i c).context ≡ c
         cases false d p q = stays (faulty_by s c c i i refl e refl refl (eqb-false _ _ p))

@@ -1,13 +1,13 @@
 -- A halted module stays as it is.
+use Rattle.std.specs.Prelude.{None, is_some}
 use Prim.Native.Nat.{ℕ}
 use mathlib.Core.Path.{◌≡◌, refl, ap, ◌∙◌}
 use mathlib.Core.Logic.{inl, inr}
 use mathlib.Core.List.{List}
-use mathlib.Core.Option.{none}
 use mathlib.Core.Bool.{Bool, true, false, cond, not, ◌&&◌}
 use lib.ListN.{length}
 use borrow.Author.Tests.{le-leb}
-use Rattle.bits.specs.Bit.{bit, is_some}
+use Rattle.bits.specs.Bit.{bit}
 use Rattle.bits.proofs.Least.{least_absent}
 use Rattle.records.specs.declared.Record.{Record}
 use Rattle.reader.specs.Find.{found}
@@ -16,7 +16,6 @@ use Rattle.accepted.specs.Plan.{Sound}
 use Rattle.water.specs.Water.{flow_ok}
 use Rattle.water.specs.declared.Flow.{Flow}
 use Rattle.modules.specs.declared.Own.{Own}
-use Rattle.modules.specs.declared.Turn.TheVariants.{Nothing}
 use Rattle.modules.specs.Queue.{queue_of, response_at, full}
 use Rattle.modules.specs.Procedure.{performed, ticked, tick_of, respond_of}
 use Rattle.modules.specs.Turn.{has_move, first_usable, enabled, chosen, by_choice, turn_on, turn_of}
@@ -29,7 +28,7 @@ same_both true x = refl
 same_both false x = refl
 
 module _ (rs : List Record) (plan : Sound rs) (m : ℕ) (own : Own) (h : Halted rs m own) where
-  none_usable : first_usable rs m own ≡ none
+  none_usable : first_usable rs m own ≡ None
   unfolding first_usable
   none_usable =
       least_absent (λ j. has_move rs m own.state (response_at own j)) (length (queue_of own))
@@ -39,15 +38,15 @@ module _ (rs : List Record) (plan : Sound rs) (m : ℕ) (own : Own) (h : Halted 
   is_full = le-leb 8 own.length h.full
 
   -- no command is chosen where none has a move
-  no_choice : ((e : ℕ) → has_command rs m own.state e ≡ false) → (k : ℕ) → chosen rs m k own ≡ none
+  no_choice : ((e : ℕ) → has_command rs m own.state e ≡ false) → (k : ℕ) → chosen rs m k own ≡ None
   unfolding chosen enabled
   no_choice f k = least_absent (enabled rs m k own.state) 64 (λ e l. ap (λ (b : Bool). b && not (bit k e)) (f e))
 
-  pub halted_turn : (k : ℕ) → turn_of rs m k own ≡ record { turn = Nothing; own = own }
+  pub halted_turn : (k : ℕ) → turn_of rs m k own ≡ record { turn = None; own = own }
   unfolding turn_of turn_on by_choice
   halted_turn k = ap (turn_on rs m k own) none_usable ∙ go h.only
     where
-      go : OnlyResponses rs m own → turn_on rs m k own none ≡ record { turn = Nothing; own = own }
+      go : OnlyResponses rs m own → turn_on rs m k own None ≡ record { turn = None; own = own }
       go (inl (r, o)) = simp r
       go (inr (r, f)) = simp (r, no_choice f k)
 

@@ -1,8 +1,8 @@
 -- The laws of an accepted plan's look-ups.
+use Rattle.std.specs.Prelude.{Option, Some, None}
 use Prim.Native.Nat.{ℕ, ◌^◌, ◌<◌}
 use mathlib.Core.Path.{◌≡◌, refl, sym, subst}
 use mathlib.Core.List.{List}
-use mathlib.Core.Option.{some}
 use mathlib.Core.Bool.{Bool, true, false, cond}
 use lib.Dec.{T, ltb}
 use lib.Pow.{pow_pos}
@@ -14,8 +14,6 @@ use Rattle.records.specs.Key.{key_by, key_of}
 use Rattle.records.specs.declared.Record.{Record}
 use Rattle.records.specs.declared.Record.TheVariants.{Event, Module, Supervisor}
 use Rattle.reader.specs.Find.{find_in, found}
-use Rattle.reader.specs.declared.Found.{Found}
-use Rattle.reader.specs.declared.Found.TheVariants.{It, Missing}
 use Rattle.roundtrip.specs.Fits.{AllFit}
 use Rattle.rules.specs.LookUp.{field2, field3, word_field, field_of, modules_of, supervisors_of, events_of, supervisor_in, module_state, supervisor_state, owner_of, controllable, alphabet_of}
 use Rattle.plan.specs.Plan.{supervisor_move, module_initial, supervisor_initial, shown, in_alphabet}
@@ -24,10 +22,10 @@ use Rattle.turn_laws.specs.Laws.{state_fits_at}
 use Rattle.turn_laws.proofs.Found.{keyed, at, supervisor_law, supervisor_move_lem, disabling_law}
 
 -- an 8-byte field of what is not found has no bit
-bit_found : (l : Found) (e : ℕ) → bit (field_of word_field l) e ≡ true → T (found l)
+bit_found : (l : Option Record) (e : ℕ) → bit (field_of word_field l) e ≡ true → T (found l)
 unfolding found field_of
-bit_found (It r) e b = tt
-bit_found Missing e b = absurd (subst T (bit_none e) (holds _ b))
+bit_found (Some r) e b = tt
+bit_found None e b = absurd (subst T (bit_none e) (holds _ b))
 
 -- a set bit of a mask of 64 bits is one of them
 bit_below : (m e : ℕ) → m < 2 ^ 64 → bit m e ≡ true → e < 64
@@ -49,12 +47,12 @@ module _ (rs : List Record) (plan : Sound rs) where
   unfolding key_of field_of field2
   event_owner e h =
       let r = plan.the_event e h in
-      subst (λ (l : Found). field_of field2 l < modules_of rs) (sym (plan.finds (Event e r.owner r.class) r.listed)) r.owner_below
+      subst (λ (l : Option Record). field_of field2 l < modules_of rs) (sym (plan.finds (Event e r.owner r.class) r.listed)) r.owner_below
 
   -- the record of a module or supervisor has its initial state below its states
   start_below : (r : Record) → r ∈ rs → field3 r < field2 r → ltb (field_of field3 (find_in (key_of r) rs)) (field_of field2 (find_in (key_of r) rs)) ≡ true
   unfolding field_of
-  start_below r n h = subst (λ (l : Found). ltb (field_of field3 l) (field_of field2 l) ≡ true) (sym (plan.finds r n)) (lt-ltb (field3 r) (field2 r) h)
+  start_below r n h = subst (λ (l : Option Record). ltb (field_of field3 l) (field_of field2 l) ≡ true) (sym (plan.finds r n)) (lt-ltb (field3 r) (field2 r) h)
 
   pub module_start_lem : (m : ℕ) → m < modules_of rs → module_state rs m (module_initial rs m) ≡ true
   unfolding key_of field2 field3
@@ -67,7 +65,7 @@ module _ (rs : List Record) (plan : Sound rs) where
       let r = plan.the_supervisor v (ltb-true v (supervisors_of rs) h) in
       start_below (Supervisor v r.states r.initial r.alphabet) r.listed r.initial_below)
 
-  pub supervisor_moved : (v x e y : ℕ) → supervisor_move rs v x e ≡ some y → state_fits_at rs v y ≡ true
+  pub supervisor_moved : (v x e y : ℕ) → supervisor_move rs v x e ≡ Some y → state_fits_at rs v y ≡ true
   supervisor_moved v x e y q =
       asked (ltb v (supervisors_of rs)) (supervisor_state rs v y) (λ h. lt-ltb y (field_of field2 (supervisor_in rs v)) (supervisor_move_lem rs plan v x e y q).to)
 
@@ -77,10 +75,10 @@ module _ (rs : List Record) (plan : Sound rs) where
 module _ (rs : List Record) (plan : Sound rs) (fit : AllFit rs) where
   -- ---- masks, which are words of 64 bits
 
-  word_small : (l : Found) → (T (found l) → field_of word_field l < 2 ^ 64) → field_of word_field l < 2 ^ 64
+  word_small : (l : Option Record) → (T (found l) → field_of word_field l < 2 ^ 64) → field_of word_field l < 2 ^ 64
   unfolding found field_of
-  word_small (It r) h = h tt
-  word_small Missing h = pow_pos 64
+  word_small (Some r) h = h tt
+  word_small None h = pow_pos 64
 
   pub shown_small : (v x : ℕ) → shown rs v x < 2 ^ 64
   unfolding field_of word_field

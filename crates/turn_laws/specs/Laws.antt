@@ -1,7 +1,6 @@
 -- The laws by which what stands above knows a turn, a response, a tick and the fit of a state, over the records rs of an accepted plan.
-use Rattle.std.specs.Prelude.{ℕ, suc, ◌^◌, ◌≤◌, ◌<◌, ◌≡◌, ◌⊎◌, List, [], ◌∷◌, ◌++◌, Bool, true, false, cond, length, take, drop, set, ltb}
-use Rattle.std.proofs.Math.Option.{none, some}
-use Rattle.bits.specs.Bit.{bit, is_some}
+use Rattle.std.specs.Prelude.{ℕ, suc, ◌^◌, ◌≤◌, ◌<◌, ◌≡◌, ◌⊎◌, List, [], ◌∷◌, ◌++◌, Bool, true, false, cond, length, take, drop, set, ltb, Option, Some, None, is_some}
+use Rattle.bits.specs.Bit.{bit}
 use Rattle.records.specs.Key.{key_by}
 use Rattle.records.specs.declared.Record.{Record}
 use Rattle.reader.specs.Find.{find_in, found}
@@ -16,8 +15,6 @@ use Rattle.modules.specs.Turn.{has_move, turn_of, start_own, enabled}
 use Rattle.modules.specs.Fits.{own_fits}
 use Rattle.modules.specs.declared.Own.{Own}
 use Rattle.modules.specs.declared.Procedure.{Procedure}
-use Rattle.modules.specs.declared.Turn.{Turn}
-use Rattle.modules.specs.declared.Turn.TheVariants.{Event, Nothing}
 use Rattle.modules.specs.declared.Turned.{Turned}
 
 -- the own part fits, of a module that the plan has; nothing is asked of another
@@ -34,13 +31,13 @@ EightCells own = length own.queue ≡ 8
 
 -- the event e fired: it has a move to the new state, and is uncontrollable or not in the mask k
 pub record Fired (rs : List Record) (m k : ℕ) (own : Own) (e : ℕ) (after : Own) : Type 0 where
-  pub moved : module_move rs m own.state e ≡ some after.state
+  pub moved : module_move rs m own.state e ≡ Some after.state
   pub free : (controllable rs e ≡ false) ⊎ (bit k e ≡ false)
 
 -- what a turn did, and the own part after it: without a firing the state stays
-abbrev pub Did : List Record → ℕ → ℕ → Own → Turn → Own → Type 0
-Did rs m k own (Event e) after = Fired rs m k own e after
-Did rs m k own Nothing after = after.state ≡ own.state
+abbrev pub Did : List Record → ℕ → ℕ → Own → Option ℕ → Own → Type 0
+Did rs m k own (Some e) after = Fired rs m k own e after
+Did rs m k own None after = after.state ≡ own.state
 
 abbrev pub TurnOk : List Record → ℕ → ℕ → Own → Turned → Type 0
 TurnOk rs m k own t = Did rs m k own t.turn t.own
@@ -50,13 +47,13 @@ pub record Response (rs : List Record) (m : ℕ) (own : Own) (e : ℕ) (after : 
   pub index : ℕ
   pub queued : index < length (queue_of own)
   pub is : response_at own index ≡ e
-  pub unusable : (j : ℕ) → j < index → module_move rs m own.state (response_at own j) ≡ none
+  pub unusable : (j : ℕ) → j < index → module_move rs m own.state (response_at own j) ≡ None
   pub others : queue_of after ≡ without index (queue_of own)
   pub procedure : after.procedure ≡ own.procedure
 
 -- the command e: chosen where the module has a move by no queued response and the procedure is idle, the lowest of the enabled events
 pub record Command (rs : List Record) (m k : ℕ) (own : Own) (e : ℕ) : Type 0 where
-  pub unusable : (j : ℕ) → j < length (queue_of own) → module_move rs m own.state (response_at own j) ≡ none
+  pub unusable : (j : ℕ) → j < length (queue_of own) → module_move rs m own.state (response_at own j) ≡ None
   pub idle : own.procedure.running ≡ false
   pub able : enabled rs m k own.state e ≡ true
   pub lowest : (j : ℕ) → j < e → enabled rs m k own.state j ≡ false
@@ -91,7 +88,7 @@ OnlyResponses rs m own =
 -- a halted module: its queue is full, it has a move by none of the responses there, and nothing but a response can move it on
 pub record Halted (rs : List Record) (m : ℕ) (own : Own) : Type 0 where
   pub full : 8 ≤ own.length
-  pub without_move : (j : ℕ) → j < length (queue_of own) → module_move rs m own.state (response_at own j) ≡ none
+  pub without_move : (j : ℕ) → j < length (queue_of own) → module_move rs m own.state (response_at own j) ≡ None
   pub only : OnlyResponses rs m own
 
 pub record TurnLaws (rs : List Record) : Type 0 where
@@ -101,12 +98,12 @@ pub record TurnLaws (rs : List Record) : Type 0 where
   pub few_supervisors : supervisors_of rs ≤ 32
   pub few_events : events_of rs ≤ 64
   -- a module moves by its own events
-  pub own_move : (m x e y : ℕ) → module_move rs m x e ≡ some y → owner_of rs e ≡ m
+  pub own_move : (m x e y : ℕ) → module_move rs m x e ≡ Some y → owner_of rs e ≡ m
   -- no event is numbered 64 or above: that a response's event is below takes no listed move away
   pub has_move_lem : (m x e : ℕ) → has_move rs m x e ≡ is_some (module_move rs m x e)
   -- what a listed move names is in the plan
-  pub module_move_lem : (m x e y : ℕ) → module_move rs m x e ≡ some y → ModuleMoveLaw rs m x e y
-  pub supervisor_move_lem : (v x e y : ℕ) → supervisor_move rs v x e ≡ some y → SupervisorMoveLaw rs v x e y
+  pub module_move_lem : (m x e y : ℕ) → module_move rs m x e ≡ Some y → ModuleMoveLaw rs m x e y
+  pub supervisor_move_lem : (v x e y : ℕ) → supervisor_move rs v x e ≡ Some y → SupervisorMoveLaw rs v x e y
   -- a shown mask has only controllable events of the supervisor's alphabet, and is of 64 bits
   pub shown_in_alphabet : (v x e : ℕ) → bit (shown rs v x) e ≡ true → in_alphabet rs v e ≡ true
   pub shown_controllable : (v x e : ℕ) → bit (shown rs v x) e ≡ true → controllable rs e ≡ true
@@ -118,7 +115,7 @@ pub record TurnLaws (rs : List Record) : Type 0 where
   pub event_owner : (e : ℕ) → e < events_of rs → owner_of rs e < modules_of rs
   -- a supervisor's state fits at the start and after a move
   pub supervisor_start_lem : (v : ℕ) → state_fits_at rs v (supervisor_initial rs v) ≡ true
-  pub supervisor_moved : (v x e y : ℕ) → supervisor_move rs v x e ≡ some y → state_fits_at rs v y ≡ true
+  pub supervisor_moved : (v x e y : ℕ) → supervisor_move rs v x e ≡ Some y → state_fits_at rs v y ≡ true
   -- every listed step counts, and what is asked of one that is there
   pub step_listed : (e i : ℕ) → procedure_step rs e i ≡ find_in (key_by 0x17 e i 0) rs
   pub step_law : (e i : ℕ) → found (procedure_step rs e i) ≡ true → StepLaw rs e i (operation_of rs e i) (operand_of rs e i)
@@ -130,9 +127,9 @@ pub record TurnLaws (rs : List Record) : Type 0 where
   pub turn_same : (m k k' : ℕ) (own : Own) → ((e : ℕ) → owner_of rs e ≡ m → bit k e ≡ bit k' e) → turn_of rs m k own ≡ turn_of rs m k' own
   pub turn_fits : (m k : ℕ) (own : Own) → own_fits_at rs m own ≡ true → own_fits_at rs m (turn_of rs m k own).own ≡ true
   -- "a turn takes the first queued response by which the module has a move, and the others remain in their order"
-  pub response : (m k : ℕ) (own : Own) (e : ℕ) → (turn_of rs m k own).turn ≡ Event e → controllable rs e ≡ false → Response rs m own e (turn_of rs m k own).own
+  pub response : (m k : ℕ) (own : Own) (e : ℕ) → (turn_of rs m k own).turn ≡ Some e → controllable rs e ≡ false → Response rs m own e (turn_of rs m k own).own
   -- "the lowest-numbered controllable event fires that has a move here and stands in no shown mask"
-  pub command : (m k : ℕ) (own : Own) (e : ℕ) → own_fits_at rs m own ≡ true → (turn_of rs m k own).turn ≡ Event e → controllable rs e ≡ true → Command rs m k own e
+  pub command : (m k : ℕ) (own : Own) (e : ℕ) → own_fits_at rs m own ≡ true → (turn_of rs m k own).turn ≡ Some e → controllable rs e ≡ true → Command rs m k own e
   -- ---- a response and a tick leave the state, and keep what fits
   pub respond_state : (m e : ℕ) (own : Own) → (respond_of rs m e own).own.state ≡ own.state
   pub respond_fits : (m e : ℕ) (own : Own) → own_fits_at rs m own ≡ true → own_fits_at rs m (respond_of rs m e own).own ≡ true
@@ -140,7 +137,7 @@ pub record TurnLaws (rs : List Record) : Type 0 where
   pub tick_fits : (m : ℕ) (f : Flow) (own : Own) → own_fits_at rs m own ≡ true → own_fits_at rs m (tick_of rs f own).own ≡ true
   -- ---- what follows from "the others remain", 13 "response queue holds 8" and "Respond stays put while the queue is full.": no turn, response or
   -- tick changes a halted module
-  pub halted_turn : (m k : ℕ) (own : Own) → Halted rs m own → turn_of rs m k own ≡ record { turn = Nothing; own = own }
+  pub halted_turn : (m k : ℕ) (own : Own) → Halted rs m own → turn_of rs m k own ≡ record { turn = None; own = own }
   pub halted_respond : (m e : ℕ) (own : Own) → Halted rs m own → (respond_of rs m e own).own ≡ own
   pub halted_tick : (m : ℕ) (f : Flow) (own : Own) → Halted rs m own → (tick_of rs f own).own ≡ own
   -- ---- sizes; a turn, a response and a tick keep the queue's eight cells

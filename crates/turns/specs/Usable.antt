@@ -1,6 +1,5 @@
 -- The first usable response, as the code looks for it: by the mask of the state's moves.
-use Rattle.std.specs.Prelude.{ℕ, List, Bool, length, get_or}
-use Rattle.std.proofs.Math.Option.{Option}
+use Rattle.std.specs.Prelude.{ℕ, List, Bool, length, get_or, Option}
 use Rattle.bits.specs.Bit.{bit, least}
 
 -- whether the response at an index of the queue q is one of the moves

@@ -2,30 +2,28 @@
 #![tactic(auto)]
 
 ghost use Rattle.std.specs.Prelude.{◌≡◌, take};
-ghost use Rattle.bits.specs.Bit.{option_of};
 ghost use Rattle.places.specs.Places.{records_by, moves_of};
 ghost use Rattle.plan.specs.Plan.{module_move};
 ghost use Rattle.modules.specs.Queue.{response_at};
 ghost use Rattle.modules.specs.Turn.{by_response, by_choice, chosen, turn_of, wish};
 ghost use Rattle.turns.specs.Usable.{first_among};
 
-use bits::Maybe;
-use modules::{Own, Turn, Turned};
+use modules::{Own, Turned};
 use places::Places;
 
 // The index of the first of a queue's n responses that is one of the moves.
-fn first_usable(moves: u64, q: [u8; 8], n: u8) -> Maybe
-    ensures { option_of result ≡ first_among moves (take n q) }
+fn first_usable(moves: u64, q: [u8; 8], n: u8) -> Option<u8>
+    ensures { result ≡ first_among moves (take n q) }
 {
     for i in 0..n {
         if 8 <= i {
-            return Maybe::Nothing;
+            return None;
         }
         if bits::has(moves, modules::cell(q, n, words::wide(i))) {
-            return Maybe::Just(i);
+            return Some(i);
         }
     }
-    Maybe::Nothing
+    None
 }
 
 // The response at index i of the queue.
@@ -34,18 +32,15 @@ fn by_response(image: &[u8], places: Places, m: u8, i: u8, own: Own) -> Turned
 {
     let q = own.queue;
     let e = modules::cell(q, own.length, words::wide(i));
-    let Maybe::Just(t) = plan::module_move(image, places, m, own.state, e) else {
-        return Turned {
-            turn: Turn::Nothing,
-            own,
-        };
+    let Some(t) = plan::module_move(image, places, m, own.state, e) else {
+        return Turned { turn: None, own };
     };
     let next = Own {
         state: t,
         ..modules::without(own, i)
     };
     Turned {
-        turn: Turn::Event(e),
+        turn: Some(e),
         own: next,
     }
 }
@@ -55,17 +50,11 @@ fn by_choice(image: &[u8], places: Places, m: u8, k: u64, moves: u64, own: Own) 
     requires { moves ≡ moves_of (records_by image.now places) m own.state }
     ensures { result ≡ by_choice (records_by image.now places) m own (chosen (records_by image.now places) m k own) }
 {
-    let Maybe::Just(e) = bits::lowest(masks::commands(image, places, moves) & !k) else {
-        return Turned {
-            turn: Turn::Nothing,
-            own,
-        };
+    let Some(e) = bits::lowest(masks::commands(image, places, moves) & !k) else {
+        return Turned { turn: None, own };
     };
-    let Maybe::Just(to) = plan::module_move(image, places, m, own.state, e) else {
-        return Turned {
-            turn: Turn::Nothing,
-            own,
-        };
+    let Some(to) = plan::module_move(image, places, m, own.state, e) else {
+        return Turned { turn: None, own };
     };
     let next = Own {
         state: to,
@@ -73,7 +62,7 @@ fn by_choice(image: &[u8], places: Places, m: u8, k: u64, moves: u64, own: Own) 
         ..own
     };
     Turned {
-        turn: Turn::Event(e),
+        turn: Some(e),
         own: next,
     }
 }
@@ -84,21 +73,15 @@ pub fn turn(image: &[u8], places: Places, m: u8, k: u64, own: Own) -> Turned
 {
     let p = own.procedure;
     if (own.length == 0) & p.running {
-        return Turned {
-            turn: Turn::Nothing,
-            own,
-        };
+        return Turned { turn: None, own };
     }
     let q = own.queue;
     let moves = places::moves_of(image, places, m, own.state);
     match first_usable(moves, q, own.length) {
-        Maybe::Just(i) => by_response(image, places, m, i, own),
-        Maybe::Nothing => {
+        Some(i) => by_response(image, places, m, i, own),
+        None => {
             if p.running {
-                Turned {
-                    turn: Turn::Nothing,
-                    own,
-                }
+                Turned { turn: None, own }
             } else {
                 by_choice(image, places, m, k, moves, own)
             }
@@ -118,8 +101,8 @@ pub fn wish(image: &[u8], places: Places, m: u8, own: Own) -> bool
     let q = own.queue;
     let moves = places::moves_of(image, places, m, own.state);
     match first_usable(moves, q, n) {
-        Maybe::Just(_) => true,
-        Maybe::Nothing => {
+        Some(_) => true,
+        None => {
             if p.running {
                 false
             } else {

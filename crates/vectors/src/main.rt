@@ -3,13 +3,11 @@
 // what is printed.
 #![tactic(auto)]
 
-use reader::Read;
+use reader::NoRecord;
 use records::Record;
-use rewrite::Rewritten;
-use rules::Verdict;
+use refusal::Refusal;
 use std::io;
 use texts::Text;
-use writer::Written;
 
 fn say(rt: &impl Print, s: &[u8]) -> io::Result<()> {
     rt.write_all(s)
@@ -29,12 +27,12 @@ fn print_buffer(rt: &impl Print, s: &[u8]) -> io::Result<()> {
     )
 }
 
-fn print_verdict(rt: &impl Print, v: Verdict) -> io::Result<()> {
+fn print_verdict(rt: &impl Print, v: Result<(), Refusal>) -> io::Result<()> {
     match v {
-        Verdict::Accepted => say(rt, b"accepted\n"),
-        Verdict::Refused(number, offset) => {
-            let t = texts::push_number(texts::empty(), words::wide(number));
-            let t = texts::push_spaced(texts::push_all(t, b" at"), offset);
+        Ok(()) => say(rt, b"accepted\n"),
+        Err(e) => {
+            let t = texts::push_number(texts::empty(), words::wide(e.number));
+            let t = texts::push_spaced(texts::push_all(t, b" at"), e.offset);
             print(rt, texts::push(t, b'\n'))
         }
     }
@@ -104,35 +102,32 @@ fn push_record(t: Text, r: Record) -> Text {
     }
 }
 
-fn print_read(rt: &impl Print, r: Read) -> io::Result<()> {
+fn print_read(rt: &impl Print, r: Result<(Record, usize), NoRecord>) -> io::Result<()> {
     match r {
-        Read::Whole(record, next) => {
+        Ok((record, next)) => {
             let t = texts::push_hexes(texts::word(b"record "), &[records::kind_of(record)]);
             let t = texts::push_all(push_record(t, record), b" next");
             print(rt, texts::push(texts::push_spaced(t, next), b'\n'))
         }
-        Read::Unknown => say(rt, b"unknown\n"),
-        Read::Cut => say(rt, b"cut\n"),
-        Read::Nothing => say(rt, b"nothing\n"),
+        Err(NoRecord::Unknown) => say(rt, b"unknown\n"),
+        Err(NoRecord::Cut) => say(rt, b"cut\n"),
+        Err(NoRecord::Nothing) => say(rt, b"nothing\n"),
     }
 }
 
-fn print_written(rt: &impl Print, w: Written) -> io::Result<()> {
+fn print_written(rt: &impl Print, w: Result<usize, Refusal>) -> io::Result<()> {
     match w {
-        Written::Length(n) => print(rt, texts::push_spaced(texts::word(b"length"), n)),
-        Written::Refused(number, _) => print(
-            rt,
-            texts::push_field(texts::word(b"refused"), number),
-        ),
+        Ok(n) => print(rt, texts::push_spaced(texts::word(b"length"), n)),
+        Err(e) => print(rt, texts::push_field(texts::word(b"refused"), e.number)),
     }
 }
 
-fn print_rewritten(rt: &impl Print, r: Rewritten) -> io::Result<()> {
+fn print_rewritten(rt: &impl Print, r: Result<usize, Refusal>) -> io::Result<()> {
     match r {
-        Rewritten::Length(n) => print(rt, texts::push_spaced(texts::word(b"length"), n)),
-        Rewritten::Refused(number, offset) => {
-            let t = texts::push_field(texts::word(b"refused"), number);
-            print(rt, texts::push_spaced(texts::push_all(t, b" at"), offset))
+        Ok(n) => print(rt, texts::push_spaced(texts::word(b"length"), n)),
+        Err(e) => {
+            let t = texts::push_field(texts::word(b"refused"), e.number);
+            print(rt, texts::push_spaced(texts::push_all(t, b" at"), e.offset))
         }
     }
 }

@@ -1,9 +1,9 @@
 -- Document 01: "A reader over the plan image keeps its place between records."
-use Rattle.std.specs.Prelude.{ℕ, ◌≡◌, List}
+use Rattle.records.specs.declared.Record.{Record}
+use Rattle.std.specs.Prelude.{ℕ, ◌≡◌, List, Result, Ok, Err}
 use Rattle.std.specs.Borrow.{Bor}
 use Rattle.reader.specs.Read.{read_at, ReadsAs}
-use Rattle.reader.specs.declared.Read.{Read}
-use Rattle.reader.specs.declared.Read.TheVariants.{Whole, Unknown, Cut, Nothing}
+use Rattle.reader.specs.declared.NoRecord.{NoRecord}
 use Rattle.walk.specs.declared.Reader.{Reader}
 use Rattle.walk.specs.declared.PlacedRead.{PlacedRead}
 
@@ -12,11 +12,9 @@ abbrev pub started : Bor (List ℕ) → Reader
 started s = record { image = s; offset = 0 }
 
 -- the place after a read at an offset: behind a whole record, else where it was
-unfoldable pub place_after : ℕ → Read → ℕ
-place_after i (Whole r n) = n
-place_after i Unknown = i
-place_after i Cut = i
-place_after i Nothing = i
+unfoldable pub place_after : ℕ → Result (Record × ℕ) NoRecord → ℕ
+place_after i (Ok (r, n)) = n
+place_after i (Err e) = i
 
 -- what stands at an offset, and the place after it
 abbrev pub read_on : List ℕ → ℕ → PlacedRead
@@ -28,6 +26,6 @@ pub record ReadsOn (s : List ℕ) (i : ℕ) (y : PlacedRead) : Type 0 where
   pub read : ReadsAs s i y.read
 
 -- a reader gives what stands at its place, with its number and offset, and goes on to the place after it, over the same image
-pub record Moved (r : Reader) (x : Read) (after : Reader) : Type 0 where
+pub record Moved (r : Reader) (x : Result (Record × ℕ) NoRecord) (after : Reader) : Type 0 where
   pub read : ReadsAs r.image.now r.offset x
   pub moved : after ≡ record { image = r.image; offset = place_after r.offset x }

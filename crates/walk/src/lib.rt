@@ -1,11 +1,11 @@
-// A reader over a plan image that keeps its place between records. It holds the image's slice, so each function over it is
-// proved by hand; `read_on`, which takes and gives plain data, serves the callers.
+// A reader over a plan image that keeps its place between records. `read_on`, which takes and gives plain data, serves the callers.
 #![tactic(auto)]
 
 ghost use Rattle.std.specs.Prelude.{◌≡◌};
 ghost use Rattle.walk.specs.Place.{place_after, started, Moved, ReadsOn};
 
-use reader::Read;
+use reader::NoRecord;
+use records::Record;
 
 #[derive(Clone, Copy)]
 pub struct Reader<'a> {
@@ -20,17 +20,17 @@ pub fn new<'a>(image: &'a [u8]) -> Reader<'a>
     Reader { image, offset: 0 }
 }
 
-fn place_after(read: Read, offset: usize) -> usize
+fn place_after(read: Result<(Record, usize), NoRecord>, offset: usize) -> usize
     ensures { result ≡ place_after offset read }
 {
     match read {
-        Read::Whole(_, next) => next,
-        _ => offset,
+        Ok((_, next)) => next,
+        Err(_) => offset,
     }
 }
 
 // What stands at the reader's place. A whole record leaves it at the next one.
-pub fn next<'s, 'a>(r: &'s mut Reader<'a>) -> Read
+pub fn next<'s, 'a>(r: &'s mut Reader<'a>) -> Result<(Record, usize), NoRecord>
     ensures { Moved r.old result r.new }
 {
     let at = r.offset;
@@ -49,7 +49,7 @@ pub fn place<'a>(r: Reader<'a>) -> usize
 // What stands at an offset of an image, and the place of a reader that has read it.
 #[derive(Clone, Copy)]
 pub struct PlacedRead {
-    pub read: Read,
+    pub read: Result<(Record, usize), NoRecord>,
     pub place: usize,
 }
 

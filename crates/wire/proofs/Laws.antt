@@ -1,4 +1,5 @@
 -- Laws of the messages under way, as the code goes through them.
+use Rattle.std.specs.Prelude.{Some, None}
 use Prim.Native.Nat.{ℕ, zero, suc, ◌+◌, ◌-◌, ◌≤◌, ◌<◌}
 use native.Mathlib.Numerals.{add-one}
 use native.Mathlib.Omega.{arith}
@@ -11,7 +12,6 @@ use lib.Dec.{leb}
 use borrow.Author.Tests.{le-leb, lt-leb, leb-true, leb-false}
 use Rattle.wire.specs.declared.Sent.{Sent}
 use Rattle.wire.specs.declared.Wire.{Wire}
-use Rattle.wire.specs.declared.MessageAt.TheVariants.{It, Missing}
 use Rattle.wire.specs.Wire.{under, empty, with_message, with_messages, nth_of, drop_nth, without}
 
 -- ---- room
@@ -28,28 +28,28 @@ no_room count n h = sym (lt-leb (count + n) 96 (omega arith))
 
 -- ---- a message at an index
 
-nth_past : (l : List Sent) (k : ℕ) → length l ≤ k → Missing ≡ nth_of l k
+nth_past : (l : List Sent) (k : ℕ) → length l ≤ k → None ≡ nth_of l k
 unfolding nth_of
 nth_past [] k h = refl
 nth_past (s ∷ l) zero h = absurd (omega arith)
 nth_past (s ∷ l) (suc k) h = nth_past l k (omega arith)
 
-nth_is : (l : List Sent) (k : ℕ) (d : Sent) → k < length l → It (get_or l k d).message ≡ nth_of l k
+nth_is : (l : List Sent) (k : ℕ) (d : Sent) → k < length l → Some (get_or l k d).message ≡ nth_of l k
 unfolding nth_of
 nth_is [] k d h = absurd (omega arith)
 nth_is (s ∷ l) zero d h = refl
 nth_is (s ∷ l) (suc k) d h = nth_is l k d (omega arith)
 
 module _ (w : Wire) (k : ℕ) where
-  pub nth_uncounted : w.count ≤ k → Missing ≡ nth_of (under w) k
+  pub nth_uncounted : w.count ≤ k → None ≡ nth_of (under w) k
   nth_uncounted h = nth_past (under w) k (simp length-take (omega arith))
 
-  pub nth_beyond : length w.messages ≡ 96 → 96 ≤ k → Missing ≡ nth_of (under w) k
+  pub nth_beyond : length w.messages ≡ 96 → 96 ≤ k → None ≡ nth_of (under w) k
   nth_beyond e h = nth_past (under w) k (simp (length-take, e) (omega arith))
 
-  pub nth_found : (d : Sent) → length w.messages ≡ 96 → k < w.count → k < 96 → It (get_or w.messages k d).message ≡ nth_of (under w) k
+  pub nth_found : (d : Sent) → length w.messages ≡ 96 → k < w.count → k < 96 → Some (get_or w.messages k d).message ≡ nth_of (under w) k
   nth_found d e h g =
-      ap (λ (s : Sent). It s.message) (sym (get_or-take w.count w.messages k d h)) ∙ nth_is (under w) k d (simp (length-take, e) (omega arith))
+      ap (λ (s : Sent). Some s.message) (sym (get_or-take w.count w.messages k d h)) ∙ nth_is (under w) k d (simp (length-take, e) (omega arith))
 
 -- ---- messages copied one after the other
 

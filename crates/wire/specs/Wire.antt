@@ -1,12 +1,10 @@
 -- Document 01, "What demand 3 compares": "A message is sent by the accepted step that writes it and under way until delivered; equal bytes
 -- sent twice are two messages." Those under way stand in the order sent, at the first of 96 indices.
-use Rattle.std.specs.Prelude.{ℕ, zero, suc, ◌+◌, ◌≤◌, ◌<◌, ◌≡◌, List, [], ◌∷◌, ◌++◌, cond, length, take, drop, set, replicate, ltb}
+use Rattle.std.specs.Prelude.{ℕ, zero, suc, ◌+◌, ◌≤◌, ◌<◌, ◌≡◌, List, [], ◌∷◌, ◌++◌, cond, length, take, drop, set, replicate, ltb, Option, Some, None}
 use Rattle.messages.specs.declared.Message.{Message}
 use Rattle.messages.specs.declared.Message.TheVariants.{Bid}
 use Rattle.wire.specs.declared.Sent.{Sent}
 use Rattle.wire.specs.declared.Wire.{Wire}
-use Rattle.wire.specs.declared.MessageAt.{MessageAt}
-use Rattle.wire.specs.declared.MessageAt.TheVariants.{It, Missing}
 
 -- the messages under way
 abbrev pub under : Wire → List Sent
@@ -27,9 +25,9 @@ unfoldable pub with_messages : Wire → List Sent → Wire
 with_messages w [] = w
 with_messages w (s ∷ l) = with_messages (with_message w s.message) l
 
-unfoldable pub nth_of : List Sent → ℕ → MessageAt
-nth_of [] k = Missing
-nth_of (s ∷ l) zero = It s.message
+unfoldable pub nth_of : List Sent → ℕ → Option Message
+nth_of [] k = None
+nth_of (s ∷ l) zero = Some s.message
 nth_of (s ∷ l) (suc k) = nth_of l k
 
 -- a list without its k-th member

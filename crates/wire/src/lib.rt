@@ -20,13 +20,6 @@ pub struct Wire {
     pub count: usize,
 }
 
-// The message at an index, or none.
-#[derive(Clone, Copy)]
-pub enum MessageAt {
-    It(Message),
-    Missing,
-}
-
 // No message.
 pub fn empty() -> Wire
     ensures { result ≡ empty }
@@ -66,18 +59,18 @@ pub fn with_message(w: Wire, g: Message) -> Wire
     }
 }
 
-// The k-th message under way.
-pub fn message_at(w: Wire, k: usize) -> MessageAt
+// The k-th message under way, or None.
+pub fn message_at(w: Wire, k: usize) -> Option<Message>
     ensures { result ≡ nth_of (under w) k }
 {
     if w.count <= k {
-        return MessageAt::Missing;
+        return None;
     }
     if k < 96 {
         let sent = w.messages[k];
-        MessageAt::It(sent.message)
+        Some(sent.message)
     } else {
-        MessageAt::Missing
+        None
     }
 }
 

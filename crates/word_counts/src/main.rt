@@ -1,9 +1,6 @@
 // The program for the workstation: how many event words of the length on standard input end in each reachable joint state of the plan of `plan.bin`.
 #![tactic(auto)]
 
-use checker::Examined;
-use counting::Counting;
-use length_input::WordLength;
 use std::io::Read;
 use std::{fs, io};
 use texts::Text;
@@ -24,7 +21,7 @@ fn print(rt: &impl Print, t: Text) -> io::Result<()> {
 }
 
 // A proved loop has to end, and nothing says that the input does: so it goes over more turns than a run uses up.
-fn read_length(stdin: &mut impl Read) -> WordLength {
+fn read_length(stdin: &mut impl Read) -> Option<u64> {
     let mut input = length_input::begun();
     let mut buf = [0u8; PART];
     for _ in 0..u64::MAX {
@@ -40,22 +37,22 @@ fn read_length(stdin: &mut impl Read) -> WordLength {
 fn count(rt: &impl Print, image: &[u8], length: u64) -> io::Result<()> {
     let mut answer = [0u8; ANSWER];
     match counting::count_words(image, length, &mut answer) {
-        Counting::Printed(n) => rt.write_all(texts::first(&answer, n)),
-        Counting::Refused(n, _) => print(rt, script::refused_line(n)),
+        Ok(n) => rt.write_all(texts::first(&answer, n)),
+        Err(e) => print(rt, script::refused_line(e.number)),
     }
 }
 
 fn run_on(rt: &(impl io::Input + Print), image: &[u8]) -> io::Result<()> {
     match read_length(&mut rt.reader()) {
-        WordLength::Value(n) => count(rt, image, n),
-        WordLength::Misshapen => print(rt, script::refused_line(10)),
+        Some(n) => count(rt, image, n),
+        None => print(rt, script::refused_line(10)),
     }
 }
 
 fn run(rt: &(impl io::Input + Print), image: &[u8]) -> io::Result<()> {
     match checker::examine(image) {
-        Examined::Accepted(_) => run_on(rt, image),
-        Examined::Refused(n, at) => print(rt, script::plan_refused_line(n, at)),
+        Ok(_) => run_on(rt, image),
+        Err(e) => print(rt, script::plan_refused_line(e.number, e.offset)),
     }
 }
 

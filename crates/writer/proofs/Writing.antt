@@ -1,4 +1,6 @@
 -- Laws of a record's bytes in a buffer.
+use Rattle.std.specs.Prelude.{Ok, Err}
+use Rattle.refusal.specs.Refusal.{refusal}
 use mathlib.Core.Path.{◌≡◌, refl, sym, ap, ◌∙◌, subst}
 use mathlib.Core.List.{List, [], ◌∷◌, ◌++◌}
 use mathlib.Core.Bool.{Bool, true, false}
@@ -17,7 +19,6 @@ use Rattle.records.specs.Range.{in_range}
 use Rattle.records.specs.declared.Record.{Record}
 use Rattle.records.specs.declared.Record.TheVariants.{Head, Event, Module, ModuleMove, Supervisor, SupervisorMove, Disabling, Step, Marking, End}
 use Rattle.writer.specs.Write.{Wrote, answer_of}
-use Rattle.writer.specs.declared.Written.TheVariants.{Length, Refused}
 
 pub length_bytes : (r : Record) → length (bytes_of r) ≡ size_of r
 unfolding bytes_of word_bytes body_len kind_of
@@ -71,14 +72,14 @@ module _ (r : Record) {k n : ℕ} where
   pub room_by : {m : ℕ} → k ≡ kind_of r → n ≡ size_by k → n ≤ m → size_of r ≤ m
   room_by {m = m} e f h = subst (λ (x : ℕ). x ≤ m) (size_of_lem e f) h
 
-pub out_by : (r : Record) (b : List ℕ) {t : Bool} → t ≡ in_range r → t ≡ false → Wrote r b (Refused 5 0) b
+pub out_by : (r : Record) (b : List ℕ) {t : Bool} → t ≡ in_range r → t ≡ false → Wrote r b (Err (refusal 5 0)) b
 unfolding answer_of
 out_by r b e f =
     let a : in_range r ≡ false = cc in
     record { answer = simp a; buffer = refl }
 
 module _ (r : Record) (b : List ℕ) {t : Bool} {k n : ℕ} where
-  pub short_by : t ≡ in_range r → t ≡ true → k ≡ kind_of r → n ≡ size_by k → length b < n → Wrote r b (Refused 15 0) b
+  pub short_by : t ≡ in_range r → t ≡ true → k ≡ kind_of r → n ≡ size_by k → length b < n → Wrote r b (Err (refusal 15 0)) b
   unfolding answer_of
   short_by p q e f h =
       let a : in_range r ≡ true = cc in
@@ -86,7 +87,7 @@ module _ (r : Record) (b : List ℕ) {t : Bool} {k n : ℕ} where
       record { answer = simp (a, lt-ltb (length b) (size_of r) z); buffer = refl }
 
   pub wrote_by : {s : List ℕ} → t ≡ in_range r → t ≡ true → k ≡ kind_of r → n ≡ size_by k → n ≤ length b → s ≡ sets b 0 (bytes_of r)
-      → Wrote r b (Length n) s
+      → Wrote r b (Ok n) s
   unfolding answer_of
   wrote_by p q e f h v =
       let a : in_range r ≡ true = cc in
@@ -94,6 +95,6 @@ module _ (r : Record) (b : List ℕ) {t : Bool} {k n : ℕ} where
       let z : size_of r ≤ length b = subst (λ (x : ℕ). x ≤ length b) d h in
       let w : 0 + length (bytes_of r) ≤ length b = omega (arith, length_bytes r) in
       record {
-        answer = simp (a, le-ltb (length b) (size_of r) z) (ap Length d);
+        answer = simp (a, le-ltb (length b) (size_of r) z) (ap Ok d);
         buffer = v ∙ sets-eq (bytes_of r) b 0 w ∙ ap (λ (j : ℕ). bytes_of r ++ drop j b) (zero-add (length (bytes_of r)));
       }

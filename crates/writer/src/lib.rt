@@ -8,13 +8,7 @@ ghost use Rattle.records.specs.Bytes.{bytes_of};
 ghost use Rattle.writer.specs.Write.{Wrote};
 
 use records::Record;
-
-// The length written, or the number, 5 or 15, and the offset, 0.
-#[derive(Clone, Copy)]
-pub enum Written {
-    Length(usize),
-    Refused(u8, usize),
-}
+use refusal::Refusal;
 
 // The record's bytes from the slice's start.
 fn put_record(r: Record, s: &mut [u8])
@@ -80,18 +74,24 @@ fn put_record(r: Record, s: &mut [u8])
     }
 }
 
-// Writes one record from the buffer's start.
-pub fn write(r: Record, buf: &mut [u8]) -> Written
+// Writes one record from the buffer's start: the length written, or the number, 5 or 15, and the offset, 0.
+pub fn write(r: Record, buf: &mut [u8]) -> Result<usize, Refusal>
     ensures { Wrote r buf.old result buf.new }
 {
     if records::in_range(r) {
         let n = records::size_by(records::kind_of(r));
         if buf.len() < n {
-            return Written::Refused(15, 0);
+            return Err(Refusal {
+                number: 15,
+                offset: 0,
+            });
         }
         put_record(r, &mut *buf);
-        Written::Length(n)
+        Ok(n)
     } else {
-        Written::Refused(5, 0)
+        Err(Refusal {
+            number: 5,
+            offset: 0,
+        })
     }
 }

@@ -1,4 +1,4 @@
 use Rattle.acts.proofs.module_by.Goals as goal
 
-pub returns-in-Just : goal.returns-in-Just
-returns-in-Just c = cc
+pub returns-in-Some : goal.returns-in-Some
+returns-in-Some c = cc

@@ -1,4 +1,4 @@
 use Rattle.acts.proofs.reading_by.Goals as goal
 
-pub returns-in-Value : goal.returns-in-Value
-returns-in-Value c = cc
+pub returns-in-Some : goal.returns-in-Some
+returns-in-Some c = cc

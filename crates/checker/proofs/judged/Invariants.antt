@@ -2,8 +2,8 @@ use Rattle.std.proofs.Common.{◌-◌, length}
 use Rattle.checker.specs.Stretch.{Reached}
 use Rattle.checker.proofs.judged.Given as goal
 
-abbrev pub invariant-loop-r : goal.invariant-loop-r
-invariant-loop-r l = Reached l.image l.c l.i l.p
+abbrev pub invariant-loop-why : goal.invariant-loop-why
+invariant-loop-why l = Reached l.image l.c l.i l.p
 
-abbrev pub decreases-loop-r : goal.decreases-loop-r
-decreases-loop-r l = length l.image - l.i
+abbrev pub decreases-loop-why : goal.decreases-loop-why
+decreases-loop-why l = length l.image - l.i

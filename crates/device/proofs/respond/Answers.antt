@@ -1,8 +1,8 @@
 use Rattle.device.proofs.Calls.{respond_accepted, reply_refused}
 use Rattle.device.proofs.respond.Goals as goal
 
-pub returns-in-Accepted : goal.returns-in-Accepted
-returns-in-Accepted c = search respond_accepted
+pub returns-in-Ok : goal.returns-in-Ok
+returns-in-Ok c = search respond_accepted
 
-pub returns-in-Refused : goal.returns-in-Refused
-returns-in-Refused c = search reply_refused
+pub returns-in-Err : goal.returns-in-Err
+returns-in-Err c = search reply_refused

@@ -1,8 +1,8 @@
 use Rattle.device.proofs.Calls.{start_accepted, start_refused}
 use Rattle.device.proofs.start.Goals as goal
 
-pub returns-in-Accepted : goal.returns-in-Accepted
-returns-in-Accepted c = search start_accepted
+pub returns-in-Ok : goal.returns-in-Ok
+returns-in-Ok c = search start_accepted
 
-pub returns-in-Refused : goal.returns-in-Refused
-returns-in-Refused c = search start_refused
+pub returns-in-Err : goal.returns-in-Err
+returns-in-Err c = search start_refused

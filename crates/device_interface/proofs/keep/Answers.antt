@@ -1,12 +1,11 @@
 use Rattle.roundtrip.specs.Fits.{Bytes}
-use Rattle.modules.proofs.Queue.{eight}
 use Rattle.device_interface.proofs.Laws.{keep_yes, keep_no}
 use Rattle.device_interface.proofs.keep.Goals as goal
 
-pub returns-then-is_done : goal.returns-then-is_done
-returns-then-is_done c =
+pub returns-then-is_accepted : goal.returns-then-is_accepted
+returns-then-is_accepted c =
     let g : Bytes c.args.state.now = λ j. (c.slice_known-1.given j).fits in
-    search (keep_yes, eight, g)
+    search (keep_yes, g)
 
 pub returns : goal.returns
 returns c =

@@ -9,7 +9,7 @@ use Rattle.device_interface.proofs.keep_turn.Goals as goal
 pub returns-in_default : goal.returns-in_default
 returns-in_default c =
     let g : Bytes c.args.state.now = λ j. (c.slice_known-1.given j).fits in
-    search (after_none, eight, g)
+    search (after_none, g)
 
 -- that an event fired is looked for among the facts before the own part is written: with all of them `search` has too much to look at
 pub returns : goal.returns

@@ -1,10 +1,10 @@
 use Rattle.frame_interface.specs.Frames.{unframed_answer}
 use Rattle.frame_interface.proofs.unframed.Goals as goal
 
-pub returns-in-Message : goal.returns-in-Message
+pub returns-in-Ok : goal.returns-in-Ok
 unfolding unframed_answer
-returns-in-Message c = cc
+returns-in-Ok c = cc
 
-pub returns-in-Refused : goal.returns-in-Refused
+pub returns-in-Err : goal.returns-in-Err
 unfolding unframed_answer
-returns-in-Refused c = cc
+returns-in-Err c = cc

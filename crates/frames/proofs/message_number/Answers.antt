@@ -1,8 +1,8 @@
 use Rattle.frames.proofs.Frame.{message_by, misshapen_by}
 use Rattle.frames.proofs.message_number.Goals as goal
 
-pub returns-in-Whole : goal.returns-in-Whole
-returns-in-Whole c = search message_by
+pub returns-in-Some : goal.returns-in-Some
+returns-in-Some c = search message_by
 
-pub returns-in-Misshapen : goal.returns-in-Misshapen
-returns-in-Misshapen c = search misshapen_by
+pub returns-in-None : goal.returns-in-None
+returns-in-None c = search misshapen_by

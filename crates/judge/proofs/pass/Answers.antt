@@ -8,7 +8,7 @@ pub loop-r-init : goal.loop-r-init
 loop-r-init c = refl
 
 pub returns-in_default : goal.returns-in_default
-returns-in_default c = search (unread_by, c.in_default.not-Whole)
+returns-in_default c = search (unread_by, c.in_default.not-Ok)
 
 pub returns-then-judge-ne0 : goal.returns-then-judge-ne0
 returns-then-judge-ne0 c =

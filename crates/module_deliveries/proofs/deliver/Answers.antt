@@ -1,8 +1,8 @@
 use Rattle.module_deliveries.proofs.Delivering.{deliver_accepted, deliver_refused}
 use Rattle.module_deliveries.proofs.deliver.Goals as goal
 
-pub returns-in-Accepted : goal.returns-in-Accepted
-returns-in-Accepted c = search deliver_accepted
+pub returns-in-Ok : goal.returns-in-Ok
+returns-in-Ok c = search deliver_accepted
 
-pub returns-in-Refused : goal.returns-in-Refused
-returns-in-Refused c = search deliver_refused
+pub returns-in-Err : goal.returns-in-Err
+returns-in-Err c = search deliver_refused

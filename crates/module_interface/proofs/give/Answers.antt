@@ -8,5 +8,5 @@ returns-then-buffer-lt-MODULE_SIZE c = search give_short
 pub returns-else-buffer-lt-MODULE_SIZE : goal.returns-else-buffer-lt-MODULE_SIZE
 returns-else-buffer-lt-MODULE_SIZE c = search (give_done, eight)
 
-pub returns-in-Refused : goal.returns-in-Refused
-returns-in-Refused c = search give_refused
+pub returns-in-Err : goal.returns-in-Err
+returns-in-Err c = search give_refused

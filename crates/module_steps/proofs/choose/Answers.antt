@@ -10,8 +10,8 @@ returns-then-not-or_wish c = search idle_by
 pub returns-in_default : goal.returns-in_default
 returns-in_default c = search none_by
 
-pub returns-in-Just : goal.returns-in-Just
-returns-in-Just c = search bid_by
+pub returns-in-Some : goal.returns-in-Some
+returns-in-Some c = search bid_by
 
 pub returns-then-or_wish : goal.returns-then-or_wish
 returns-then-or_wish c = search turn_by_lem

@@ -15,5 +15,5 @@ returns-else-fits c = search step_unfit
 pub returns-else-m-modules_of : goal.returns-else-m-modules_of
 returns-else-m-modules_of c = search step_absent
 
-pub returns-in-Refused : goal.returns-in-Refused
-returns-in-Refused c = search step_refused_by
+pub returns-in-Err : goal.returns-in-Err
+returns-in-Err c = search step_refused_by

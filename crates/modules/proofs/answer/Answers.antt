@@ -2,10 +2,10 @@ use mathlib.Core.Path.{sym, ap}
 use Rattle.modules.specs.Procedure.{called_by}
 use Rattle.modules.proofs.answer.Goals as goal
 
-pub returns-in-Taken : goal.returns-in-Taken
+pub returns-in-Ok : goal.returns-in-Ok
 unfolding called_by
-returns-in-Taken c = sym (ap called_by c.in-Taken.is)
+returns-in-Ok c = sym (ap called_by c.in-Ok.is)
 
-pub returns-in-Refused : goal.returns-in-Refused
+pub returns-in-Err : goal.returns-in-Err
 unfolding called_by
-returns-in-Refused c = sym (ap called_by c.in-Refused.is)
+returns-in-Err c = sym (ap called_by c.in-Err.is)

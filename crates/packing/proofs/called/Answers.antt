@@ -1,10 +1,10 @@
 use Rattle.packing.specs.Answer.{called_answer}
 use Rattle.packing.proofs.called.Goals as goal
 
-pub returns-in-Done : goal.returns-in-Done
+pub returns-in-Ok : goal.returns-in-Ok
 unfolding called_answer
-returns-in-Done c = cc
+returns-in-Ok c = cc
 
-pub returns-in-Refused : goal.returns-in-Refused
+pub returns-in-Err : goal.returns-in-Err
 unfolding called_answer
-returns-in-Refused c = cc
+returns-in-Err c = cc

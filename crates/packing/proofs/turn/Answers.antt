@@ -1,10 +1,10 @@
 use Rattle.packing.specs.Answer.{turn_answer}
 use Rattle.packing.proofs.turn.Goals as goal
 
-pub returns-in-Event : goal.returns-in-Event
+pub returns-in-Some : goal.returns-in-Some
 unfolding turn_answer
-returns-in-Event c = cc
+returns-in-Some c = cc
 
-pub returns-in-Nothing : goal.returns-in-Nothing
+pub returns-in-None : goal.returns-in-None
 unfolding turn_answer
-returns-in-Nothing c = cc
+returns-in-None c = cc

@@ -6,7 +6,7 @@ pub loop-k-init : goal.loop-k-init
 loop-k-init c = record { rest = search rules; within = search rules; inside = search rules; last = end_known }
 
 pub returns : goal.returns
-returns c = search (counted_done, counted_most, c.in_default.not-Whole)
+returns c = search (counted_done, counted_most, c.in_default.not-Ok)
 
 pub overflow_sub-size : goal.overflow_sub-size
 overflow_sub-size c = search (order_by, rules)

@@ -7,7 +7,7 @@ pub loop-k-init : goal.loop-k-init
 loop-k-init c = record { small = λ j. (c.shared_slice_known-1.given j).fits; rest = refl; long = refl; room = search rules; last = end_known }
 
 pub returns : goal.returns
-returns c = search (lined_done, c.in_default.not-Whole)
+returns c = search (lined_done, c.in_default.not-Ok)
 
 pub overflow_sub-size : goal.overflow_sub-size
 overflow_sub-size c = search (order_by, rules)
@@ -24,8 +24,8 @@ slice_bounds-put_line-end c = search (line_room, rules)
 pub put_line-requires : goal.put_line-requires
 put_line-requires c = search (known_by, body_by, line_room, rules)
 
-pub overflow_add-o-in-Whole : goal.overflow_add-o-in-Whole
-overflow_add-o-in-Whole c = search (line_room, rules)
+pub overflow_add-o-in-Ok : goal.overflow_add-o-in-Ok
+overflow_add-o-in-Ok c = search (line_room, rules)
 
 pub loop-k-smaller : goal.loop-k-smaller
 loop-k-smaller c = search less_by

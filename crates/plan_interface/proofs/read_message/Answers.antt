@@ -1,8 +1,8 @@
 use Rattle.plan_interface.proofs.Laws.{message_whole, message_misshapen}
 use Rattle.plan_interface.proofs.read_message.Goals as goal
 
-pub returns-in-Whole : goal.returns-in-Whole
-returns-in-Whole c = search message_whole
+pub returns-in-Some : goal.returns-in-Some
+returns-in-Some c = search message_whole
 
-pub returns-in-Misshapen : goal.returns-in-Misshapen
-returns-in-Misshapen c = search message_misshapen
+pub returns-in-None : goal.returns-in-None
+returns-in-None c = search message_misshapen

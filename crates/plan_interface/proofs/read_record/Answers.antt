@@ -1,14 +1,14 @@
-use Rattle.plan_interface.proofs.Laws.{read_whole, read_unknown, read_cut, read_nothing}
+use Rattle.plan_interface.proofs.Laws.{read_whole, read_stop}
 use Rattle.plan_interface.proofs.read_record.Goals as goal
 
-pub returns-in-Whole : goal.returns-in-Whole
-returns-in-Whole c = search read_whole
+pub returns-in-Ok : goal.returns-in-Ok
+returns-in-Ok c = search read_whole
 
-pub returns-in-Unknown : goal.returns-in-Unknown
-returns-in-Unknown c = search read_unknown
+pub returns-in-Err-Unknown : goal.returns-in-Err-Unknown
+returns-in-Err-Unknown c = search read_stop
 
-pub returns-in-Cut : goal.returns-in-Cut
-returns-in-Cut c = search read_cut
+pub returns-in-Err-Cut : goal.returns-in-Err-Cut
+returns-in-Err-Cut c = search read_stop
 
-pub returns-in-Nothing : goal.returns-in-Nothing
-returns-in-Nothing c = search read_nothing
+pub returns-in-Err-Nothing : goal.returns-in-Err-Nothing
+returns-in-Err-Nothing c = search read_stop

@@ -1,6 +1,7 @@
+use Rattle.std.specs.Prelude.{Option}
+use Rattle.records.specs.declared.Record.{Record}
 use Prim.Native.Nat.{ℕ}
 use mathlib.Core.Path.{◌≡◌}
-use Rattle.reader.specs.declared.Found.{Found}
 use borrow.Author.Tests.{ne_eqb}
 use Rattle.plan_interface.specs.Records.{record_by, word_record_by}
 use Rattle.plan_interface.proofs.record_by.Goals as goal
@@ -30,7 +31,7 @@ unfolding record_by
 returns-in-24 c = rw c.in-24.is
 
 -- a kind that is none of those in front
-others : (k a b c d w : ℕ) {x : Found} → (k ≡ 0x10 → ⊥) → (k ≡ 0x11 → ⊥) → (k ≡ 0x12 → ⊥) → (k ≡ 0x13 → ⊥) → (k ≡ 0x15 → ⊥) → (k ≡ 0x18 → ⊥) → x ≡ word_record_by k a b c w → x ≡ record_by k a b c d w
+others : (k a b c d w : ℕ) {x : Option Record} → (k ≡ 0x10 → ⊥) → (k ≡ 0x11 → ⊥) → (k ≡ 0x12 → ⊥) → (k ≡ 0x13 → ⊥) → (k ≡ 0x15 → ⊥) → (k ≡ 0x18 → ⊥) → x ≡ word_record_by k a b c w → x ≡ record_by k a b c d w
 unfolding record_by
 others k a b c d w h0 h1 h2 h3 h4 h5 e = simp (ne_eqb _ _ h0, ne_eqb _ _ h1, ne_eqb _ _ h2, ne_eqb _ _ h3, ne_eqb _ _ h4, ne_eqb _ _ h5) e
 

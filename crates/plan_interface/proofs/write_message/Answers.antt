@@ -7,5 +7,5 @@ returns-then-write c = search message_yes
 pub returns-else-write : goal.returns-else-write
 returns-else-write c = search message_no
 
-pub returns-in-Misshapen : goal.returns-in-Misshapen
-returns-in-Misshapen c = search message_none
+pub returns-in-None : goal.returns-in-None
+returns-in-None c = search message_none

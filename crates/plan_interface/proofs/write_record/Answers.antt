@@ -1,8 +1,8 @@
 use Rattle.plan_interface.proofs.Laws.{write_some, write_none}
 use Rattle.plan_interface.proofs.write_record.Goals as goal
 
-pub returns-in-It : goal.returns-in-It
-returns-in-It c = search write_some
+pub returns-in-Some : goal.returns-in-Some
+returns-in-Some c = search write_some
 
-pub returns-in-Missing : goal.returns-in-Missing
-returns-in-Missing c = search write_none
+pub returns-in-None : goal.returns-in-None
+returns-in-None c = search write_none

@@ -1,14 +1,12 @@
+use mathlib.Core.Path.{◌∙◌, refl}
+use Rattle.std.proofs.lemmas.Result.{err_from_is_err_and}
 use Rattle.reader.proofs.Reading.{whole_there, other_there, reads_as}
 use Rattle.reader.proofs.read_at.Goals as goal
 
-pub returns-in-Whole : goal.returns-in-Whole
-returns-in-Whole c = reads_as _ _ (search whole_there)
+pub returns-in_err-kind : goal.returns-in_err-kind
+returns-in_err-kind c =
+    let p = err_from_is_err_and c.from_residual.result c.from_residual.ensures.1 in
+    rw (p.1, p.2) (reads_as _ _ (other_there _ _ c.shape_at.ensures c.in_err-kind.was refl))
 
-pub returns-in-Unknown : goal.returns-in-Unknown
-returns-in-Unknown c = reads_as _ _ (search other_there)
-
-pub returns-in-Cut : goal.returns-in-Cut
-returns-in-Cut c = reads_as _ _ (search other_there)
-
-pub returns-in-Nothing : goal.returns-in-Nothing
-returns-in-Nothing c = reads_as _ _ (search other_there)
+pub returns : goal.returns
+returns c = reads_as _ _ (whole_there _ _ c.shape_at.ensures c.in_ok-kind.was c.record_of.ensures)

@@ -2,10 +2,10 @@ use Rattle.permits.specs.Supervisor.{absent}
 use Rattle.supervisor_calls.proofs.Delivering.{absent_arm}
 use Rattle.supervisor_calls.proofs.absent.Goals as goal
 
-pub returns-in-Whole : goal.returns-in-Whole
+pub returns-in-Some : goal.returns-in-Some
 unfolding absent
-returns-in-Whole c = search absent_arm
+returns-in-Some c = search absent_arm
 
-pub returns-in-Misshapen : goal.returns-in-Misshapen
+pub returns-in-None : goal.returns-in-None
 unfolding absent
-returns-in-Misshapen c = search absent_arm
+returns-in-None c = search absent_arm

@@ -14,5 +14,5 @@ returns-else-fits c = search deliver_unfit
 pub returns-else-v-supervisors_of : goal.returns-else-v-supervisors_of
 returns-else-v-supervisors_of c = search deliver_absent
 
-pub returns-in-Refused : goal.returns-in-Refused
-returns-in-Refused c = search deliver_refused
+pub returns-in-Err : goal.returns-in-Err
+returns-in-Err c = search deliver_refused

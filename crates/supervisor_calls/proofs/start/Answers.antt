@@ -7,5 +7,5 @@ returns-then-v-supervisors_of c = search start_done
 pub returns-else-v-supervisors_of : goal.returns-else-v-supervisors_of
 returns-else-v-supervisors_of c = search start_absent
 
-pub returns-in-Refused : goal.returns-in-Refused
-returns-in-Refused c = search start_refused
+pub returns-in-Err : goal.returns-in-Err
+returns-in-Err c = search start_refused

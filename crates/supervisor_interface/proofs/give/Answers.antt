@@ -7,5 +7,5 @@ returns-then-buffer-lt-SUPERVISOR_SIZE c = search give_short
 pub returns-else-buffer-lt-SUPERVISOR_SIZE : goal.returns-else-buffer-lt-SUPERVISOR_SIZE
 returns-else-buffer-lt-SUPERVISOR_SIZE c = search give_done
 
-pub returns-in-Refused : goal.returns-in-Refused
-returns-in-Refused c = search give_refused
+pub returns-in-Err : goal.returns-in-Err
+returns-in-Err c = search give_refused

@@ -10,5 +10,5 @@ returns-else-fits c = search step_unfit
 pub returns-else-v-supervisors_of : goal.returns-else-v-supervisors_of
 returns-else-v-supervisors_of c = search step_absent
 
-pub returns-in-Refused : goal.returns-in-Refused
-returns-in-Refused c = search step_refused_by
+pub returns-in-Err : goal.returns-in-Err
+returns-in-Err c = search step_refused_by

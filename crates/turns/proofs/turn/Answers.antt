@@ -4,8 +4,8 @@ use Rattle.turns.proofs.turn.Goals as goal
 pub returns-then-own-p : goal.returns-then-own-p
 returns-then-own-p c = search turn_stands
 
-pub returns-in-Just : goal.returns-in-Just
-returns-in-Just c = search turn_responds
+pub returns-in-Some : goal.returns-in-Some
+returns-in-Some c = search turn_responds
 
 pub returns-then-p : goal.returns-then-p
 returns-then-p c = search turn_runs

@@ -4,8 +4,8 @@ use Rattle.turns.proofs.wish.Goals as goal
 pub returns-then-n-p : goal.returns-then-n-p
 returns-then-n-p c = search wish_stands
 
-pub returns-in-Just : goal.returns-in-Just
-returns-in-Just c = search wish_usable
+pub returns-in-Some : goal.returns-in-Some
+returns-in-Some c = search wish_usable
 
 pub returns-then-p : goal.returns-then-p
 returns-then-p c = search wish_runs
