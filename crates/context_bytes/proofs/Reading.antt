@@ -54,6 +54,18 @@ part_words s o m i (suc n) h =
     let at : o + (i + 8) ≡ o + i + 8 = omega arith in
     ap₂ ◌∷◌ (part_word s o m i (omega arith)) (part_words s o m (i + 8) n (omega arith) ∙ ap (λ (x : ℕ). words_from s x n) at)
 
+-- bytes that are those of an offset on, one by one
+pub from_each : (s r : List ℕ) (o n : ℕ) → length r ≡ n → ((i : ℕ) → i < n → get_or r i 0 ≡ get_or s (o + i) 0) → r ≡ bytes_from s o n
+unfolding bytes_from
+from_each s [] o zero l h = refl
+from_each s (x ∷ r) o zero l h = absurd (omega (arith, l))
+from_each s [] o (suc n) l h = absurd (omega (arith, l))
+from_each s (x ∷ r) o (suc n) l h =
+    let p : o + 0 ≡ o = omega arith in
+    let k : length r ≡ n = omega (arith, l) in
+    ap₂ (λ (y : ℕ) (ys : List ℕ). y ∷ ys) (h 0 (omega arith) ∙ ap (λ (j : ℕ). get_or s j 0) p)
+    (from_each s r (suc o) n k (λ i b. h (suc i) (omega (arith, b)) ∙ ap (λ (j : ℕ). get_or s j 0) (let q : o + suc i ≡ suc o + i = omega arith in q)))
+
 -- a part of the bytes put into an array that has just room for it
 pub part_of : (s : List ℕ) (o n : ℕ) → o + n ≤ length s → take n (drop o s) ≡ bytes_from s o n
 unfolding bytes_from

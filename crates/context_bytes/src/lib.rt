@@ -24,13 +24,18 @@ pub fn alphabets_of(s: &[u8]) -> [u64; 32]
     std::array::from_fn(|i| words::word_at(s, i * 8))
 }
 
-// So many bytes from an offset on.
+// So many bytes from an offset on; those past the end are 0. Where all are there, the copy has a constant length.
 pub fn bytes_at<const N: usize>(s: &[u8], o: usize) -> [u8; N]
-    requires { o + N ≤ length s.now }
     ensures { result ≡ bytes_from s.now o N }
 {
-    let mut bytes = [0u8; N];
-    bytes.copy_from_slice(&s[o..o + N]);
+    let Some(rest) = s.get(o..) else {
+        return [0; N];
+    };
+    if let Some(bytes) = rest.first_chunk::<N>() {
+        return *bytes;
+    }
+    let mut bytes = [0; N];
+    bytes[..rest.len()].copy_from_slice(rest);
     bytes
 }
 

@@ -1,13 +1,18 @@
-use Prim.Native.Nat.{◌+◌, ◌-◌}
-use mathlib.Core.Path.{◌≡◌, ap, ◌∙◌}
-use native.Mathlib.Omega.{arith}
-use lib.ListN.{take, drop}
-use Rattle.context_bytes.proofs.Reading.{part_of}
+use Rattle.std.proofs.Common.{arith}
+use Rattle.std.proofs.lemmas.Grind.{common_steps}
+use Rattle.context_bytes.proofs.Reading.{from_each}
 use Rattle.context_bytes.proofs.bytes_at.Goals as goal
+
+pub returns-in-Some-first_chunk : goal.returns-in-Some-first_chunk
+returns-in-Some-first_chunk g c =
+    let w = c.in-Some.ensures in
+    let v = c.in-Some-first_chunk.ensures in
+    from_each _ _ _ _ (grind (arith, common_steps)) (λ i h. grind (arith, common_steps))
+
+pub returns-in_default : goal.returns-in_default
+returns-in_default g c = from_each _ _ _ _ (grind (arith, common_steps)) (λ i h. grind (arith, common_steps))
 
 pub returns : goal.returns
 returns g c =
-    let o = c.args.o in
-    let s = c.args.s.now in
-    let n : o + g.row.N - o ≡ g.row.N = omega arith in
-    c.copy_from_slice.ensures.after ∙ ap (λ k. take k (drop o s)) n ∙ part_of s o g.row.N (omega (arith, c.requires))
+    let w = c.in-Some.ensures in
+    from_each _ _ _ _ (grind (arith, common_steps)) (λ i h. grind (arith, common_steps))
