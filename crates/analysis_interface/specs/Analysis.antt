@@ -1,4 +1,5 @@
 -- Document 02, 2.1, over lent bytes. The quotations are from include/pewterslug.h.
+use Rattle.refusal.specs.Refusal.{refused_number, refused_offset}
 use Rattle.refusal.specs.declared.Refusal.{Refusal}
 use Rattle.std.specs.Prelude.{ℕ, ◌≡◌, List, Option, Some, None, Result, Ok, Err}
 use Rattle.blocking.specs.Blocking.{Told}
@@ -9,7 +10,7 @@ use Rattle.packing.specs.Answer.{refused, done}
 unfoldable pub blocking_answer : Result (Option ℕ) Refusal → ℕ
 blocking_answer (Ok None) = done 7 0 0
 blocking_answer (Ok (Some n)) = done 8 0 n
-blocking_answer (Err e) = refused e.number e.offset
+blocking_answer (Err e) = refused (refused_number {X = Option ℕ} (Err e)) (refused_offset {X = Option ℕ} (Err e))
 
 -- the image s, the buffer b, the answer r, and the buffer afterwards: r stands for an answer that `Told` allows
 pub record FoundBytes (s b : List ℕ) (r : ℕ) (after : List ℕ) : Type 0 where

@@ -19,7 +19,7 @@ use Rattle.answers.specs.declared.Row.{Row}
 
 unfoldable pub delivery_line : Message → Result ⊤ Refusal → List ℕ
 delivery_line g (Ok u) = delivered_line (message_bytes g)
-delivery_line g (Err e) = refused_line e.number
+delivery_line g (Err e) = refused_line (refused_number {X = ⊤} (Err e))
 
 unfoldable pub answer_line : Answer → List ℕ
 answer_line (Module m a) = stepped_line m a

@@ -1,4 +1,5 @@
 -- Document 02, 2.6, over lent bytes. The quotations are from include/pewterslug.h.
+use Rattle.refusal.specs.Refusal.{refused_number, refused_offset}
 use Rattle.refusal.specs.declared.Refusal.{Refusal}
 use Rattle.std.specs.Prelude.{ℕ, List, [], Result, Ok, Err}
 use Rattle.frames.specs.Frame.{frame_of, message_in}
@@ -16,7 +17,7 @@ write_frame_bytes a g b = write_frame_by (write_answer a g b) a g b
 -- "the value is its address and the length that of its message, which is written into the buffer"
 unfoldable pub unframed_answer : Result (ℕ × ℕ) Refusal → ℕ
 unframed_answer (Ok (a, n)) = done 0 (unframed_address (Ok (a, n))) (unframed_length (Ok (a, n)))
-unframed_answer (Err e) = refused e.number e.offset
+unframed_answer (Err e) = refused (refused_number {X = ℕ × ℕ} (Err e)) (refused_offset {X = ℕ × ℕ} (Err e))
 
 unfoldable pub read_frame_by : Result (ℕ × ℕ) Refusal → List ℕ → List ℕ → Answer
 read_frame_by r f b = record { number = unframed_answer r; state = []; buffer = read_buffer r (message_in f) b }

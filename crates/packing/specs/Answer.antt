@@ -1,6 +1,7 @@
 -- include/pewterslug.h, from which the quotations of this file are: "An answer is one number. Bits 0..7 are the refusal's number, 0 if the call is
 -- accepted. Of a refused call bits 32..63 are the byte offset. Of an accepted one bits 8..15 say what was done, bits 16..23 of what, and bits 32..63
 -- how many bytes were written (for a read record or message: how many it has). All other bits are 0."
+use Rattle.refusal.specs.Refusal.{refused_number, refused_offset, written_length}
 use Rattle.refusal.specs.declared.Refusal.{Refusal}
 use Rattle.std.specs.Prelude.{ℕ, ◌+◌, ◌*◌, ◌%◌, ◌≡◌, List, [], cond, length, eqb, ltb, Option, Some, None, Result, Ok, Err, ⊤}
 use Rattle.messages.specs.Message.{written}
@@ -24,12 +25,12 @@ done did value size = packed 0 did value size
 -- PEWTERSLUG_DONE, 0: "taken; the value is 0"
 unfoldable pub called_answer : Result ⊤ Refusal → ℕ
 called_answer (Ok u) = done 0 0 0
-called_answer (Err e) = refused e.number e.offset
+called_answer (Err e) = refused (refused_number {X = ⊤} (Err e)) (refused_offset {X = ⊤} (Err e))
 
 -- PEWTERSLUG_DONE, of a call that writes so many bytes
 unfoldable pub length_answer : Result ℕ Refusal → ℕ
-length_answer (Ok n) = done 0 0 n
-length_answer (Err e) = refused e.number e.offset
+length_answer (Ok n) = done 0 0 (written_length (Ok n))
+length_answer (Err e) = refused (refused_number {X = ℕ} (Err e)) (refused_offset {X = ℕ} (Err e))
 
 -- PEWTERSLUG_EVENT, 1: "a turn: an event fired, the value is the event"; PEWTERSLUG_NONE, 3: "a turn: none". 2 stood for a turn that
 -- document 02, 2.5, took out, and is not given again.
@@ -39,20 +40,20 @@ turn_answer None size = done 3 0 size
 
 unfoldable pub turning_answer : Result (Option ℕ) Refusal → ℕ
 turning_answer (Ok t) = turn_answer t 0
-turning_answer (Err e) = refused e.number e.offset
+turning_answer (Err e) = refused (refused_number {X = Option ℕ} (Err e)) (refused_offset {X = Option ℕ} (Err e))
 
 -- PEWTERSLUG_BIDS, 4: "a module bids, the value is the supervisor"; PEWTERSLUG_WAITS, 6: "a step that waits"
 unfoldable pub stepped_answer : Result Stepped Refusal → ℕ
 stepped_answer (Ok (Turns t size)) = turn_answer t size
 stepped_answer (Ok (Bids v size)) = done 4 v size
 stepped_answer (Ok Waits) = done 6 0 0
-stepped_answer (Err e) = refused e.number e.offset
+stepped_answer (Err e) = refused (refused_number {X = Stepped} (Err e)) (refused_offset {X = Stepped} (Err e))
 
 -- PEWTERSLUG_SENDS, 5: "a supervisor sends its permit, the value is the module"
 unfoldable pub served_answer : Result Served Refusal → ℕ
 served_answer (Ok (Sends m size)) = done 5 m size
 served_answer (Ok ServedWaits) = done 6 0 0
-served_answer (Err e) = refused e.number e.offset
+served_answer (Err e) = refused (refused_number {X = Served} (Err e)) (refused_offset {X = Served} (Err e))
 
 -- ---- a whole call
 
@@ -78,4 +79,4 @@ unfoldable pub start_answer : ℕ → Result ⊤ Refusal → List ℕ → List �
 start_answer size (Ok u) bytes b =
     cond (ltb (length b) size) (record { number = refused 15 0; state = []; buffer = b })
     (record { number = done 0 0 size; state = []; buffer = written bytes b })
-start_answer size (Err e) bytes b = record { number = refused e.number e.offset; state = []; buffer = b }
+start_answer size (Err e) bytes b = record { number = refused (refused_number {X = ⊤} (Err e)) (refused_offset {X = ⊤} (Err e)); state = []; buffer = b }

@@ -1,4 +1,5 @@
 -- Document 01, "The two-valve sheet": the lines that the listing program prints, each with its line feed.
+use Rattle.refusal.specs.Refusal.{refused_number}
 use Rattle.refusal.specs.declared.Refusal.{Refusal}
 use Rattle.std.specs.Prelude.{ℕ, List, ◌++◌, map, take, Option, Some, None, Result, Ok, Err, ⊤}
 use Rattle.modules.specs.declared.Own.{Own}
@@ -22,12 +23,12 @@ refused_line n = ascii "refused" ++ spaced n ++ ascii "\n"
 unfoldable pub turn_line : ℕ → Result (Option ℕ) Refusal → List ℕ
 turn_line m (Ok (Some e)) = ascii "turn" ++ spaced m ++ ascii " event" ++ spaced e ++ ascii "\n"
 turn_line m (Ok None) = ascii "turn" ++ spaced m ++ ascii " none\n"
-turn_line m (Err e) = refused_line e.number
+turn_line m (Err e) = refused_line (refused_number {X = Option ℕ} (Err e))
 
 -- "response 1 queued 3"
 unfoldable pub response_line : ℕ → ℕ → Result ⊤ Refusal → List ℕ
 response_line m e (Ok u) = ascii "response" ++ spaced m ++ ascii " queued" ++ spaced e ++ ascii "\n"
-response_line m e (Err why) = refused_line why.number
+response_line m e (Err why) = refused_line (refused_number {X = ⊤} (Err why))
 
 abbrev pub states_of : List Own → List ℕ
 states_of ws = map (λ (w : Own). w.state) ws

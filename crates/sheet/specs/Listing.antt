@@ -1,4 +1,5 @@
 -- Document 01, "The two-valve sheet": what a line of the listing's script does and prints, and all that the listing program prints.
+use Rattle.refusal.specs.Refusal.{refused_number, refused_offset}
 use Rattle.refusal.specs.declared.Refusal.{Refusal}
 use Rattle.std.specs.Prelude.{ℕ, ◌≡◌, List, [], ◌∷◌, ◌++◌, cond, eqb, Result, Ok, Err, ⊤}
 use Prim.Native.Char.{code}
@@ -56,7 +57,7 @@ answers_to image d (l ∷ ls) = answer_to image d (line_of l) ++ answers_to imag
 -- "Header: modules, supervisors, events."; "and, alone, `plan refused N at B`"
 unfoldable pub listed_by : Result ⊤ Refusal → List ℕ → Device → List ℕ → List ℕ
 listed_by (Ok u) image d script = header_line (modules_of (records_of image)) (supervisors_of (records_of image)) (events_of (records_of image)) ++ answers_to image d (lines_of script)
-listed_by (Err e) image d script = plan_refused_line e.number e.offset
+listed_by (Err e) image d script = plan_refused_line (refused_number {X = ⊤} (Err e)) (refused_offset {X = ⊤} (Err e))
 
 -- "The listing program reads `plan.bin` and standard input": all that it prints
 abbrev pub listed : List ℕ → List ℕ → List ℕ
