@@ -34,7 +34,7 @@ pub fn written(r: Result<usize, Refusal>) -> u64
 {
     match r {
         Ok(n) => pack(0, 0, 0, n),
-        Err(e) => pack(e.number, 0, 0, e.offset),
+        Err(why) => pack(why.number, 0, 0, why.offset),
     }
 }
 
