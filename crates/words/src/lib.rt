@@ -67,7 +67,10 @@ pub fn put_bytes(s: &mut [u8], o: usize, bytes: &[u8])
 {
     let n = bytes.len();
     if n <= s.len() && o <= s.len() - n {
-        s[o..o + n].copy_from_slice(bytes);
+        // Byte by byte: `copy_from_slice` would have the archive for C take memmove from outside.
+        for (i, b) in bytes.iter().enumerate() {
+            s[o + i] = *b;
+        }
     }
 }
 
