@@ -1,7 +1,8 @@
 -- Laws of images: copies, and the loops that put them.
-use Rattle.std.proofs.Common.{◌≡◌, ℕ, zero, suc, ◌+◌, ◌-◌, ◌*◌, ◌%◌, ◌^◌, ◌<◌, ◌≤◌, Bool, true, false, cond, ◌||◌, eqb, leb, List, [], ◌∷◌, ◌++◌, length, get_or, take, drop, set, sym, refl, ap, ◌∙◌, subst, append_assoc, le_refl, add-one, arith, length-append, length-drop, length-set, take-append-drop, drop_of_length-le, length-take, length-take-le, get_or-drop, drop-cons, get_or-take, drop-drop, take_at, drop_at, le-ltb, lt-ltb, eq-eqb, ne_eqb, le-leb}
+use Rattle.std.proofs.Common.{◌≡◌, ℕ, zero, suc, ◌+◌, ◌-◌, ◌*◌, ◌%◌, ◌^◌, ◌<◌, ◌≤◌, Bool, true, false, cond, ◌||◌, eqb, leb, List, [], ◌∷◌, ◌++◌, length, get_or, take, drop, set, sym, refl, ap, ◌∙◌, subst, append_assoc, le_refl, add-one, arith, length-append, length-drop, length-set, take-append-drop, drop_of_length-le, length-take, length-take-le, append-nil, get_or-drop, drop-cons, get_or-take, drop-drop, take_at, drop_at, le-ltb, lt-ltb, eq-eqb, ne_eqb, le-leb}
 use native.Mathlib.Nat.{sub-zero}
-use lib.Seq.{paste, drop-paste, take-nil, set_out, set_split, set-append_left, drop-set-add, take-set-le}
+use lib.ListN.{get_or-append}
+use lib.Seq.{drop-length, paste, paste-zero, paste-suc, drop-paste, take-nil, set_out, set_split, set-append_left, drop-set-add, take-set-le}
 use borrow.Author.Tests.{lt-leb}
 use Rattle.lines.specs.Number.{space_in}
 use Rattle.example_lines.specs.Words.{word_from, digit_of, longer}
@@ -21,6 +22,30 @@ drop_more : (n r : ℕ) (a b : List ℕ) → n ≤ r → drop n a ≡ drop n b �
 drop_more n r a b h e =
     let k : n + (r - n) ≡ r = omega arith in
     sym (drop-drop (r - n) n a ∙ ap (λ (m : ℕ). drop m a) k) ∙ ap (drop (r - n)) e ∙ drop-drop (r - n) n b ∙ ap (λ (m : ℕ). drop m b) k
+
+-- ---- a copy
+
+pub copy_first : (d : List ℕ) (from to : ℕ) → d ≡ paste d to (drop from d) 0
+copy_first d from to = paste-zero d to (drop from d)
+
+module _ (d : List ℕ) (from to j n : ℕ) (g : List ℕ) (is : g ≡ paste d to (drop from d) j) (count : n ≡ to - from) (inside : from ≤ to)
+    (room : to + (to - from) ≤ length d) where
+  pub copy_again : j < n → set g (to + j) (get_or g (from + j) 0) ≡ paste d to (drop from d) (j + 1)
+  copy_again h =
+      let l : length (take to d) ≡ to = length-take-le to d (omega arith) in
+      let o : from + j < length (take to d) = omega arith in
+      let q : from + j < to = omega arith in
+      let p : from + j < length (take to d ++ take j (drop from d)) = simp length-append (omega arith) in
+      let w : get_or (paste d to (drop from d) j) (from + j) 0 ≡ get_or (take to d) (from + j) 0
+      = get_or-append (take to d ++ take j (drop from d)) (drop (to + j) d) 0 (from + j) p ∙ get_or-append (take to d) (take j (drop from d)) 0 (from + j) o in
+      let v : get_or g (from + j) 0 ≡ get_or (drop from d) j 0
+      = ap (λ (w : List ℕ). get_or w (from + j) 0) is ∙ w ∙ get_or-take to d (from + j) 0 q ∙ sym (get_or-drop from d j 0) in
+      let m : to + j < length d = omega arith in
+      let k : j < length (drop from d) = simp length-drop (omega arith) in
+      rw (v, is, add-one) (paste-suc d to (drop from d) j 0 m k)
+
+  pub copy_done : n ≤ j → j ≤ n → g ≡ paste d to (drop from d) (to - from)
+  copy_done h k = let e : j ≡ to - from = omega arith in is ∙ ap (paste d to (drop from d)) e
 
 -- ---- the copy as its sign has it
 
@@ -83,6 +108,28 @@ grown_longer room bs cs = go (leb (length bs + length cs) room)
     go : (t : Bool) → length bs ≤ length (cond t (bs ++ cs) bs)
     go true = simp length-append (omega arith)
     go false = le_refl (length bs)
+
+-- of no bytes, a copy adds none
+none_of : (sign : ℕ) → copy_of sign [] ≡ []
+unfolding copy_of
+none_of sign = go (eqb sign 94)
+  where
+    go : (t : Bool) → cond t (set [] 2 ((get_or [] 2 0 + 1) % 256)) [] ≡ []
+    go true = refl
+    go false = refl
+
+grown_none : (room : ℕ) (bs : List ℕ) → grown room bs [] ≡ bs
+unfolding grown
+grown_none room bs = go (leb (length bs + 0) room)
+  where
+    go : (t : Bool) → cond t (bs ++ []) bs ≡ bs
+    go true = append-nil bs
+    go false = refl
+
+repeated_none : (room sign k : ℕ) (bs : List ℕ) → repeated room sign k (length bs) bs ≡ bs
+unfolding repeated
+repeated_none room sign zero bs = refl
+repeated_none room sign (suc k) bs = rw (drop-length bs, none_of sign, grown_none room bs) (repeated_none room sign k bs)
 
 module _ (e : List ℕ) (n : ℕ) (room : n ≤ length e) (cs : List ℕ) where
   put_none : length e < n + length cs → Put e (grown (length e) (take n e) cs) n e
@@ -180,6 +227,15 @@ module _ (e whole g : List ℕ) (sign copies k from to : ℕ) (v : Going e sign 
         rest = put_drop p ∙ drop_more to r g e n v.rest;
         going = rw (put_take p, ← s) (rw l at t);
       }
+
+  pub going_none : from ≡ to → Put e whole to g
+  going_none h =
+      let s : length e ≡ length g = v.same in
+      let o : to ≤ length e = v.room in
+      let l : length (take to g) ≡ to = length-take-le to g (omega arith) in
+      let z : from ≡ length (take to g) = h ∙ sym l in
+      let t : take to g ≡ whole = sym (repeated_none (length e) sign (copies - k) (take to g)) ∙ rw z at v.going in
+      record { count = sym (sym (ap length t) ∙ l); room = o; buffer = sym (take-append-drop to g) ∙ rw (t, v.rest) }
 
   pub going_done : copies ≤ k → Put e whole to g
   unfolding repeated

@@ -2,6 +2,7 @@
 #![tactic(auto)]
 
 ghost use Rattle.std.specs.Prelude.{◌≡◌, ◌+◌, ◌-◌, ◌*◌, ◌%◌, ◌<◌, ◌≤◌, [], ◌∷◌, ◌++◌, length, take, drop};
+ghost use Rattle.std.proofs.Math.Seq.{paste};
 ghost use Rattle.example_lines.specs.Words as Words;
 ghost use Rattle.example_lines.specs.Words.{line_end, line_at, space_of, spaces_in, word_from, letter_in, digit_of, number_from, number_in, bits_in};
 ghost use Rattle.example_lines.specs.Image.{grown, copy_of, closed, with_digit, with_byte, image_from, image_in, piece, part_of, Put, Stands, Kept};
@@ -151,6 +152,16 @@ struct Piece {
     high: u8,
 }
 
+// The bytes from `from` to `to` once more, behind them. A loop, since `copy_within` costs a call for each copy, and most are short.
+fn copy_behind(img: &mut [u8], from: usize, to: usize)
+    requires { (from ≤ to) × (to + (to - from) ≤ length img.old) }
+    ensures { img.new ≡ paste img.old to (drop from img.old) (to - from) }
+{
+    for j in 0..to - from {
+        img[to + j] = img[from + j];
+    }
+}
+
 // The copy from `at` to `end`, as its sign has it.
 fn raise(img: &mut [u8], at: usize, end: usize, sign: u8)
     requires { (at ≤ end) × (end ≤ length img.old) }
@@ -172,7 +183,7 @@ fn again(img: &mut [u8], from: usize, to: usize, sign: u8) -> usize
         return to;
     }
     let end = to + (to - from);
-    img.copy_within(from..to, to);
+    copy_behind(&mut *img, from, to);
     raise(&mut *img, to, end, sign);
     end
 }
@@ -185,6 +196,10 @@ fn repeat(img: &mut [u8], p: Piece) -> usize
     let mut from = p.start;
     let mut to = p.n;
     for _ in 1..p.copies {
+        // The last copy found no room or is of no bytes, so none follows.
+        if from == to {
+            return to;
+        }
         let next = again(&mut *img, from, to, p.sign);
         from = to;
         to = next;
