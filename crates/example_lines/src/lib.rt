@@ -152,11 +152,16 @@ struct Piece {
     high: u8,
 }
 
-// The bytes from `from` to `to` once more, behind them. A loop, since `copy_within` costs a call for each copy, and most are short.
+// The bytes from `from` to `to` once more, behind them. A loop, since `copy_within` costs a call for each copy, and most are short: nearly all are of
+// one byte, which needs no loop.
 fn copy_behind(img: &mut [u8], from: usize, to: usize)
     requires { (from ≤ to) × (to + (to - from) ≤ length img.old) }
     ensures { img.new ≡ paste img.old to (drop from img.old) (to - from) }
 {
+    if to - from == 1 {
+        img[to] = img[from];
+        return;
+    }
     for j in 0..to - from {
         img[to + j] = img[from + j];
     }
