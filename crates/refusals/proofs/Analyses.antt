@@ -1,6 +1,7 @@
 -- What a refused analysis of a plan leaves of the buffer.
 use Rattle.std.specs.Prelude.{Option, Some, None, Result, Ok, Err}
-use Rattle.refusal.specs.Refusal.{refusal, written_length}
+use Rattle.refusal.specs.Refusal.{refusal}
+use Rattle.refusal.proofs.Laws.{length_read_off}
 use Rattle.refusal.specs.declared.Refusal.{Refusal}
 use Prim.Native.Nat.{ℕ}
 use mathlib.Core.Path.{refl, ap}
@@ -30,7 +31,7 @@ find_stuck_lem image b (Ok (Some k)) c (stuck {w} {q} i m f l) =
 
 count_refused : (n o : ℕ) (b : List ℕ) → Gives count_words n → OffsetRight n o → CountWords b (Err (refusal n o)) b
 count_refused n o b t p =
-    record { answer = refuses count_words (refusal n o) t p; bytes = λ k e. ap written_length e; buffer = untouched n b }
+    record { answer = refuses count_words (refusal n o) t p; bytes = length_read_off _; buffer = untouched n b }
 
 count_words_lem : (image : List ℕ) (m : ℕ) (b : List ℕ) (a : Result ℕ Refusal) (c : List ℕ) → CountsTold image m b a c → CountWords b a c
 count_words_lem image m b (Err why) c (count-image-refused e) = let j = checked_as image e in count_refused why.number why.offset b (passed check count_words refl why.number (j.numbered why refl)) j.offset_right
@@ -41,7 +42,7 @@ count_words_lem image m b (Err e) c (count-short i h f l) = count_refused 15 0 b
 count_words_lem image m b (Ok k) c (counted {l} i h f r) =
     record {
       answer = accepts count_words _;
-      bytes = λ k e. ap written_length e;
+      bytes = length_read_off _;
       buffer = put (length (answer_text image m l)) (answer_text image m l) b refl r;
     }
 

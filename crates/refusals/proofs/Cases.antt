@@ -1,6 +1,7 @@
 -- The cases of every call: taken, refused at offset 0, refused as the check says, and a reply of the own part.
 use Rattle.std.specs.Prelude.{Result, Ok, Err, ⊤}
-use Rattle.refusal.specs.Refusal.{refusal, refused_number, refused_offset}
+use Rattle.refusal.specs.Refusal.{refusal, refused_number}
+use Rattle.refusal.proofs.Laws.{reads_off}
 use Rattle.refusal.specs.declared.Refusal.{Refusal}
 use Prim.Native.Nat.{ℕ, ◌≤◌}
 use native.Mathlib.Omega.{arith}
@@ -38,7 +39,7 @@ module _ (c : CallKind) {X : Type 0} where
         offset_right = at_zero 0;
         number_is = λ e q. absurd (never (cc));
         offset_is = λ e q. absurd (never (cc));
-        accepted = λ h. (refl, refl);
+        accepted = λ h. reads_off.accepted (Ok x) x refl;
       }
 
   pub refuses : (e : Refusal) → Gives c e.number → OffsetRight e.number e.offset → Answer {X = X} c (Err e)
@@ -46,8 +47,8 @@ module _ (c : CallKind) {X : Type 0} where
       record {
         numbered = λ f q. subst (λ (a : Result X Refusal). Gives c (refused_number a)) q t;
         offset_right = p;
-        number_is = λ f q. ap refused_number q;
-        offset_is = λ f q. ap refused_offset q;
+        number_is = reads_off.number_is (Err e);
+        offset_is = reads_off.offset_is (Err e);
         accepted = λ h. absurd (h e refl);
       }
 

@@ -1,9 +1,10 @@
 -- What a refused writer leaves of the buffer.
 use Rattle.std.specs.Prelude.{Result, Ok, Err, ⊤}
-use Rattle.refusal.specs.Refusal.{refusal, written_length}
+use Rattle.refusal.specs.Refusal.{refusal}
+use Rattle.refusal.proofs.Laws.{length_read_off}
 use Rattle.refusal.specs.declared.Refusal.{Refusal}
 use Prim.Native.Nat.{ℕ}
-use mathlib.Core.Path.{◌≡◌, refl, ap}
+use mathlib.Core.Path.{◌≡◌, refl}
 use mathlib.Core.List.{List}
 use mathlib.Core.Bool.{Bool, true, false, cond}
 use lib.ListN.{length}
@@ -33,7 +34,7 @@ write_refused n r b t =
     record {
       answer = refuses Table.write_record (refusal n 0) t (at_zero n);
       offset = refl;
-      bytes = λ k e. ap written_length e;
+      bytes = length_read_off _;
       buffer = untouched n b;
     }
 
@@ -47,7 +48,7 @@ write r b = either (Write r b) (in_range r) (go (ltb (length b) (size_of r)) ref
         record {
           answer = accepts Table.write_record _;
           offset = refl;
-          bytes = λ k e. ap written_length e;
+          bytes = length_read_off _;
           buffer = put (size_of r) (bytes_of r) b (length_bytes r) (ltb-false _ _ e);
         }
 
@@ -55,7 +56,7 @@ write r b = either (Write r b) (in_range r) (go (ltb (length b) (size_of r)) ref
 rewrite_refused : (n o : ℕ) (s b : List ℕ) → Gives Table.rewrite n → OffsetRight n o → Rewrite s b (Err (refusal n o))
 unfolding rewrite_buffer
 rewrite_refused n o s b t p =
-    record { answer = refuses Table.rewrite (refusal n o) t p; bytes = λ k e. ap written_length e; buffer = untouched n b }
+    record { answer = refuses Table.rewrite (refusal n o) t p; bytes = length_read_off _; buffer = untouched n b }
 
 rewrite : (s b : List ℕ) (v : Result ⊤ Refusal) → CheckAnswer v → Rewrite s b (rewrite_answer v s b)
 unfolding rewrite_answer rewrite_buffer
@@ -67,7 +68,7 @@ rewrite s b (Ok u) j = go (ltb (length b) (length (plan_bytes s))) refl
     go false e =
         record {
           answer = accepts Table.rewrite _;
-          bytes = λ k e. ap written_length e;
+          bytes = length_read_off _;
           buffer = put (length (plan_bytes s)) (plan_bytes s) b refl (ltb-false _ _ e);
         }
 
@@ -75,7 +76,7 @@ rewrite s b (Ok u) j = go (ltb (length b) (length (plan_bytes s))) refl
 print_refused : (n o : ℕ) (s b : List ℕ) → Gives Table.print_plan n → OffsetRight n o → Print s b (Err (refusal n o))
 unfolding print_buffer
 print_refused n o s b t p =
-    record { answer = refuses Table.print_plan (refusal n o) t p; bytes = λ k e. ap written_length e; buffer = untouched n b }
+    record { answer = refuses Table.print_plan (refusal n o) t p; bytes = length_read_off _; buffer = untouched n b }
 
 print : (s b : List ℕ) (v : Result ⊤ Refusal) → CheckAnswer v → Print s b (print_answer v s b)
 unfolding print_answer print_buffer
@@ -87,7 +88,7 @@ print s b (Ok u) j = go (ltb (length b) (length (plan_page_set s))) refl
     go false h =
         record {
           answer = accepts Table.print_plan _;
-          bytes = λ k e. ap written_length e;
+          bytes = length_read_off _;
           buffer = put (length (plan_page_set s)) (plan_page_set s) b refl (ltb-false _ _ h);
         }
 
